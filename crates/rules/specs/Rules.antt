@@ -1,0 +1,75 @@
+-- What a rule of routing may depend on, as one record; document 01's rules are the instance `rulesOf`.
+-- The theory is stated over the record, so that a later request that changes one field changes one line here.
+use Prim.Native.Nat.{ℕ, zero, suc, _+_, _*_, _-_}
+use mathlib.Core.Bool.{Bool, _&&_, _||_, not, cond}
+use lib.Dec.{eqb, leb}
+use lib.ListN.{getD}
+use Rattle.plan.specs.Plan.{Plan, cells, marksAt, blocked, tap}
+use Rattle.plan.specs.Joined.{horizontal, joined}
+use Rattle.timing.specs.declared.elements.Wire.{Wire}
+use Rattle.timing.specs.declared.elements.Driver.{Driver}
+use Rattle.timing.specs.declared.elements.Buffer.{Buffer}
+use Rattle.timing.specs.declared.elements.Elements.{Elements}
+use Rattle.timing.specs.Formulas.{registerDriver, registerLoad, setupDelay}
+use Rattle.timing.specs.Elements.{bufferOf}
+
+-- load, and delay in half-ticks, at a visit
+pub record Stage : Type 0 where
+  pub load : ℕ
+  pub delay : ℕ
+
+-- gate codes: 0 none, 1 to 6 that buffer, 7 register
+abbrev pub noGate : ℕ
+noGate = 0
+
+abbrev pub registerCode : ℕ
+registerCode = 7
+
+pub record Rules : Type 0 where
+  -- cells are numbered from 0 to cellCount - 1
+  pub cellCount : ℕ
+  pub source : ℕ
+  pub sink : ℕ
+  -- the load limit L
+  pub limit : ℕ
+  -- an uncut wire joins two cells, and the wire of the step between them
+  pub linked : ℕ → ℕ → Bool
+  pub wire : ℕ → ℕ → Wire
+  -- the gate with this code may stand on this cell, between the ends
+  pub site : ℕ → ℕ → Bool
+  -- the buffer with this code
+  pub buffer : ℕ → Buffer
+  -- after the sink, and after a register
+  pub start : Stage
+  pub fresh : Stage
+  -- what drives the span that closes at this cell
+  pub closer : ℕ → Driver
+  -- the closing delay of span k, counted from the sink, is below this
+  pub bound : ℕ → ℕ
+
+-- Document 01: a buffer stands on a cell without mark 1, a register on a cell with mark 2, whatever other marks it has.
+unfoldable pub siteOf : Plan → Elements → ℕ → ℕ → Bool
+siteOf p e cell code =
+    eqb code noGate || (leb 1 code && leb code (e .count) && not (blocked (marksAt p cell))) || (eqb code registerCode && tap (marksAt p cell))
+
+unfoldable pub wireOf : Plan → Elements → ℕ → ℕ → Wire
+wireOf p e a b = cond (horizontal p a b) (e .horizontal) (e .vertical)
+
+-- both ends are our register; every span has the same period
+unfoldable pub rulesOf : Plan → Elements → ℕ → ℕ → Rules
+rulesOf p e from to =
+    record {
+      cellCount = cells p;
+      source = from;
+      sink = to;
+      limit = e .limit .0;
+      linked = joined p;
+      wire = wireOf p e;
+      site = siteOf p e;
+      buffer = λ code. getD (e .buffers) (code - 1) (bufferOf 0 0 0);
+      start = record { load = registerLoad (e .register); delay = setupDelay (e .register) };
+      fresh = record { load = registerLoad (e .register); delay = setupDelay (e .register) };
+      closer = λ cell. registerDriver (e .register);
+      -- at most 2T
+      bound = λ k. 2 * e .period + 1;
+    }

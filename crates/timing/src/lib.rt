@@ -1,0 +1,16 @@
+// Elements and their timing: document 01, "Elements" and the delay formulas of "Legal routes".
+// Only Wire::delay and Driver::delay join a resistance, a load and a delay.
+mod elements;
+mod units;
+
+pub use elements::Buffer;
+pub use elements::BufferCheck;
+pub use elements::Driver;
+pub use elements::Elements;
+pub use elements::Register;
+pub use elements::RegisterCheck;
+pub use elements::Wire;
+pub use elements::WireCheck;
+pub use units::HalfTicks;
+pub use units::Load;
+pub use units::Resistance;

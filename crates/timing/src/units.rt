@@ -1,0 +1,28 @@
+// Units. A load is never added to a delay: each has its own type.
+ghost use mathlib.Core.Path.{_≡_};
+ghost use Prim.Native.Nat.{_+_, _≤_};
+
+// Load units.
+pub struct Load(pub u16);
+
+// Ticks per load unit.
+pub struct Resistance(pub u16);
+
+// A delay in half-ticks.
+pub struct HalfTicks(pub u32);
+
+impl Load {
+    pub const MAX: u16 = 63;
+
+    // The sum of two loads.
+    pub fn plus(self, other: Load) -> Load
+        requires { ⌜ (self .0 ≤ 63) × (other .0 ≤ 63) ⌝ }
+        ensures { λ r. ⌜ r .0 ≡ self .0 + other .0 ⌝ }
+    {
+        Load(self.0 + other.0)
+    }
+}
+
+impl Resistance {
+    pub const MAX: u16 = 255;
+}
