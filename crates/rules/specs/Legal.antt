@@ -57,11 +57,13 @@ cellRight R last v = ltb (v .cell) (R .cellCount) && cond last (eqb (v .cell) (R
 unfoldable pub wireRight : Rules → ℕ → Visit → Bool
 wireRight R from v = R .linked from (v .cell)
 
--- "both code 7"; "A visit in between to either end's cell has code 0."
+-- the gate with this code may stand on this cell at a visit between the ends: "A visit in between to either end's cell has code 0."
+unfoldable pub mayStand : Rules → ℕ → ℕ → Bool
+mayStand R cell code = cond (isEnd R cell) (eqb code noGate) (R .site cell code)
+
+-- "both code 7"
 unfoldable pub codeRight : Rules → Bool → Visit → Bool
-codeRight R last v =
-    cond last (eqb (v .code) registerCode)
-    (cond (isEnd R (v .cell)) (eqb (v .code) noGate) (R .site (v .cell) (v .code)))
+codeRight R last v = cond last (eqb (v .code) registerCode) (mayStand R (v .cell) (v .code))
 
 -- "Load at every visit, before and after its gate, is at most L." "the source only the one before"
 unfoldable pub loadRight : Rules → Bool → Stage → Visit → Bool

@@ -1,0 +1,126 @@
+-- One layer represents one step, over any set of states, any seeds and any closing bound.
+use Prim.Native.Nat.{ℕ, zero, suc, _+_, _-_, _≤_, _<_, max}
+use mathlib.Core.Bool.{Bool, _&&_}
+use mathlib.Core.Logic.{_⊎_, inl, inr}
+use native.Mathlib.Omega.{arith}
+use lib.Dec.{T, leb, leb→le, le→leb}
+use Rattle.timing.specs.Formulas.{wireDelay}
+use Rattle.rules.specs.Rules.{Rules, noGate}
+use Rattle.rules.specs.Legal.{mayStand}
+use Rattle.rules.proofs.Truth.{both, fst, snd}
+use Rattle.budget.specs.Table.{Table, States, Represents, Step, stays, passes, drives, closes, only, maxBelow, loadAt, delayAt, bufferCost, loadOf, closeCost, viaBuffer, arrival, given, layer}
+use Rattle.budget.proofs.Max.{Above, max-cases, below-max, max-below, only-test, only-value, only-in}
+
+-- an uncut wire leads only to cells of the plan
+abbrev pub InPlan : Rules → Type 0
+InPlan R = (c n : ℕ) → T (R .linked c n) → n < R .cellCount
+
+module _ (R : Rules) (seed : ℕ → Bool) (bound : ℕ) (A : Table) (X : States) (rep : Represents A X) where
+  -- the ways to be within the arrival budget: no gate, some buffer, or a close
+  Ways : ℕ → ℕ → ℕ → Type 0
+  Ways n l d =
+      (d < only (mayStand R n noGate) (A n l)) ⊎ ((d < maxBelow 6 (λ i. viaBuffer R A n l (suc i))) ⊎ (d < only (seed n) (bound - closeCost R n l)))
+
+  arrival-ways : (n l d : ℕ) → d < arrival R seed bound A n l → Ways n l d
+  unfolding arrival Ways
+  arrival-ways n l d h =
+      go
+      (max-cases d (only (mayStand R n noGate) (A n l))
+      (max (maxBelow 6 (λ i. viaBuffer R A n l (suc i))) (only (seed n) (bound - closeCost R n l)))
+      (only-value (leb l (R .limit)) _ d h))
+    where
+      go : (d < only (mayStand R n noGate) (A n l)) ⊎ (d < max (maxBelow 6 (λ i. viaBuffer R A n l (suc i))) (only (seed n) (bound - closeCost R n l))) → (d < only (mayStand R n noGate) (A n l)) ⊎ ((d < maxBelow 6 (λ i. viaBuffer R A n l (suc i))) ⊎ (d < only (seed n) (bound - closeCost R n l)))
+      go (inl k) = inl k
+      go (inr k) = inr (max-cases d (maxBelow 6 (λ i. viaBuffer R A n l (suc i))) (only (seed n) (bound - closeCost R n l)) k)
+
+  arrival-fits : (n l d : ℕ) → d < arrival R seed bound A n l → l ≤ R .limit
+  unfolding arrival
+  arrival-fits n l d h = leb→le l (R .limit) (only-test (leb l (R .limit)) _ d h)
+
+  ways-arrival : (n l d : ℕ) → l ≤ R .limit → Ways n l d → d < arrival R seed bound A n l
+  unfolding arrival Ways
+  ways-arrival n l d fits w =
+      only-in (leb l (R .limit))
+      (max (only (mayStand R n noGate) (A n l)) (max (maxBelow 6 (λ i. viaBuffer R A n l (suc i))) (only (seed n) (bound - closeCost R n l)))) d
+      (le→leb l (R .limit) fits) (go w)
+    where
+      go : (d < only (mayStand R n noGate) (A n l)) ⊎ ((d < maxBelow 6 (λ i. viaBuffer R A n l (suc i))) ⊎ (d < only (seed n) (bound - closeCost R n l))) → d < max (only (mayStand R n noGate) (A n l)) (max (maxBelow 6 (λ i. viaBuffer R A n l (suc i))) (only (seed n) (bound - closeCost R n l)))
+      go (inl k) = omega arith
+      go (inr (inl k)) = omega arith
+      go (inr (inr k)) = omega arith
+
+  -- On arrival at n with a delay within the arrival budget, one of the ways goes on.
+  arrival-sound : (c n l d : ℕ) → T (R .linked c n) → delayAt R c n l d < arrival R seed bound A n (loadAt R c n l) → Step R seed bound X c l d
+  unfolding Ways viaBuffer
+  arrival-sound c n l d link h = go (arrival-ways n (loadAt R c n l) (delayAt R c n l d) h)
+    where
+      fits : loadAt R c n l ≤ R .limit
+      fits = arrival-fits n (loadAt R c n l) (delayAt R c n l d) h
+
+      buffer : Above 6 (λ i. viaBuffer R A n (loadAt R c n l) (suc i)) (delayAt R c n l d) → Step R seed bound X c l d
+      buffer a =
+          let code : ℕ = suc (a .at) in
+          let p : T (mayStand R n code && leb (loadOf R code) (R .limit)) = only-test _ _ (delayAt R c n l d) (a .above) in
+          let v : delayAt R c n l d < A n (loadOf R code) - bufferCost R code (loadAt R c n l) = only-value _ _ (delayAt R c n l d) (a .above) in
+          drives n (a .at) (a .below) link (fst (mayStand R n code) _ p) fits (leb→le (loadOf R code) (R .limit) (snd (mayStand R n code) _ p))
+          (rep .sound n (loadOf R code) (delayAt R c n l d + bufferCost R code (loadAt R c n l)) (omega arith))
+
+      go : Ways n (loadAt R c n l) (delayAt R c n l d) → Step R seed bound X c l d
+      go (inl k) =
+          passes n link (only-test _ _ (delayAt R c n l d) k) fits
+          (rep .sound n (loadAt R c n l) (delayAt R c n l d) (only-value _ _ (delayAt R c n l d) k))
+      go (inr (inl k)) = buffer (below-max 6 (λ i. viaBuffer R A n (loadAt R c n l) (suc i)) (delayAt R c n l d) k)
+      go (inr (inr k)) =
+          let v : delayAt R c n l d < bound - closeCost R n (loadAt R c n l) = only-value _ _ (delayAt R c n l d) k in
+          closes {d = d} n link (only-test _ _ (delayAt R c n l d) k) fits (omega arith)
+
+  -- what is within n's arrival budget is within what n gives to c
+  gives : InPlan R → (c n l d : ℕ) → T (R .linked c n) → delayAt R c n l d < arrival R seed bound A n (loadAt R c n l) → d < layer R seed bound A c l
+  unfolding layer given delayAt
+  gives inp c n l d link h =
+      let v : d < arrival R seed bound A n (loadAt R c n l) - wireDelay (R .wire c n) l = omega arith in
+      let m : d < maxBelow (R .cellCount) (λ n. given R (arrival R seed bound A) n c l) = max-below (R .cellCount) (λ n. given R (arrival R seed bound A) n c l) d n (inp c n link) (only-in (R .linked c n) _ d link v) in
+      omega arith
+
+  layer-sound : (c l d : ℕ) → d < layer R seed bound A c l → Step R seed bound X c l d
+  unfolding layer given delayAt
+  layer-sound c l d h = go (max-cases d (A c l) (maxBelow (R .cellCount) (λ n. given R (arrival R seed bound A) n c l)) h)
+    where
+      from : Above (R .cellCount) (λ n. given R (arrival R seed bound A) n c l) d → Step R seed bound X c l d
+      from a =
+          let link : T (R .linked c (a .at)) = only-test _ _ d (a .above) in
+          let v : d < arrival R seed bound A (a .at) (loadAt R c (a .at) l) - wireDelay (R .wire c (a .at)) l = only-value _ _ d (a .above) in
+          arrival-sound c (a .at) l d link (omega arith)
+
+      go : (d < A c l) ⊎ (d < maxBelow (R .cellCount) (λ n. given R (arrival R seed bound A) n c l)) → Step R seed bound X c l d
+      go (inl k) = stays (rep .sound c l d k)
+      go (inr k) = from (below-max (R .cellCount) (λ n. given R (arrival R seed bound A) n c l) d k)
+
+  layer-complete : InPlan R → (c l d : ℕ) → Step R seed bound X c l d → d < layer R seed bound A c l
+  unfolding layer viaBuffer Ways
+  layer-complete inp c l d (stays x) = let k : d < A c l = rep .complete c l d x in omega arith
+  layer-complete inp c l d (passes n link may fits x) =
+      gives inp c n l d link
+      (ways-arrival n (loadAt R c n l) (delayAt R c n l d) fits
+      (inl (only-in (mayStand R n noGate) _ (delayAt R c n l d) may (rep .complete n _ _ x))))
+  layer-complete inp c l d (drives n i six link may fits light x) =
+      let k : delayAt R c n l d + bufferCost R (suc i) (loadAt R c n l) < A n (loadOf R (suc i)) = rep .complete n _ _ x in
+      let v : delayAt R c n l d < A n (loadOf R (suc i)) - bufferCost R (suc i) (loadAt R c n l) = omega arith in
+      gives inp c n l d link
+      (ways-arrival n (loadAt R c n l) (delayAt R c n l d) fits
+      (inr
+      (inl
+      (max-below 6 (λ i. viaBuffer R A n (loadAt R c n l) (suc i)) (delayAt R c n l d) i six
+      (only-in (mayStand R n (suc i) && leb (loadOf R (suc i)) (R .limit)) _ (delayAt R c n l d) (both (mayStand R n (suc i)) _ may (le→leb _ _ light)) v)))))
+  layer-complete inp c l d (closes n link s fits k) =
+      let v : delayAt R c n l d < bound - closeCost R n (loadAt R c n l) = omega arith in
+      gives inp c n l d link
+      (ways-arrival n (loadAt R c n l) (delayAt R c n l d) fits (inr (inr (only-in (seed n) _ (delayAt R c n l d) s v))))
+
+-- A layer represents the step.
+pub layer-represents : (R : Rules) (seed : ℕ → Bool) (bound : ℕ) (A : Table) (X : States) → InPlan R → Represents A X → Represents (layer R seed bound A) (Step R seed bound X)
+layer-represents R seed bound A X inp rep =
+    record {
+      sound = layer-sound R seed bound A X rep;
+      complete = layer-complete R seed bound A X rep inp;
+    }

@@ -1,0 +1,2 @@
+pub mod Max
+pub mod Layer
