@@ -1,2 +1,3 @@
 pub mod Max
 pub mod Layer
+pub mod Done

@@ -1,1 +1,3 @@
 pub mod Truth
+pub mod Order
+pub mod View

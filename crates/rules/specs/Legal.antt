@@ -22,15 +22,17 @@ arrive R from s to =
       delay = s .delay + wireDelay (R .wire from to) (s .load);
     }
 
--- "A buffer: delay grows by 2·(R·load + K); load becomes its C." "At a register the load then becomes C(reg), the delay 2·setup."
-unfoldable pub leave : Rules → Stage → ℕ → Stage
-leave R s code =
-    cond (eqb code noGate) s
-    (cond (eqb code registerCode) (R .fresh)
-    (record {
+-- "A buffer: delay grows by 2·(R·load + K); load becomes its C."
+unfoldable pub buffered : Rules → Stage → ℕ → Stage
+buffered R s code =
+    record {
       load = bufferLoad (R .buffer code);
       delay = s .delay + gateDelay (bufferDriver (R .buffer code)) (s .load);
-    }))
+    }
+
+-- "At a register the load then becomes C(reg), the delay 2·setup."
+unfoldable pub leave : Rules → Stage → ℕ → Stage
+leave R s code = cond (eqb code noGate) s (cond (eqb code registerCode) (R .fresh) (buffered R s code))
 
 -- "A register, and the source: delay + 2·(R·load + K)": the closing delay of a span
 unfoldable pub closing : Rules → Stage → ℕ → ℕ
@@ -42,6 +44,10 @@ inTime R span s cell = ltb (closing R s cell) (R .bound span)
 
 unfoldable pub isEnd : Rules → ℕ → Bool
 isEnd R cell = eqb cell (R .sink) || eqb cell (R .source)
+
+-- the gate with this code may stand on this cell, between the ends: "A visit in between to either end's cell has code 0."
+unfoldable pub mayStand : Rules → ℕ → ℕ → Bool
+mayStand R cell code = cond (isEnd R cell) (eqb code noGate) (R .site cell code)
 
 unfoldable pub isLast : Route → Bool
 isLast [] = true
@@ -57,11 +63,7 @@ cellRight R last v = ltb (v .cell) (R .cellCount) && cond last (eqb (v .cell) (R
 unfoldable pub wireRight : Rules → ℕ → Visit → Bool
 wireRight R from v = R .linked from (v .cell)
 
--- the gate with this code may stand on this cell at a visit between the ends: "A visit in between to either end's cell has code 0."
-unfoldable pub mayStand : Rules → ℕ → ℕ → Bool
-mayStand R cell code = cond (isEnd R cell) (eqb code noGate) (R .site cell code)
-
--- "both code 7"
+-- "both code 7"; in between, a gate that may stand there
 unfoldable pub codeRight : Rules → Bool → Visit → Bool
 codeRight R last v = cond last (eqb (v .code) registerCode) (mayStand R (v .cell) (v .code))
 
