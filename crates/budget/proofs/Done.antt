@@ -69,13 +69,21 @@ some-span (Ending.closes {v = v} {vs = vs} h e) = omega (arith, sevens-register 
 pub done-counts : {R : Rules} {k s c l d : ℕ} (x : Done R k s c l d) → 0 < codeSevens (x .route)
 done-counts {R} {c = c} x = some-span (ending R c 0 _ (x .route) (x .ending))
 
+pub some-step : {R : Rules} {c i : ℕ} {st : Stage} {vs : Route} → Ending R c i st vs → 0 < length vs
+some-step (Ending.ends h) = omega arith
+some-step (Ending.passes h e) = omega arith
+some-step (Ending.buffers h e) = omega arith
+some-step (Ending.closes h e) = omega arith
+
+pub done-steps : {R : Rules} {k s c l d : ℕ} (x : Done R k s c l d) → 0 < length (x .route)
+done-steps {R} {c = c} x = some-step (ending R c 0 _ (x .route) (x .ending))
+
 pub none-without-steps : {R : Rules} {c l d : ℕ} → Done R 0 0 c l d → ⊥
-none-without-steps {R} {c} {l} {d} x = go (x .route) (ending R c 0 (stage l d) (x .route) (x .ending)) (x .within)
+none-without-steps x = go (done-counts x) (done-steps x) (x .within)
   where
-    go : {st : Stage} (vs : Route) → Ending R c 0 st vs → Within 0 0 (codeSevens vs) (length vs) → ⊥
-    go vs e (inl h) = omega (arith, some-span e)
-    go [] e (inr h) = omega (arith, some-span e, sevens-none)
-    go (v ∷ vs) e (inr h) = let k : suc (length vs) ≤ 0 = h .1 in omega arith
+    go : {a b : ℕ} → 0 < a → 0 < b → Within 0 0 a b → ⊥
+    go p q (inl h) = omega arith
+    go p q (inr h) = omega arith
 
 -- a state that can be completed has a load within the limit
 pub light : {R : Rules} {c i : ℕ} {st : Stage} {vs : Route} → Ending R c i st vs → st .load ≤ R .limit

@@ -1,3 +1,5 @@
 pub mod Max
 pub mod Layer
 pub mod Done
+pub mod Search
+pub mod Turns
