@@ -5,26 +5,18 @@ use mathlib.Core.Bool.{Bool, true, false, cond}
 use mathlib.Core.List.{List, [], _∷_}
 use mathlib.Core.Logic.{_⊎_, inl, inr}
 use native.Mathlib.Omega.{arith}
-use borrow.Author.Tests.{eq-eqb, ne-eqb}
 use lib.Dec.{T}
 use lib.ListN.{length}
 use Rattle.rules.specs.Rules.{Stage, Rules, noGate, registerCode}
 use Rattle.rules.specs.Legal.{Visit, Route, arrive, buffered, closing, mayStand, legalFrom}
 use Rattle.rules.specs.Ranking.{codeSevens}
-use Rattle.rules.proofs.View.{Ending, Reached, Last, Plain, Buffered, Registered, ending, legal-ending}
+use Rattle.rules.proofs.Figures.{sevens-more, sevens-kept, ending-sevens, ending-visits}
+use Rattle.rules.proofs.View.{Ending, Reached, ending-view, ending-test}
 use Rattle.budget.specs.Table.{Table, States, Represents, Step, loadAt, delayAt, bufferCost, loadOf, closeCost, layer}
 use Rattle.budget.specs.Done.{stage, NotAfter, Within, Done, Fresh, Seed, Lawful}
 use Rattle.budget.proofs.Layer.{layer-represents}
 
--- counts of a longer ending
-
-pub sevens-register : (v : Visit) (vs : Route) → v .code ≡ registerCode → codeSevens (v ∷ vs) ≡ suc (codeSevens vs)
-unfolding codeSevens
-sevens-register v vs e = rw (eq-eqb (v .code) registerCode e) (omega arith)
-
-pub sevens-other : (v : Visit) (vs : Route) → (v .code ≡ registerCode → ⊥) → codeSevens (v ∷ vs) ≡ codeSevens vs
-unfolding codeSevens
-sevens-other v vs e = rw (ne-eqb (v .code) registerCode e) (omega arith)
+-- counts of an ending
 
 pub sevens-none : codeSevens [] ≡ 0
 unfolding codeSevens
@@ -61,22 +53,13 @@ done-own x = record { route = x .route; ending = x .ending; within = within-own 
 -- an ending has at least one span and one step
 
 pub some-span : {R : Rules} {c i : ℕ} {st : Stage} {vs : Route} → Ending R c i st vs → 0 < codeSevens vs
-some-span (Ending.ends {v = v} h) = omega (arith, sevens-register v [] (h .code))
-some-span (Ending.passes {v = v} {vs = vs} h e) = omega (arith, sevens-other v vs (λ k. omega arith), some-span e)
-some-span (Ending.buffers {v = v} {vs = vs} h e) = omega (arith, sevens-other v vs (h .noRegister), some-span e)
-some-span (Ending.closes {v = v} {vs = vs} h e) = omega (arith, sevens-register v vs (h .code))
+some-span e = omega (arith, ending-sevens e)
 
 pub done-counts : {R : Rules} {k s c l d : ℕ} (x : Done R k s c l d) → 0 < codeSevens (x .route)
-done-counts {R} {c = c} x = some-span (ending R c 0 _ (x .route) (x .ending))
-
-pub some-step : {R : Rules} {c i : ℕ} {st : Stage} {vs : Route} → Ending R c i st vs → 0 < length vs
-some-step (Ending.ends h) = omega arith
-some-step (Ending.passes h e) = omega arith
-some-step (Ending.buffers h e) = omega arith
-some-step (Ending.closes h e) = omega arith
+done-counts {R} {c = c} x = some-span (ending-view R c 0 _ (x .route) (x .ending))
 
 pub done-steps : {R : Rules} {k s c l d : ℕ} (x : Done R k s c l d) → 0 < length (x .route)
-done-steps {R} {c = c} x = some-step (ending R c 0 _ (x .route) (x .ending))
+done-steps {R} {c = c} x = ending-visits (ending-view R c 0 _ (x .route) (x .ending))
 
 pub none-without-steps : {R : Rules} {c l d : ℕ} → Done R 0 0 c l d → ⊥
 none-without-steps x = go (done-counts x) (done-steps x) (x .within)
@@ -94,7 +77,7 @@ light (Ending.buffers h e) = omega (arith, h .reached .light)
 light (Ending.closes h e) = omega (arith, h .reached .light)
 
 pub done-light : {R : Rules} {k s c l d : ℕ} → Done R k s c l d → l ≤ R .limit
-done-light {R} {c = c} {l = l} {d = d} x = light (ending R c 0 (stage l d) (x .route) (x .ending))
+done-light {R} {c = c} {l = l} {d = d} x = light (ending-view R c 0 (stage l d) (x .route) (x .ending))
 
 module _ (R : Rules) (law : Lawful R) where
   -- with one bound for all spans the span's number does not matter
@@ -111,7 +94,7 @@ module _ (R : Rules) (law : Lawful R) where
   module _ (k s : ℕ) (seed : ℕ → Bool) where
     -- a visit put in front of an ending: no register
     longer : {c l d : ℕ} (st : Stage) (v : Visit) (x : Done R k s (v .cell) (st .load) (st .delay)) → (v .code ≡ registerCode → ⊥) → Ending R c 0 (stage l d) (v ∷ x .route) → Done R k (suc s) c l d
-    longer {c} {l} {d} st v x other e = record { route = v ∷ x .route; ending = legal-ending e; within = rw (sevens-other v (x .route) other) (go (x .within)) }
+    longer {c} {l} {d} st v x other e = record { route = v ∷ x .route; ending = ending-test e; within = rw (sevens-kept v (x .route) other) (go (x .within)) }
       where
         go : Within k s (codeSevens (x .route)) (length (x .route)) → Within k (suc s) (codeSevens (x .route)) (suc (length (x .route)))
         go (inl h) = inl h
@@ -124,13 +107,13 @@ module _ (R : Rules) (law : Lawful R) where
         let v : Visit = record { cell = n; code = noGate } in
         longer {c = c} {l = l} {d = d} (stage (loadAt R c n l) (delayAt R c n l d)) v x (λ e. omega arith)
         (Ending.passes (record { reached = record { inPlan = law .inPlan c n link; wired = link; light = fits }; code = refl; stands = may })
-        (ending R n 0 _ (x .route) (x .ending)))
+        (ending-view R n 0 _ (x .route) (x .ending)))
     step-done right c l d (Step.drives n i six link may fits after x) =
         let v : Visit = record { cell = n; code = suc i } in
         longer {c = c} {l = l} {d = d} (stage (loadOf R (suc i)) (delayAt R c n l d + bufferCost R (suc i) (loadAt R c n l))) v x (λ e. omega arith)
         (Ending.buffers
         (record { reached = record { inPlan = law .inPlan c n link; wired = link; light = fits }; someGate = λ e. omega arith; noRegister = λ e. omega arith; stands = may; lightAfter = after })
-        (ending R n 0 _ (x .route) (x .ending)))
+        (ending-view R n 0 _ (x .route) (x .ending)))
     step-done right c l d (Step.closes n link t fits h) = close (right n t)
       where
         reached : Reached R c (stage l d) n
@@ -141,8 +124,8 @@ module _ (R : Rules) (law : Lawful R) where
             let v : Visit = record { cell = n; code = registerCode } in
             record {
               route = v ∷ [];
-              ending = legal-ending (Ending.ends {from = c} {span = 0} {s = stage l d} {v = v} (record { reached = reached; atSource = e; code = refl; closed = h }));
-              within = rw (sevens-register v [] refl, sevens-none) (one k);
+              ending = ending-test (Ending.ends {from = c} {span = 0} {s = stage l d} {v = v} (record { reached = reached; atSource = e; code = refl; closed = h }));
+              within = rw (sevens-more v [] refl, sevens-none) (one k);
             }
           where
             one : (k : ℕ) → Within k (suc s) 1 1
@@ -155,11 +138,11 @@ module _ (R : Rules) (law : Lawful R) where
             record {
               route = v ∷ x .route;
               ending =
-                  legal-ending
+                  ending-test
                   (Ending.closes {from = c} {span = 0} {s = stage l d} {v = v}
                   (record { reached = reached; code = refl; stands = may; lightAfter = done-light x; closed = h })
-                  (any-span 1 (ending R n 0 _ (x .route) (x .ending))));
-              within = rw (sevens-register v (x .route) refl) (go (x .within));
+                  (any-span 1 (ending-view R n 0 _ (x .route) (x .ending))));
+              within = rw (sevens-more v (x .route) refl) (go (x .within));
             }
           where
             go : Within j s (codeSevens (x .route)) (length (x .route)) → Within k (suc s) (suc (codeSevens (x .route))) (suc (length (x .route)))
@@ -181,7 +164,7 @@ module _ (R : Rules) (law : Lawful R) where
         Step.closes {d = st .delay} (v .cell) (h .reached .wired) (right (v .cell) (Seed.atSource (h .atSource))) (h .reached .light) (omega (arith, h .closed, law .steady i))
     ending-step right {c} {i} {st} (Ending.passes {v = v} {vs = vs} h e) w =
         Step.passes (v .cell) (h .reached .wired) (rw (h .code) at (h .stands)) (h .reached .light)
-        (record { route = vs; ending = legal-ending (any-span 0 e); within = shorter (sevens-other v vs (λ q. omega arith)) refl w })
+        (record { route = vs; ending = ending-test (any-span 0 e); within = shorter (sevens-kept v vs (λ q. omega arith)) refl w })
     ending-step right {c} {i} {st} (Ending.buffers {v = v} {vs = vs} h e) w = go (v .code) refl
       where
         go : (code : ℕ) → v .code ≡ code → Step R seed (R .bound 0) (Done R k s) c (st .load) (st .delay)
@@ -191,20 +174,20 @@ module _ (R : Rules) (law : Lawful R) where
             Step.drives (v .cell) b six (h .reached .wired) (rw q at (h .stands)) (h .reached .light) (rw q at (h .lightAfter))
             (record {
               route = vs;
-              ending = rw q at (legal-ending (any-span 0 e));
-              within = shorter (sevens-other v vs (h .noRegister)) refl w;
+              ending = rw q at (ending-test (any-span 0 e));
+              within = shorter (sevens-kept v vs (h .noRegister)) refl w;
             })
     ending-step right {c} {i} {st} (Ending.closes {v = v} {vs = vs} h e) w =
         Step.closes {d = st .delay} (v .cell) (h .reached .wired) (right (v .cell) (go w k refl)) (h .reached .light) (omega (arith, h .closed, law .steady i))
       where
         rest : (j : ℕ) → Within j s (codeSevens vs) (length vs) → Fresh R j s (v .cell)
-        rest j q = record { route = vs; ending = legal-ending (any-span 0 e); within = q }
+        rest j q = record { route = vs; ending = ending-test (any-span 0 e); within = q }
 
         go : Within k (suc s) (codeSevens (v ∷ vs)) (length (v ∷ vs)) → (p : ℕ) → k ≡ p → Seed R k s (v .cell)
-        go (inl q) zero z = absurd (omega (arith, sevens-register v vs (h .code)))
-        go (inl q) (suc j) z = Seed.atRegister j z (rw (h .code) at (h .stands)) (rest j (inl (omega (arith, sevens-register v vs (h .code)))))
-        go (inr q) zero z = absurd (omega (arith, sevens-register v vs (h .code), some-span e))
-        go (inr q) (suc j) z = Seed.atRegister j z (rw (h .code) at (h .stands)) (rest j (inr (omega (arith, sevens-register v vs (h .code)), omega arith)))
+        go (inl q) zero z = absurd (omega (arith, sevens-more v vs (h .code)))
+        go (inl q) (suc j) z = Seed.atRegister j z (rw (h .code) at (h .stands)) (rest j (inl (omega (arith, sevens-more v vs (h .code)))))
+        go (inr q) zero z = absurd (omega (arith, sevens-more v vs (h .code), some-span e))
+        go (inr q) (suc j) z = Seed.atRegister j z (rw (h .code) at (h .stands)) (rest j (inr (omega (arith, sevens-more v vs (h .code)), omega arith)))
 
 -- A layer, with the seeds of (k, s), takes the table of `Done k s` to the table of `Done k (s + 1)`.
 pub layer-done : (R : Rules) (law : Lawful R) (k s : ℕ) (seed : ℕ → Bool) → ((n : ℕ) → T (seed n) → Seed R k s n) → ((n : ℕ) → Seed R k s n → T (seed n)) → (A : Table) → Represents A (Done R k s) → Represents (layer R seed (R .bound 0) A) (Done R k (suc s))
@@ -212,5 +195,5 @@ layer-done R law k s seed right left A rep =
     let q = layer-represents R seed (R .bound 0) A (Done R k s) (law .inPlan) rep in
     record {
       sound = λ c l d h. step-done R law k s seed right c l d (q .sound c l d h);
-      complete = λ c l d x. q .complete c l d (ending-step R law k s seed left (ending R c 0 (stage l d) (x .route) (x .ending)) (x .within));
+      complete = λ c l d x. q .complete c l d (ending-step R law k s seed left (ending-view R c 0 (stage l d) (x .route) (x .ending)) (x .within));
     }

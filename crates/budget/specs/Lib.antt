@@ -1,3 +1,4 @@
 pub mod Table
 pub mod Done
 pub mod Search
+pub mod Emission

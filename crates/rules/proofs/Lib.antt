@@ -1,3 +1,6 @@
 pub mod Truth
 pub mod Order
 pub mod View
+pub mod Figures
+pub mod Dominance
+pub mod Document01

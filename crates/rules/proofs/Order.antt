@@ -1,15 +1,15 @@
 -- The ranking is a strict total order on routes, and the best route is unique.
 -- `precedes` is a strict total order on lists of numbers; the key of a route ends in the route as written, so routes with one key are one route.
 use Prim.Native.Nat.{ℕ, _<_}
-use mathlib.Core.Bool.{Bool, true, false, _&&_, _||_}
+use mathlib.Core.Bool.{_&&_}
 use mathlib.Core.List.{List, [], _∷_}
 use mathlib.Core.Path.{_≡_, refl, _∙_}
 use mathlib.Core.Logic.{_⊎_, inl, inr}
 use native.Mathlib.Omega.{arith}
 use borrow.Author.Tests.{le-ltb, eq-eqb}
-use lib.Dec.{T, eqb, ltb, ltb→lt, lt→ltb, eqb→eq, eqb-refl}
+use lib.Dec.{T, eqb, ltb, ltb→lt, lt→ltb, eqb→eq}
 use Rattle.rules.specs.Rules.{Rules}
-use Rattle.rules.specs.Legal.{Visit, Route, legal}
+use Rattle.rules.specs.Legal.{Visit, Route}
 use Rattle.rules.specs.Ranking.{registers, steps, written, precedes, key, ranksBefore, IsBest}
 use Rattle.rules.proofs.Truth.{both, parts, or-left, or-right, or-cases, eq→eqb, three-way}
 
@@ -144,15 +144,15 @@ pub data Earlier : Visit → Route → Visit → Route → Type 0 where
   by-code : {v w : Visit} {q r : Route} → v .cell ≡ w .cell → v .code < w .code → Earlier v q w r
   by-rest : {v w : Visit} {q r : Route} → v ≡ w → T (precedes (written q) (written r)) → Earlier v q w r
 
-pub earlier : {v w : Visit} {q r : Route} → Earlier v q w r → T (precedes (written (v ∷ q)) (written (w ∷ r)))
+pub earlier-test : {v w : Visit} {q r : Route} → Earlier v q w r → T (precedes (written (v ∷ q)) (written (w ∷ r)))
 unfolding written
-earlier (by-cell h) = precedes-head _ _ _ _ h
-earlier (by-code e h) = precedes-tail _ _ _ _ e (precedes-head _ _ _ _ h)
-earlier (by-rest e h) = precedes-tail _ _ _ _ (cc) (precedes-tail _ _ _ _ (cc) h)
+earlier-test (by-cell h) = precedes-head _ _ _ _ h
+earlier-test (by-code e h) = precedes-tail _ _ _ _ e (precedes-head _ _ _ _ h)
+earlier-test (by-rest e h) = precedes-tail _ _ _ _ (cc) (precedes-tail _ _ _ _ (cc) h)
 
-pub earlier-cases : (v w : Visit) (q r : Route) → T (precedes (written (v ∷ q)) (written (w ∷ r))) → Earlier v q w r
+pub earlier-view : (v w : Visit) (q r : Route) → T (precedes (written (v ∷ q)) (written (w ∷ r))) → Earlier v q w r
 unfolding written
-earlier-cases v w q r h = go (precedes-cases _ _ _ _ h)
+earlier-view v w q r h = go (precedes-cases _ _ _ _ h)
   where
     by-second : v .cell ≡ w .cell → (v .code < w .code) ⊎ ((v .code ≡ w .code) × T (precedes (written q) (written r))) → Earlier v q w r
     by-second e (inl k) = by-code e k

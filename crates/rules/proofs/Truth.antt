@@ -1,11 +1,11 @@
 -- Small tools on tests: `T b` taken apart and put together, and what a test on numbers says.
 -- `search both` builds a conjunction and `search parts` takes one apart; `omega (arith, tests)` reads and proves tests on numbers.
 use Prim.Native.Nat.{ℕ, _≤_, _<_}
-use mathlib.Core.Bool.{Bool, true, false, not, _&&_, _||_, cond}
+use mathlib.Core.Bool.{Bool, true, false, not, _&&_, _||_}
 use mathlib.Core.Path.{_≡_, refl, sym, subst}
 use mathlib.Core.Logic.{_⊎_, inl, inr}
 use native.Mathlib.Omega.{arith}
-use lib.Dec.{T, leb, ltb, eqb, leb→le, le→leb, nleb→lt, ltb→lt, lt→ltb, nltb→le, eqb→eq, eqb-refl, T-not, not-T}
+use lib.Dec.{T, leb, eqb, leb→le, le→leb, nleb→lt, ltb→lt, lt→ltb, nltb→le, eqb→eq, eqb-refl, T-not, not-T}
 
 -- both tests pass
 
@@ -45,19 +45,19 @@ decided false = inr tt
 
 -- a test as an equation
 
-pub is-true : {b : Bool} → T b → b ≡ true
-is-true {b = true} h = refl
-is-true {b = false} h = absurd h
+pub is-true : (b : Bool) → T b → b ≡ true
+is-true true h = refl
+is-true false h = absurd h
 
-pub of-true : {b : Bool} → b ≡ true → T b
-of-true e = subst T (sym e) tt
+pub of-true : (b : Bool) → b ≡ true → T b
+of-true b e = subst T (sym e) tt
 
-pub is-false : {b : Bool} → T (not b) → b ≡ false
-is-false {b = true} h = absurd h
-is-false {b = false} h = refl
+pub is-false : (b : Bool) → T (not b) → b ≡ false
+is-false true h = absurd h
+is-false false h = refl
 
-pub of-false : {b : Bool} → b ≡ false → T (not b)
-of-false e = subst (λ (t : Bool). T (not t)) (sym e) tt
+pub of-false : (b : Bool) → b ≡ false → T (not b)
+of-false b e = subst (λ (t : Bool). T (not t)) (sym e) tt
 
 -- tests on numbers; `lib.Dec` has the others
 

@@ -1,6 +1,6 @@
 -- Legal routes: document 01, "Legal routes", line by line.
 -- A route is a list of visits from sink to source. It is judged from the sink on, visit by visit, with the load and delay so far.
-use Prim.Native.Nat.{ℕ, zero, suc, _+_}
+use Prim.Native.Nat.{ℕ, suc, _+_}
 use mathlib.Core.Bool.{Bool, true, false, _&&_, _||_, cond}
 use mathlib.Core.List.{List, [], _∷_}
 use lib.Dec.{eqb, leb, ltb}

@@ -1,11 +1,11 @@
 -- Figures, ranking and the best route: document 01, the end of "Legal routes", and demand 2.
-use Prim.Native.Nat.{ℕ, zero, suc, _+_, _*_, _-_}
+use Prim.Native.Nat.{ℕ, _+_, _*_, _-_}
 use mathlib.Core.Bool.{Bool, true, false, _&&_, _||_, cond}
 use mathlib.Core.List.{List, [], _∷_}
 use lib.Dec.{T, eqb, ltb}
 use lib.ListN.{length}
 use Rattle.rules.specs.Rules.{Rules, registerCode}
-use Rattle.rules.specs.Legal.{Visit, Route, legal}
+use Rattle.rules.specs.Legal.{Route, legal}
 
 -- visits with a register's code
 unfoldable pub codeSevens : Route → ℕ

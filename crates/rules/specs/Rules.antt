@@ -1,6 +1,6 @@
 -- What a rule of routing may depend on, as one record; document 01's rules are the instance `rulesOf`.
 -- The theory is stated over the record, so that a later request that changes one field changes one line here.
-use Prim.Native.Nat.{ℕ, zero, suc, _+_, _*_, _-_}
+use Prim.Native.Nat.{ℕ, _+_, _*_, _-_}
 use mathlib.Core.Bool.{Bool, _&&_, _||_, not, cond}
 use lib.Dec.{eqb, leb}
 use lib.ListN.{getD}
