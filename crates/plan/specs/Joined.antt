@@ -1,5 +1,5 @@
 -- Which cells an uncut wire joins, and in which direction: document 01, "Neighbours share a side" and the marks 4 and 8.
-use Prim.Native.Nat.{ℕ, _+_, _-_, _*_}
+use Prim.Native.Nat.{ℕ, _+_, _-_}
 use mathlib.Core.Bool.{Bool, _&&_, _||_, not, cond}
 use lib.Dec.{eqb, leb, ltb}
 use Rattle.plan.specs.Plan.{Plan, cells, row, column, marksAt, cutRight, cutBelow}

@@ -11,6 +11,9 @@ pub record Plan : Type 0 where
   pub height : ℕ
   pub marks : List ℕ
 
+abbrev pub planOf : ℕ → ℕ → List ℕ → Plan
+planOf w h ms = record { width = w; height = h; marks = ms }
+
 -- width and height are at most this
 abbrev pub sideMax : ℕ
 sideMax = 32

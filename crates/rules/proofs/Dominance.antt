@@ -1,18 +1,17 @@
 -- Dominance: of two beginnings alike in cell, load and counts, the one with no more delay goes on legally with every ending that the other does.
--- A gate and a wire add to a delay what depends on the load alone, so the delays keep their order to the end of the span; a register starts both afresh.
+-- Idea: a wire and a gate add to the delay what depends on the load alone, and change the load whatever the delay. So with the same visits the loads stay equal and the delays keep their order, up to the closing of the span; a register then starts both afresh. Only the closing test reads a delay, and it bounds it from above.
 use Prim.Native.Nat.{ℕ, _≤_}
-use mathlib.Core.Path.{_≡_, refl, ap}
+use mathlib.Core.Path.{refl, ap}
 use native.Mathlib.Omega.{arith}
+use mathlib.Core.List.{_∷_, _++_}
 use lib.Dec.{T}
 use Rattle.timing.specs.Formulas.{wireDelay, gateDelay, bufferDriver}
 use Rattle.rules.specs.Rules.{Stage, Rules}
-use Rattle.rules.specs.Legal.{Route, arrive, buffered, closing, legalFrom}
+use Rattle.rules.specs.Legal.{Visit, Route, arrive, buffered, closing, legalFrom, legal}
+use Rattle.rules.specs.Beginning.{begins, placeAfter, NoLater, Dominates}
+use Rattle.rules.proofs.Truth.{both, snd}
+use Rattle.rules.proofs.Beginning.{legal-split}
 use Rattle.rules.proofs.View.{Reached, Ending, ends, passes, buffers, closes, ending-view, ending-test}
-
--- the same load, and no more delay
-pub record NoLater (s t : Stage) : Type 0 where
-  pub load : s .load ≡ t .load
-  pub delay : s .delay ≤ t .delay
 
 module _ (R : Rules) {s t : Stage} (d : NoLater s t) where
   pub arrive-no-later : (from to : ℕ) → NoLater (arrive R from s to) (arrive R from t to)
@@ -76,6 +75,13 @@ ending-no-later {R} (closes {from = from} {span = span} {v = v} h e) s d =
     })
     e
 
-pub dominance : (R : Rules) (cell span : ℕ) (s t : Stage) → s .load ≡ t .load → s .delay ≤ t .delay → (vs : Route) → T (legalFrom R cell span t vs) → T (legalFrom R cell span s vs)
-dominance R cell span s t e h vs k =
-    ending-test (ending-no-later (ending-view R cell span t vs k) s (record { load = e; delay = h }))
+-- the two stages are those after the last visit of each beginning, to `cell`, with `span` closed spans behind it
+pub dominance : (R : Rules) (cell span : ℕ) (s t : Stage) → NoLater s t → (vs : Route) → T (legalFrom R cell span t vs) → T (legalFrom R cell span s vs)
+dominance R cell span s t d vs h = ending-test (ending-no-later (ending-view R cell span t vs h) s d)
+
+-- The same of whole routes: `v ∷ b` and `w ∷ c` are the beginnings, `x ∷ e` is the ending.
+pub dominance-of-beginnings : (R : Rules) (v w : Visit) (b c : Route) → T (begins R v b) → Dominates (placeAfter R v b) (placeAfter R w c) → (x : Visit) (e : Route) → T (legal R (w ∷ (c ++ (x ∷ e)))) → T (legal R (v ∷ (b ++ (x ∷ e))))
+dominance-of-beginnings R v w b c k d x e h =
+    let rest : T (legalFrom R (placeAfter R w c .cell) (placeAfter R w c .span) (placeAfter R w c .stage) (x ∷ e)) = snd (begins R w c) _ (rw (legal-split R w c x e) at h) in
+    let same : T (legalFrom R (placeAfter R v b .cell) (placeAfter R v b .span) (placeAfter R w c .stage) (x ∷ e)) = rw (d .cell, d .span) rest in
+    rw (legal-split R v b x e) (both (begins R v b) _ k (dominance R _ _ _ _ (d .stage) (x ∷ e) same))

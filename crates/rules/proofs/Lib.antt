@@ -2,5 +2,6 @@ pub mod Truth
 pub mod Order
 pub mod View
 pub mod Figures
+pub mod Beginning
 pub mod Dominance
 pub mod Document01

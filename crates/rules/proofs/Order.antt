@@ -35,7 +35,7 @@ pub precedes-skip : (x y : ℕ) (xs ys : List ℕ) → x ≡ y → precedes (x �
 unfolding precedes
 precedes-skip x y xs ys e = simp (le-ltb x y (omega arith), eq-eqb x y e)
 
--- `precedes` is a strict total order
+-- `precedes` is a strict total order, by induction on the lists: the heads decide, or they are equal and the tails decide.
 
 pub precedes-irreflexive : (xs : List ℕ) → T (precedes xs xs) → ⊥
 unfolding precedes
@@ -114,7 +114,7 @@ ranks-total q r = go (precedes-total (key q) (key r))
     go (inl e) = inl (key-injective q r e)
     go (inr h) = inr h
 
--- Neither of two best routes ranks before the other.
+-- Neither of two best routes ranks before the other, since the other is legal; so they are equal.
 pub best-unique : (R : Rules) (q r : Route) → IsBest R q → IsBest R r → q ≡ r
 best-unique R q r b c = go (ranks-total q r)
   where
@@ -161,3 +161,7 @@ earlier-view v w q r h = go (precedes-cases _ _ _ _ h)
     go : (v .cell < w .cell) ⊎ ((v .cell ≡ w .cell) × T (precedes (v .code ∷ written q) (w .code ∷ written r))) → Earlier v q w r
     go (inl k) = by-cell k
     go (inr k) = by-second (k .0) (precedes-cases _ _ _ _ (k .1))
+
+pub written-skip : (v w : Visit) (q r : Route) → v ≡ w → precedes (written (v ∷ q)) (written (w ∷ r)) ≡ precedes (written q) (written r)
+unfolding written
+written-skip v w q r e = precedes-skip _ _ _ _ (cc) ∙ precedes-skip _ _ _ _ (cc)

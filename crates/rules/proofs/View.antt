@@ -85,6 +85,12 @@ pub record FirstVisit (R : Rules) (v : Visit) : Type 0 where
 pub data LegalRoute (R : Rules) : Route → Type 0 where
   starts : {v : Visit} {vs : Route} → FirstVisit R v → Ending R (R .sink) 0 (R .start) vs → LegalRoute R (v ∷ vs)
 
+pub same-first : {R : Rules} {v w : Visit} → FirstVisit R v → FirstVisit R w → v ≡ w
+same-first {R} {v} {w} h k =
+    let same : v .cell ≡ w .cell = cc in
+    let alike : v .code ≡ w .code = cc in
+    λ i. record { cell = same i; code = alike i }
+
 -- Any visit in between, in the words of the test
 record Between (R : Rules) (from span : ℕ) (s : Stage) (v : Visit) : Type 0 where
   pub reached : Reached R from s (v .cell)
@@ -222,7 +228,7 @@ module _ (R : Rules) (from span : ℕ) (s : Stage) (v : Visit) (vs : Route) wher
   closes-test : RegisterVisit R from span s v → T (legalFrom R (v .cell) (suc span) (R .fresh) vs) → T (legalFrom R from span s (v ∷ vs))
   closes-test h = gate-test (span-closed span v (h .code)) (leave-register R a (v .code) (h .code)) (h .reached) (h .stands) (h .lightAfter) (period-closed-back R span a v (h .code) (h .closed))
 
--- The view of the test, and back
+-- The view of the test, and back. A list of one visit is judged as the last visit; a longer one gives a visit in between, whose code decides the constructor, and a shorter list. Back, no ending is empty, so a visit with an ending after it is not the last.
 
 pub ending-view : (R : Rules) (from span : ℕ) (s : Stage) (vs : Route) → T (legalFrom R from span s vs) → Ending R from span s vs
 unfolding legalFrom

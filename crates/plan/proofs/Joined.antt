@@ -1,0 +1,99 @@
+-- Wires: where they lead, that they go both ways, and that both ends are in the plan.
+use Prim.Native.Nat.{ℕ, _+_, _/_, _%_, _<_}
+use mathlib.Core.Bool.{Bool, true, false, _&&_, _||_, not}
+use mathlib.Core.Path.{_≡_, refl}
+use mathlib.Core.Logic.{⊎-elim}
+use native.Mathlib.Nat.{mod-lt}
+use native.Mathlib.Omega.{arith}
+use borrow.Author.Tests.{eq-eqb}
+use lib.Dec.{T, eqb, ltb, eqb→eq, ltb→lt}
+use Rattle.plan.specs.Plan.{Plan, cells, row, column, marksAt, cutRight, cutBelow}
+use Rattle.plan.specs.Joined.{wireRight, wireBelow, bothIn, horizontal, vertical, joined}
+use Rattle.plan.proofs.Truth.{fst, snd, either, or-comm, not-holds}
+use Rattle.plan.proofs.Division.{right-row, right-column, right-is, down-row, down-column, down-is}
+
+swapped : (a b c d : Bool) → (a && b && (c || d)) ≡ (b && a && (d || c))
+swapped true true c d = or-comm c d
+swapped true false c d = refl
+swapped false true c d = refl
+swapped false false c d = refl
+
+pub horizontal-symmetric : (p : Plan) (a b : ℕ) → horizontal p a b ≡ horizontal p b a
+unfolding horizontal bothIn
+horizontal-symmetric p a b = swapped (ltb a (cells p)) (ltb b (cells p)) (wireRight p a b) (wireRight p b a)
+
+pub vertical-symmetric : (p : Plan) (a b : ℕ) → vertical p a b ≡ vertical p b a
+unfolding vertical bothIn
+vertical-symmetric p a b = swapped (ltb a (cells p)) (ltb b (cells p)) (wireBelow p a b) (wireBelow p b a)
+
+pub joined-symmetric : (p : Plan) (a b : ℕ) → joined p a b ≡ joined p b a
+unfolding joined
+joined-symmetric p a b = rw (horizontal-symmetric p a b, vertical-symmetric p a b)
+
+both-in : (p : Plan) (a b : ℕ) → T (bothIn p a b) → (a < cells p) × (b < cells p)
+unfolding bothIn
+both-in p a b t =
+    (ltb→lt a (cells p) (fst (ltb a (cells p)) (ltb b (cells p)) t), ltb→lt b (cells p) (snd (ltb a (cells p)) (ltb b (cells p)) t))
+
+pub horizontal-in : (p : Plan) (a b : ℕ) → T (horizontal p a b) → (a < cells p) × (b < cells p)
+unfolding horizontal
+horizontal-in p a b t = both-in p a b (fst (bothIn p a b) (wireRight p a b || wireRight p b a) t)
+
+pub vertical-in : (p : Plan) (a b : ℕ) → T (vertical p a b) → (a < cells p) × (b < cells p)
+unfolding vertical
+vertical-in p a b t = both-in p a b (fst (bothIn p a b) (wireBelow p a b || wireBelow p b a) t)
+
+pub joined-in : (p : Plan) (a b : ℕ) → T (joined p a b) → (a < cells p) × (b < cells p)
+unfolding joined
+joined-in p a b t =
+    ⊎-elim (horizontal-in p a b) (vertical-in p a b) (either (horizontal p a b) (vertical p a b) t)
+
+-- the wire to the right
+pub record Right (p : Plan) (a b : ℕ) : Type 0 where
+  pub next : b ≡ a + 1
+  pub inside : column p a + 1 < p .width
+  pub uncut : cutRight (marksAt p a) ≡ false
+
+-- the wire below
+pub record Below (p : Plan) (a b : ℕ) : Type 0 where
+  pub next : b ≡ a + p .width
+  pub uncut : cutBelow (marksAt p a) ≡ false
+
+module _ (p : Plan) (wide : 0 < p .width) where
+  pub wire-right : (a b : ℕ) → T (wireRight p a b) → Right p a b
+  unfolding wireRight row column
+  wire-right a b t =
+      let r = eqb (row p b) (row p a) in
+      let c = eqb (column p b) (column p a + 1) in
+      let u = not (cutRight (marksAt p a)) in
+      let f : b % p .width ≡ a % p .width + 1 = eqb→eq _ _ (snd r c (fst (r && c) u t)) in
+      record {
+        next = right-is (p .width) wide a b (eqb→eq _ _ (fst r c (fst (r && c) u t))) f;
+        inside = omega (arith, mod-lt b wide);
+        uncut = not-holds (cutRight (marksAt p a)) (snd (r && c) u t);
+      }
+
+  pub right-wire : (a b : ℕ) → Right p a b → T (wireRight p a b)
+  unfolding wireRight row column
+  right-wire a b h =
+      let r : b / p .width ≡ a / p .width = rw (h .next) (right-row (p .width) wide a (h .inside)) in
+      let c : b % p .width ≡ a % p .width + 1 = rw (h .next) (right-column (p .width) wide a (h .inside)) in
+      simp (eq-eqb _ _ r, eq-eqb _ _ c, h .uncut) tt
+
+  pub wire-below : (a b : ℕ) → T (wireBelow p a b) → Below p a b
+  unfolding wireBelow row column
+  wire-below a b t =
+      let c = eqb (column p b) (column p a) in
+      let r = eqb (row p b) (row p a + 1) in
+      let u = not (cutBelow (marksAt p a)) in
+      record {
+        next = down-is (p .width) wide a b (eqb→eq _ _ (snd c r (fst (c && r) u t))) (eqb→eq _ _ (fst c r (fst (c && r) u t)));
+        uncut = not-holds (cutBelow (marksAt p a)) (snd (c && r) u t);
+      }
+
+  pub below-wire : (a b : ℕ) → Below p a b → T (wireBelow p a b)
+  unfolding wireBelow row column
+  below-wire a b h =
+      let r : b / p .width ≡ a / p .width + 1 = rw (h .next) (down-row (p .width) wide a) in
+      let c : b % p .width ≡ a % p .width = rw (h .next) (down-column (p .width) wide a) in
+      simp (eq-eqb _ _ c, eq-eqb _ _ r, h .uncut) tt

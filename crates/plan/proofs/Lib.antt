@@ -1,0 +1,5 @@
+pub mod Truth
+pub mod Division
+pub mod Check
+pub mod Joined
+pub mod Sides

@@ -1,0 +1,47 @@
+-- Each test of the code is one of the definition, in the same order.
+use borrow.Author.Tests.{lt-ltb, le-ltb}
+use native.Mathlib.Nat.{mod-lt}
+use mathlib.Core.Path.{sym, _∙_}
+use native.Mathlib.Omega.{arith}
+use borrow.Author.Needs.{needs}
+use Rattle.plan.specs.Plan.{cells, column, marksAt}
+use Rattle.plan.specs.Joined.{neighboursOf}
+use Rattle.plan.proofs.Check.{cells-most}
+use Rattle.plan.proofs.after.Statement.{statement}
+use Rattle.plan.proofs.after.Tie as tie
+
+mul-cells : tie.Need-mul-cells
+unfolding cells
+mul-cells c = omega (arith, cells-most _ (c .before .pre .0))
+
+rem-if1 : tie.Need-rem-if1
+rem-if1 c = search needs
+
+add-if1 : tie.Need-add-if1
+add-if1 c = let a = c .before .args in omega (arith, mod-lt (a .cell) (c .before .pre .0 .wide))
+
+returns : tie.Need-returns
+unfolding neighboursOf cells column
+returns c = simp (le-ltb _ _ (c .if1 .taken))
+
+shared-slice-read-cuts-right : tie.Need-shared-slice-read-cuts-right
+unfolding cells
+shared-slice-read-cuts-right c = let a = c .before .before .before .args in omega (arith)
+
+cuts-right-requires : tie.Need-cuts-right-requires
+cuts-right-requires c κs = search needs
+
+returns-2 : tie.Need-returns-2
+unfolding neighboursOf cells column marksAt
+returns-2 c = simp (lt-ltb _ _ (c .before .before .before .if1 .left), sym (c .before .cuts-right .ensures) ∙ c .if2 .taken)
+
+add-result : tie.Need-add-result
+unfolding cells
+add-result c = let s = c .before .before .before .before .before .pre in omega (arith, cells-most _ (s .0))
+
+returns-3 : tie.Need-returns-3
+unfolding neighboursOf cells column marksAt
+returns-3 c = simp (lt-ltb _ _ (c .before .before .before .if1 .left), sym (c .before .cuts-right .ensures) ∙ c .if2 .left)
+
+pub after-spec : {M : Type 1} → statement M
+after-spec = tie.close (tie.spec mul-cells rem-if1 add-if1 returns shared-slice-read-cuts-right cuts-right-requires returns-2 add-result returns-3)
