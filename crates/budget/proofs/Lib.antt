@@ -3,3 +3,4 @@ pub mod Layer
 pub mod Done
 pub mod Search
 pub mod Turns
+pub mod Active

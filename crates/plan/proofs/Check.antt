@@ -1,13 +1,12 @@
--- The cases of `checkedPlan`, both ways.
+-- The cases of `checkedPlan`, both ways, and what a plan without refusal has.
 use Prim.Native.Nat.{ℕ, zero, suc, _≤_, _<_}
-use mathlib.Core.Bool.{Bool, true, false, _||_, not}
-use mathlib.Core.Path.{_≡_, refl, sym, subst}
+use mathlib.Core.Bool.{Bool, true, false, _||_}
+use mathlib.Core.Path.{_≡_, refl}
 use mathlib.Core.Logic.{_⊎_, ⊎-elim, ⊎-swap}
 use native.Mathlib.Nat.{eq-or-lt-of-le, le-of-suc-le-suc, mul-le-mul}
 use native.Mathlib.Omega.{arith}
 use borrow.Author.Tests.{eqb-true, eqb-false, ltb-false, ne-eqb, eq-eqb, le-ltb, not-false}
 use lib.Dec.{eqb, ltb}
-use lib.ListN.{length}
 use Rattle.plan.specs.declared.PlanCheck.{PlanCheck}
 use Rattle.plan.specs.Plan.{Plan, Sized, sideMax, cells}
 use Rattle.plan.specs.Check.{gridFault, lengthFault, invalidAt, invalidBelow, markFault, checkedPlan}
@@ -67,7 +66,7 @@ unfolding invalidBelow
 all-valid p zero f = refl
 all-valid p (suc n) f = rw (all-valid p n (λ c h. f c (omega arith)), f n (omega arith))
 
--- a cell of the plan with marks that may not stand there
+-- a cell below n with marks that may not stand there
 pub record InvalidCell (p : Plan) (n : ℕ) : Type 0 where
   pub cell : ℕ
   pub inside : cell < n

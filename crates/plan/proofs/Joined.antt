@@ -48,21 +48,22 @@ unfolding joined
 joined-in p a b t =
     ⊎-elim (horizontal-in p a b) (vertical-in p a b) (either (horizontal p a b) (vertical p a b) t)
 
--- the wire to the right
+-- a wire that leads right from a to b, as numbers
 pub record Right (p : Plan) (a b : ℕ) : Type 0 where
   pub next : b ≡ a + 1
   pub inside : column p a + 1 < p .width
   pub uncut : cutRight (marksAt p a) ≡ false
 
--- the wire below
+-- a wire that leads down from a to b, as numbers
 pub record Below (p : Plan) (a b : ℕ) : Type 0 where
   pub next : b ≡ a + p .width
   pub uncut : cutBelow (marksAt p a) ≡ false
 
+-- the tests of specs/Joined say the same, both ways
 module _ (p : Plan) (wide : 0 < p .width) where
-  pub wire-right : (a b : ℕ) → T (wireRight p a b) → Right p a b
+  pub right-of : (a b : ℕ) → T (wireRight p a b) → Right p a b
   unfolding wireRight row column
-  wire-right a b t =
+  right-of a b t =
       let r = eqb (row p b) (row p a) in
       let c = eqb (column p b) (column p a + 1) in
       let u = not (cutRight (marksAt p a)) in
@@ -73,16 +74,16 @@ module _ (p : Plan) (wide : 0 < p .width) where
         uncut = not-holds (cutRight (marksAt p a)) (snd (r && c) u t);
       }
 
-  pub right-wire : (a b : ℕ) → Right p a b → T (wireRight p a b)
+  pub of-right : (a b : ℕ) → Right p a b → T (wireRight p a b)
   unfolding wireRight row column
-  right-wire a b h =
+  of-right a b h =
       let r : b / p .width ≡ a / p .width = rw (h .next) (right-row (p .width) wide a (h .inside)) in
       let c : b % p .width ≡ a % p .width + 1 = rw (h .next) (right-column (p .width) wide a (h .inside)) in
       simp (eq-eqb _ _ r, eq-eqb _ _ c, h .uncut) tt
 
-  pub wire-below : (a b : ℕ) → T (wireBelow p a b) → Below p a b
+  pub below-of : (a b : ℕ) → T (wireBelow p a b) → Below p a b
   unfolding wireBelow row column
-  wire-below a b t =
+  below-of a b t =
       let c = eqb (column p b) (column p a) in
       let r = eqb (row p b) (row p a + 1) in
       let u = not (cutBelow (marksAt p a)) in
@@ -91,9 +92,9 @@ module _ (p : Plan) (wide : 0 < p .width) where
         uncut = not-holds (cutBelow (marksAt p a)) (snd (c && r) u t);
       }
 
-  pub below-wire : (a b : ℕ) → Below p a b → T (wireBelow p a b)
+  pub of-below : (a b : ℕ) → Below p a b → T (wireBelow p a b)
   unfolding wireBelow row column
-  below-wire a b h =
+  of-below a b h =
       let r : b / p .width ≡ a / p .width + 1 = rw (h .next) (down-row (p .width) wide a) in
       let c : b % p .width ≡ a % p .width = rw (h .next) (down-column (p .width) wide a) in
       simp (eq-eqb _ _ c, eq-eqb _ _ r, h .uncut) tt

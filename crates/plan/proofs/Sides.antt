@@ -1,7 +1,7 @@
 -- The four sides of a cell: they are exactly the cells joined to it, and they are in ascending order.
-use Prim.Native.Nat.{ℕ, _+_, _-_, _*_, _%_, _<_, _≤_}
+use Prim.Native.Nat.{ℕ, _+_, _-_, _%_, _<_, _≤_}
 use mathlib.Core.Bool.{Bool, true, false, _&&_, _||_, not, cond}
-use mathlib.Core.Path.{_≡_, refl, sym, _∙_}
+use mathlib.Core.Path.{_≡_, refl}
 use mathlib.Core.Logic.{_⊎_, inl, inr, ⊎-elim}
 use native.Mathlib.Nat.{mul-comm, mod-lt, mod-le}
 use native.Mathlib.Omega.{arith}
@@ -12,7 +12,7 @@ use Rattle.plan.specs.Plan.{Plan, Sized, cells, column, marksAt, cutRigh
 use Rattle.plan.specs.Joined.{wireRight, wireBelow, bothIn, horizontal, vertical, joined, neighboursOf}
 use Rattle.plan.proofs.Truth.{both, fst, snd, either, or-left, or-right, not-holds}
 use Rattle.plan.proofs.Division.{left-column, right-column, right-in}
-use Rattle.plan.proofs.Joined.{Right, Below, wire-right, right-wire, wire-below, below-wire, vertical-in}
+use Rattle.plan.proofs.Joined.{Right, Below, right-of, of-right, below-of, of-below, vertical-in}
 
 choice : (t : Bool) (x y : ℕ) (P : ℕ → Type 0) → (T t → P x) → P y → P (cond t x y)
 choice true x y P f g = f tt
@@ -58,18 +58,18 @@ module _ (p : Plan) (s : Sized p) (c : ℕ) (h : c < cells p) where
       let k = cutRight (marksAt p (c - 1)) in
       choice (t && not k) (c - 1) (cells p) (λ n. (n ≡ cells p) ⊎ Right p n c)
       (λ o.
-        let w : 0 < c % p .width = ltb→lt _ _ (fst t (not k) o) in
-        inr
-        (record {
-          next = omega (arith, mod-le c (p .width));
-          inside = omega (arith, left-column (p .width) (s .wide) c w, mod-lt c (s .wide));
-          uncut = not-holds k (snd t (not k) o);
-        }))
+      let w : 0 < c % p .width = ltb→lt _ _ (fst t (not k) o) in
+      inr
+      (record {
+        next = omega (arith, mod-le c (p .width));
+        inside = omega (arith, left-column (p .width) (s .wide) c w, mod-lt c (s .wide));
+        uncut = not-holds k (snd t (not k) o);
+      }))
       (inl refl)
 
-  right-side : (neighboursOf p c .right ≡ cells p) ⊎ Right p c (neighboursOf p c .right)
+  right-wire : (neighboursOf p c .right ≡ cells p) ⊎ Right p c (neighboursOf p c .right)
   unfolding neighboursOf
-  right-side =
+  right-wire =
       let t = ltb (column p c + 1) (p .width) in
       let k = cutRight (marksAt p c) in
       choice (t && not k) (c + 1) (cells p) (λ n. (n ≡ cells p) ⊎ Right p c n)
@@ -99,9 +99,9 @@ module _ (p : Plan) (s : Sized p) (c : ℕ) (h : c < cells p) where
       let f : c % p .width ≡ b % p .width + 1 = rw (w .next) (right-column (p .width) (s .wide) b (w .inside)) in
       simp (e, lt-ltb 0 (c % p .width) (omega arith), w .uncut)
 
-  wire-to-right : (b : ℕ) → Right p c b → b ≡ neighboursOf p c .right
+  wire-right : (b : ℕ) → Right p c b → b ≡ neighboursOf p c .right
   unfolding neighboursOf
-  wire-to-right b w = simp (lt-ltb _ _ (w .inside), w .uncut) (w .next)
+  wire-right b w = simp (lt-ltb _ _ (w .inside), w .uncut) (w .next)
 
   wire-down : (b : ℕ) → b < cells p → Below p c b → b ≡ neighboursOf p c .down
   unfolding neighboursOf
@@ -114,8 +114,8 @@ module _ (p : Plan) (s : Sized p) (c : ℕ) (h : c < cells p) where
   unfolding vertical
   vertical-neighbour b t =
       ⊎-elim
-      (λ w. inr (wire-down b (vertical-in p c b t .1) (wire-below p (s .wide) c b w)))
-      (λ w. inl (wire-up b (wire-below p (s .wide) b c w)))
+      (λ w. inr (wire-down b (vertical-in p c b t .1) (below-of p (s .wide) c b w)))
+      (λ w. inl (wire-up b (below-of p (s .wide) b c w)))
       (either (wireBelow p c b) (wireBelow p b c) (snd (bothIn p c b) (wireBelow p c b || wireBelow p b c) t))
 
   -- horizontal wires: left and right
@@ -123,8 +123,8 @@ module _ (p : Plan) (s : Sized p) (c : ℕ) (h : c < cells p) where
   unfolding horizontal
   horizontal-neighbour b t =
       ⊎-elim
-      (λ w. inr (wire-to-right b (wire-right p (s .wide) c b w)))
-      (λ w. inl (wire-left b (wire-right p (s .wide) b c w)))
+      (λ w. inr (wire-right b (right-of p (s .wide) c b w)))
+      (λ w. inl (wire-left b (right-of p (s .wide) b c w)))
       (either (wireRight p c b) (wireRight p b c) (snd (bothIn p c b) (wireRight p c b || wireRight p b c) t))
 
   in-both : (b : ℕ) → b < cells p → T (bothIn p c b)
@@ -136,28 +136,28 @@ module _ (p : Plan) (s : Sized p) (c : ℕ) (h : c < cells p) where
   up-vertical b i e =
       both (bothIn p c b) (wireBelow p c b || wireBelow p b c) (in-both b i)
       (or-right (wireBelow p c b) (wireBelow p b c)
-      (⊎-elim (λ n. absurd (omega arith)) (λ w. below-wire p (s .wide) b c (rw e w)) up-wire))
+      (⊎-elim (λ n. absurd (omega arith)) (λ w. of-below p (s .wide) b c (rw e w)) up-wire))
 
   down-vertical : (b : ℕ) → b < cells p → b ≡ neighboursOf p c .down → T (vertical p c b)
   unfolding vertical
   down-vertical b i e =
       both (bothIn p c b) (wireBelow p c b || wireBelow p b c) (in-both b i)
       (or-left (wireBelow p c b) (wireBelow p b c)
-      (⊎-elim (λ n. absurd (omega arith)) (λ w. below-wire p (s .wide) c b (rw e (w .0))) down-wire))
+      (⊎-elim (λ n. absurd (omega arith)) (λ w. of-below p (s .wide) c b (rw e (w .0))) down-wire))
 
   left-horizontal : (b : ℕ) → b < cells p → b ≡ neighboursOf p c .left → T (horizontal p c b)
   unfolding horizontal
   left-horizontal b i e =
       both (bothIn p c b) (wireRight p c b || wireRight p b c) (in-both b i)
       (or-right (wireRight p c b) (wireRight p b c)
-      (⊎-elim (λ n. absurd (omega arith)) (λ w. right-wire p (s .wide) b c (rw e w)) left-wire))
+      (⊎-elim (λ n. absurd (omega arith)) (λ w. of-right p (s .wide) b c (rw e w)) left-wire))
 
   right-horizontal : (b : ℕ) → b < cells p → b ≡ neighboursOf p c .right → T (horizontal p c b)
   unfolding horizontal
   right-horizontal b i e =
       both (bothIn p c b) (wireRight p c b || wireRight p b c) (in-both b i)
       (or-left (wireRight p c b) (wireRight p b c)
-      (⊎-elim (λ n. absurd (omega arith)) (λ w. right-wire p (s .wide) c b (rw e w)) right-side))
+      (⊎-elim (λ n. absurd (omega arith)) (λ w. of-right p (s .wide) c b (rw e w)) right-wire))
 
   pub neighbour-vertical : (b : ℕ) → b < cells p → (b ≡ neighboursOf p c .up) ⊎ (b ≡ neighboursOf p c .down) → T (vertical p c b)
   neighbour-vertical b i = ⊎-elim (up-vertical b i) (down-vertical b i)
@@ -165,6 +165,7 @@ module _ (p : Plan) (s : Sized p) (c : ℕ) (h : c < cells p) where
   pub neighbour-horizontal : (b : ℕ) → b < cells p → (b ≡ neighboursOf p c .left) ⊎ (b ≡ neighboursOf p c .right) → T (horizontal p c b)
   neighbour-horizontal b i = ⊎-elim (left-horizontal b i) (right-horizontal b i)
 
+  -- all wires: the four sides
   pub joined-neighbour : (b : ℕ) → T (joined p c b) → IsNeighbour p c b
   unfolding joined
   joined-neighbour b t =
@@ -191,7 +192,7 @@ module _ (p : Plan) (s : Sized p) (c : ℕ) (h : c < cells p) where
   up-step i = ⊎-elim (λ e. absurd (omega arith)) (λ w. omega arith) up-wire
 
   right-low : c < neighboursOf p c .right
-  right-low = ⊎-elim (λ e. omega arith) (λ w. omega arith) right-side
+  right-low = ⊎-elim (λ e. omega arith) (λ w. omega arith) right-wire
 
   down-low : c < neighboursOf p c .down
   down-low = ⊎-elim (λ e. omega arith) (λ w. omega (arith, w .0 .next)) down-wire
@@ -205,7 +206,7 @@ module _ (p : Plan) (s : Sized p) (c : ℕ) (h : c < cells p) where
       record {
         up-most = ⊎-elim (λ e. omega arith) (λ w. omega arith) up-wire;
         left-most = ⊎-elim (λ e. omega arith) (λ w. omega arith) left-wire;
-        right-most = ⊎-elim (λ e. omega arith) (λ w. omega (arith, right-inside _ w)) right-side;
+        right-most = ⊎-elim (λ e. omega arith) (λ w. omega (arith, right-inside _ w)) right-wire;
         down-most = ⊎-elim (λ e. omega arith) (λ w. omega arith) down-wire;
         up-cell = λ i. omega (arith, up-step i);
         left-cell = l;
@@ -216,5 +217,5 @@ module _ (p : Plan) (s : Sized p) (c : ℕ) (h : c < cells p) where
         up-down = λ i. omega (arith, up-step i);
         left-right = λ i. omega (arith, l i);
         left-down = λ i. omega (arith, l i);
-        right-down = λ i. ⊎-elim (λ e. absurd (omega arith)) (λ w. ⊎-elim (λ e. omega arith) (λ v. omega (arith, v .0 .next)) down-wire) right-side;
+        right-down = λ i. ⊎-elim (λ e. absurd (omega arith)) (λ w. ⊎-elim (λ e. omega arith) (λ v. omega (arith, v .0 .next)) down-wire) right-wire;
       }

@@ -34,12 +34,6 @@ or-comm true false = refl
 or-comm false true = refl
 or-comm false false = refl
 
-pub and-comm : (a b : Bool) → (a && b) ≡ (b && a)
-and-comm true true = refl
-and-comm true false = refl
-and-comm false true = refl
-and-comm false false = refl
-
 pub not-holds : (a : Bool) → T (not a) → a ≡ false
 not-holds true t = absurd t
 not-holds false t = refl

@@ -26,7 +26,7 @@ vertical p a b = bothIn p a b && (wireBelow p a b || wireBelow p b a)
 unfoldable pub joined : Plan → ℕ → ℕ → Bool
 joined p a b = horizontal p a b || vertical p a b
 
--- What the neighbour step gives: the cell joined to c on each side, or the number of cells where there is none. The law `neighbours-joined` (proofs/Neighbours) says that these are exactly the cells joined to c, left and right by a horizontal wire, up and down by a vertical one.
+-- What the neighbour step gives: the cell joined to c on each side, or the number of cells where there is none. The laws of proofs/Sides say that these are exactly the cells joined to c, left and right by a horizontal wire, up and down by a vertical one, and that they ascend.
 unfoldable pub neighboursOf : Plan → ℕ → Neighbours
 neighboursOf p c =
     record {

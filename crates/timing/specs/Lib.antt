@@ -1,3 +1,4 @@
 pub mod Ranges
 pub mod Formulas
 pub mod Elements
+pub mod Valid

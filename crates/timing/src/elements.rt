@@ -40,7 +40,7 @@ pub struct Elements {
     pub vertical: Wire,
     pub register: Register,
     pub count: usize,
-    pub buffers: [Buffer; 6],
+    pub buffers: [Buffer; Elements::BUFFERS_MAX],
 }
 
 pub enum WireCheck {
@@ -56,6 +56,17 @@ pub enum BufferCheck {
 pub enum RegisterCheck {
     Valid(Register),
     OutOfRange,
+}
+
+impl Elements {
+    // Ticks.
+    pub const PERIOD_MIN: u16 = 1;
+
+    pub const PERIOD_MAX: u16 = 30_000;
+
+    pub const LIMIT_MAX: u16 = Load::MAX;
+
+    pub const BUFFERS_MAX: usize = 6;
 }
 
 impl Wire {

@@ -19,7 +19,7 @@ returns c = simp (lt-leb _ _ (c .if1 .taken))
 
 shared-slice-read-cuts-below : tie.Need-shared-slice-read-cuts-below
 unfolding cells
-shared-slice-read-cuts-below c = let a = c .before .before .before .args in omega (arith)
+shared-slice-read-cuts-below c = omega arith
 
 cuts-below-requires : tie.Need-cuts-below-requires
 cuts-below-requires c κs = search needs

@@ -1,6 +1,7 @@
 -- Each test of the code is one of the definition, in the same order.
 use borrow.Author.Tests.{lt-ltb, le-ltb}
 use native.Mathlib.Nat.{le-of-eq, pos-of-ne-zero, mod-le}
+use Prim.Native.Nat.{_%_, _<_}
 use mathlib.Core.Path.{sym, _∙_}
 use native.Mathlib.Omega.{arith}
 use borrow.Author.Needs.{needs}
@@ -21,10 +22,13 @@ returns : tie.Need-returns
 unfolding neighboursOf cells column
 returns c = simp (le-ltb 0 _ (le-of-eq (c .if1 .taken)))
 
+in-row : (c : tie.Else1) → let a = c .before .before .args in 0 < a .cell % a .width
+in-row c = pos-of-ne-zero (c .if1 .left)
+
 sub-cuts-right : tie.Need-sub-cuts-right
 sub-cuts-right c =
     let a = c .before .before .args in
-    omega (arith, pos-of-ne-zero (c .if1 .left), mod-le (a .cell) (a .width))
+    omega (arith, in-row c, mod-le (a .cell) (a .width))
 
 shared-slice-read-cuts-right : tie.Need-shared-slice-read-cuts-right
 unfolding cells
@@ -35,16 +39,16 @@ cuts-right-requires c κs = search needs
 
 returns-2 : tie.Need-returns-2
 unfolding neighboursOf cells column marksAt
-returns-2 c = simp (lt-ltb 0 _ (pos-of-ne-zero (c .before .before .before .if1 .left)), sym (c .before .cuts-right .ensures) ∙ c .if2 .taken)
+returns-2 c = simp (lt-ltb _ _ (in-row (c .before .before .before)), sym (c .before .cuts-right .ensures) ∙ c .if2 .taken)
 
 sub-result : tie.Need-sub-result
 sub-result c =
     let a = c .before .before .before .before .before .args in
-    omega (arith, pos-of-ne-zero (c .before .before .before .if1 .left), mod-le (a .cell) (a .width))
+    omega (arith, in-row (c .before .before .before), mod-le (a .cell) (a .width))
 
 returns-3 : tie.Need-returns-3
 unfolding neighboursOf cells column marksAt
-returns-3 c = simp (lt-ltb 0 _ (pos-of-ne-zero (c .before .before .before .if1 .left)), sym (c .before .cuts-right .ensures) ∙ c .if2 .left)
+returns-3 c = simp (lt-ltb _ _ (in-row (c .before .before .before)), sym (c .before .cuts-right .ensures) ∙ c .if2 .left)
 
 pub before-spec : {M : Type 1} → statement M
 before-spec = tie.close (tie.spec mul-cells rem-if1 returns sub-cuts-right shared-slice-read-cuts-right cuts-right-requires returns-2 sub-result returns-3)

@@ -23,7 +23,7 @@ returns c = simp (le-ltb _ _ (c .if1 .taken))
 
 shared-slice-read-cuts-below : tie.Need-shared-slice-read-cuts-below
 unfolding cells
-shared-slice-read-cuts-below c = let a = c .before .before .before .args in omega (arith)
+shared-slice-read-cuts-below c = omega arith
 
 cuts-below-requires : tie.Need-cuts-below-requires
 cuts-below-requires c κs = search needs
@@ -34,7 +34,7 @@ returns-2 c = simp (lt-ltb _ _ (c .before .before .before .if1 .left), sym (c .b
 
 add-result : tie.Need-add-result
 unfolding cells
-add-result c = let s = c .before .before .before .before .before .pre in omega (arith, cells-most _ (s .0))
+add-result c = omega (arith, cells-most _ (c .before .before .before .before .before .pre .0))
 
 returns-3 : tie.Need-returns-3
 unfolding neighboursOf cells column marksAt

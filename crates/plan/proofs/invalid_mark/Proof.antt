@@ -1,5 +1,5 @@
 -- Each test of the code is one of the definition, in the same order; `no-right` is what the second leaves.
-use Prim.Native.Nat.{_+_, _%_}
+use Prim.Native.Nat.{_+_, _/_, _%_}
 use mathlib.Core.Bool.{false, _&&_}
 use mathlib.Core.Logic.{⊎-elim}
 use mathlib.Core.Path.{_≡_, sym, _∙_}
@@ -56,8 +56,9 @@ cuts-below-requires c κs = search needs
 returns-3 : tie.Need-returns-3
 unfolding invalidMark
 returns-3 c =
+    let a = c .before .before .before .before .args in
     simp
-    (le-ltb _ _ (c .before .before .before .if1 .left), no-right (c .before .before), eq-eqb _ _ (c .before .if4 .taken))
+    (le-ltb _ _ (c .before .before .before .if1 .left), no-right (c .before .before), eq-eqb (a .cell / a .width + 1) (a .height) (omega arith))
     (c .cuts-below .ensures)
 
 returns-4 : tie.Need-returns-4

@@ -1,7 +1,5 @@
 -- The four sides, each by its function.
-use mathlib.Core.Path.{_≡_}
 use borrow.Author.Needs.{needs}
-use Rattle.plan.specs.Joined.{neighboursOf}
 use Rattle.plan.proofs.neighbours_of.Statement.{statement}
 use Rattle.plan.proofs.neighbours_of.Tie as tie
 

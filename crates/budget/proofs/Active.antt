@@ -1,0 +1,58 @@
+-- The active list: pushes in any order make a layer, and what an unchanged row gives is unchanged.
+use Prim.Native.Nat.{ℕ, zero, suc, _+_, _-_, _≤_, _<_, max}
+use mathlib.Core.Path.{_≡_, refl, sym, ap, _∙_}
+use mathlib.Core.Bool.{Bool}
+use mathlib.Core.Logic.{_⊎_, inl, inr}
+use native.Mathlib.Omega.{arith}
+use Rattle.rules.specs.Rules.{Rules}
+use Rattle.rules.proofs.Truth.{split}
+use Rattle.budget.specs.Table.{Table, only, maxBelow, viaBuffer, arrival, given, layer}
+
+-- the maximum is at least each candidate, and at most what bounds them all
+
+pub max-at : (n : ℕ) (f : ℕ → ℕ) (i : ℕ) → i < n → f i ≤ maxBelow n f
+unfolding maxBelow
+max-at zero f i h = absurd (omega arith)
+max-at (suc n) f i h = go (max-at n f i) (split n i)
+  where
+    go : (i < n → f i ≤ maxBelow n f) → (n ≤ i) ⊎ (i < n) → f i ≤ max (maxBelow n f) (f n)
+    go r (inl k) = let e : f i ≡ f n = ap f (omega arith) in omega arith
+    go r (inr k) = let q : f i ≤ maxBelow n f = r k in omega arith
+
+pub max-most : (n : ℕ) (f : ℕ → ℕ) (x : ℕ) → ((i : ℕ) → i < n → f i ≤ x) → maxBelow n f ≤ x
+unfolding maxBelow
+max-most zero f x h = omega arith
+max-most (suc n) f x h = let q : maxBelow n f ≤ x = max-most n f x (λ i k. h i (omega arith)) in omega (arith, h n (omega arith))
+
+pub max-same : (n : ℕ) (f g : ℕ → ℕ) → ((i : ℕ) → i < n → f i ≡ g i) → maxBelow n f ≡ maxBelow n g
+unfolding maxBelow
+max-same zero f g h = refl
+max-same (suc n) f g h = let q : maxBelow n f ≡ maxBelow n g = max-same n f g (λ i k. h i (omega arith)) in let e : f n ≡ g n = h n (omega arith) in omega arith
+
+module _ (R : Rules) (seed : ℕ → Bool) (bound : ℕ) (A : Table) where
+  -- what a cell gives is in the layer
+  pub given-most : (n c l : ℕ) → n < R .cellCount → given R (arrival R seed bound A) n c l ≤ layer R seed bound A c l
+  unfolding layer
+  given-most n c l h = omega (arith, max-at (R .cellCount) (λ n. given R (arrival R seed bound A) n c l) n h)
+
+  -- the layer is at least the table
+  pub layer-least : (c l : ℕ) → A c l ≤ layer R seed bound A c l
+  unfolding layer
+  layer-least c l = omega arith
+
+  -- Proof: B has all that any cell gives, and A; so it is at least their maximum, the layer; and it is at most the layer. Qed.
+  pub pushes-layer : (B : Table) → ((c l : ℕ) → A c l ≤ B c l) → ((c l : ℕ) → B c l ≤ layer R seed bound A c l) → ((n c l : ℕ) → n < R .cellCount → given R (arrival R seed bound A) n c l ≤ B c l) → (c l : ℕ) → B c l ≡ layer R seed bound A c l
+  unfolding layer
+  pushes-layer B least most all c l =
+      let q : maxBelow (R .cellCount) (λ n. given R (arrival R seed bound A) n c l) ≤ B c l = max-most (R .cellCount) (λ n. given R (arrival R seed bound A) n c l) (B c l) (λ n h. all n c l h) in
+      omega (arith, least c l, most c l)
+
+-- An arrival row depends on the cell's own row and seed alone.
+pub arrival-row : (R : Rules) (seed seed′ : ℕ → Bool) (bound : ℕ) (A B : Table) (n : ℕ) → ((l : ℕ) → B n l ≡ A n l) → seed′ n ≡ seed n → (l : ℕ) → arrival R seed′ bound B n l ≡ arrival R seed bound A n l
+unfolding arrival viaBuffer
+arrival-row R seed seed′ bound A B n row s l = simp (row, s)
+
+-- and so does what it gives
+pub given-row : (R : Rules) (B C : Table) (n : ℕ) → ((l : ℕ) → C n l ≡ B n l) → (c l : ℕ) → given R C n c l ≡ given R B n c l
+unfolding given
+given-row R B C n row c l = simp row
