@@ -81,7 +81,7 @@ done-light {R} {c = c} {l = l} {d = d} x = light (ending-view R c 0 (stage l d) 
 
 module _ (R : Rules) (law : Lawful R) where
   -- with one bound for all spans the span's number does not matter
-  any-span : {c i : ℕ} {st : Stage} {vs : Route} (j : ℕ) → Ending R c i st vs → Ending R c j st vs
+  pub any-span : {c i : ℕ} {st : Stage} {vs : Route} (j : ℕ) → Ending R c i st vs → Ending R c j st vs
   any-span {c} {i} {st} j (Ending.ends {v = v} h) =
       Ending.ends {span = j} (record { reached = h .reached; atSource = h .atSource; code = h .code; closed = omega (arith, h .closed, law .steady i, law .steady j) })
   any-span j (Ending.passes h e) = Ending.passes h (any-span j e)
@@ -100,7 +100,7 @@ module _ (R : Rules) (law : Lawful R) where
         go (inl h) = inl h
         go (inr h) = inr (h .0, omega arith)
 
-    step-done : ((n : ℕ) → T (seed n) → Seed R k s n) → (c l d : ℕ) → Step R seed (R .bound 0) (Done R k s) c l d → Done R k (suc s) c l d
+    pub step-done : ((n : ℕ) → T (seed n) → Seed R k s n) → (c l d : ℕ) → Step R seed (R .bound 0) (Done R k s) c l d → Done R k (suc s) c l d
     unfolding arrive buffered closing loadAt delayAt loadOf bufferCost closeCost
     step-done right c l d (Step.stays x) = done-more k (suc s) (inr (refl, omega arith)) x
     step-done right c l d (Step.passes n link may fits x) =

@@ -1,6 +1,12 @@
 pub mod Max
 pub mod Layer
+pub mod Active
+pub mod Sides
 pub mod Done
 pub mod Search
 pub mod Turns
-pub mod Active
+pub mod Visit
+pub mod Reaches
+pub mod Emission
+pub mod Best
+pub mod Emit

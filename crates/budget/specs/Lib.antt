@@ -1,4 +1,5 @@
 pub mod Table
+pub mod Sides
 pub mod Done
 pub mod Search
 pub mod Emission
