@@ -4,6 +4,7 @@ use mathlib.Core.Path.{_≡_, refl, sym, ap, _∙_}
 use mathlib.Core.Bool.{Bool}
 use mathlib.Core.Logic.{_⊎_, inl, inr}
 use native.Mathlib.Omega.{arith}
+use borrow.Author.Tests.{lt-leb}
 use Rattle.rules.specs.Rules.{Rules}
 use Rattle.rules.proofs.Truth.{split}
 use Rattle.budget.specs.Table.{Table, only, maxBelow, viaBuffer, arrival, given, layer}
@@ -52,7 +53,12 @@ pub arrival-row : (R : Rules) (seed seed′ : ℕ → Bool) (bound : ℕ) (A B :
 unfolding arrival viaBuffer
 arrival-row R seed seed′ bound A B n row s l = simp (row, s)
 
--- and so does what it gives
+-- past the limit it is 0
+pub arrival-past : (R : Rules) (seed : ℕ → Bool) (bound : ℕ) (A : Table) (n l : ℕ) → R .limit < l → arrival R seed bound A n l ≡ 0
+unfolding arrival only
+arrival-past R seed bound A n l h = rw (lt-leb l (R .limit) h)
+
+-- what a cell gives depends on its arrival row alone
 pub given-row : (R : Rules) (B C : Table) (n : ℕ) → ((l : ℕ) → C n l ≡ B n l) → (c l : ℕ) → given R C n c l ≡ given R B n c l
 unfolding given
 given-row R B C n row c l = simp row

@@ -1,0 +1,4 @@
+pub mod Lists
+pub mod GoodEnds
+pub mod Scan
+pub mod FirstFault

@@ -1,0 +1,4 @@
+pub mod Lists
+pub mod Numbers
+pub mod Tables
+pub mod Ends

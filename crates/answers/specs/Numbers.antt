@@ -1,0 +1,30 @@
+-- The number and the figures that document 01 gives for each case of a route's answer.
+use Prim.Native.Nat.{ℕ}
+use Rattle.answers.specs.declared.answer.Figures.{Figures}
+use Rattle.answers.specs.declared.answer.Refusal.{Refusal}
+use Rattle.answers.specs.declared.answer.Refusal.the-variants.{Grid, Length, Mark, Element, Ends, Scratch, NoRoute}
+use Rattle.answers.specs.declared.answer.Answer.{Answer}
+use Rattle.answers.specs.declared.answer.Answer.the-variants.{Found, NoRoom, Refused}
+
+abbrev pub refusalNumber : Refusal → ℕ
+refusalNumber Grid = 1
+refusalNumber Length = 2
+refusalNumber Mark = 3
+refusalNumber (Element f) = 4
+refusalNumber Ends = 5
+refusalNumber Scratch = 6
+refusalNumber NoRoute = 7
+
+abbrev pub answerNumber : Answer → ℕ
+answerNumber (Found f) = 0
+answerNumber (NoRoom f) = 8
+answerNumber (Refused r) = refusalNumber r
+
+abbrev pub noFigures : Figures
+noFigures = record { registers = 0; steps = 0; latency = 0 }
+
+-- 7 is among the refusals, and has no figures
+abbrev pub answerFigures : Answer → Figures
+answerFigures (Found f) = f
+answerFigures (NoRoom f) = f
+answerFigures (Refused r) = noFigures

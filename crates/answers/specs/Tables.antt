@@ -1,0 +1,120 @@
+-- Refusal 4 of document 01: a number outside its range, or over 6 buffers. It carries the first fault in this order:
+-- T, L, horizontal wire, vertical wire, register, buffer count, the place of a buffer from 1.
+use Prim.Native.Nat.{ℕ, zero, suc, _+_}
+use mathlib.Core.Bool.{Bool, _&&_, cond}
+use mathlib.Core.List.{List, [], _∷_}
+use lib.Dec.{leb, ltb}
+use lib.ListN.{getD}
+use Rattle.timing.specs.Ranges.{loadMax, periodMin, periodMax, buffersMax}
+use Rattle.timing.specs.Elements.{wireInRange, registerInRange, bufferInRange, wireOf, registerOf, bufferOf}
+use Rattle.timing.specs.declared.elements.Wire.{Wire}
+use Rattle.timing.specs.declared.elements.Register.{Register}
+use Rattle.timing.specs.declared.elements.Buffer.{Buffer}
+use Rattle.timing.specs.declared.elements.Elements.{Elements}
+use Rattle.answers.specs.Lists.{noBuffer}
+use Rattle.answers.specs.declared.records.WireRecord.{WireRecord}
+use Rattle.answers.specs.declared.records.RegisterRecord.{RegisterRecord}
+use Rattle.answers.specs.declared.records.BufferRecord.{BufferRecord}
+use Rattle.answers.specs.declared.records.Tables.{Tables}
+use Rattle.answers.specs.declared.records.BufferList.{BufferList}
+use Rattle.answers.specs.declared.answer.Fault.{Fault}
+use Rattle.answers.specs.declared.tables.ElementFault.{ElementFault}
+use Rattle.answers.specs.declared.tables.ElementFault.the-variants.{Nothing, At}
+use Rattle.answers.specs.declared.tables.BuffersCheck.{BuffersCheck}
+use Rattle.answers.specs.declared.tables.TablesCheck.{TablesCheck}
+
+-- a test of a chain: the fault where it fails, the rest of the chain where it passes
+abbrev pub require : Bool → Fault → ElementFault → ElementFault
+require ok f rest = cond ok rest (At f)
+
+unfoldable pub periodInRange : ℕ → Bool
+periodInRange p = leb periodMin p && leb p periodMax
+
+unfoldable pub wireOk : WireRecord → Bool
+wireOk w = wireInRange (w .resistance) (w .load)
+
+unfoldable pub registerOk : RegisterRecord → Bool
+registerOk r = registerInRange (r .resistance) (r .delay) (r .load) (r .setup)
+
+unfoldable pub bufferOk : BufferRecord → Bool
+bufferOk b = bufferInRange (b .resistance) (b .delay) (b .load)
+
+-- the first buffer out of range among `left` of them from index i on
+unfoldable pub bufferFault : List BufferRecord → ℕ → ℕ → ElementFault
+bufferFault items i zero = Nothing
+bufferFault items i (suc left) = require (bufferOk (getD items i noBuffer)) (Fault.Buffer (i + 1)) (bufferFault items (i + 1) left)
+
+unfoldable pub buffersFault : BufferList → ElementFault
+buffersFault list = bufferFault (list .items) 0 (list .n)
+
+unfoldable pub tablesFault : Tables → BufferList → ElementFault
+tablesFault t list =
+    require (periodInRange (t .period)) Fault.Period
+    (require (leb (t .limit) loadMax) Fault.Limit
+    (require (wireOk (t .horizontal)) Fault.Horizontal
+    (require (wireOk (t .vertical)) Fault.Vertical
+    (require (registerOk (t .register)) Fault.Register
+    (require (leb (list .n) buffersMax) Fault.Count
+    (buffersFault list))))))
+
+-- the elements of given records
+unfoldable pub wireFrom : WireRecord → Wire
+wireFrom w = wireOf (w .resistance) (w .load)
+
+unfoldable pub registerFrom : RegisterRecord → Register
+registerFrom r = registerOf (r .resistance) (r .delay) (r .load) (r .setup)
+
+unfoldable pub bufferFrom : BufferRecord → Buffer
+bufferFrom b = bufferOf (b .resistance) (b .delay) (b .load)
+
+-- the buffer at index i: of zeros at and past the count
+unfoldable pub bufferAt : BufferList → ℕ → Buffer
+bufferAt list i = cond (ltb i (list .n)) (bufferFrom (getD (list .items) i noBuffer)) (bufferOf 0 0 0)
+
+unfoldable pub sixPlaces : (ℕ → Buffer) → List Buffer
+sixPlaces f = f 0 ∷ f 1 ∷ f 2 ∷ f 3 ∷ f 4 ∷ f 5 ∷ []
+
+unfoldable pub elementsOf : Tables → BufferList → Elements
+elementsOf t list =
+    record {
+      period = t .period;
+      limit = record { 0 = t .limit };
+      horizontal = wireFrom (t .horizontal);
+      vertical = wireFrom (t .vertical);
+      register = registerFrom (t .register);
+      count = list .n;
+      buffers = sixPlaces (bufferAt list);
+    }
+
+unfoldable pub noBuffers : List Buffer
+noBuffers = sixPlaces (λ i. bufferOf 0 0 0)
+
+unfoldable pub noElements : Elements
+noElements =
+    record {
+      period = 0;
+      limit = record { 0 = 0 };
+      horizontal = wireOf 0 0;
+      vertical = wireOf 0 0;
+      register = registerOf 0 0 0 0;
+      count = 0;
+      buffers = noBuffers;
+    }
+
+-- What the checks answer: the elements, or the first fault and zeros.
+unfoldable pub buffersAnswer : ElementFault → BufferList → BuffersCheck
+buffersAnswer Nothing list = record { fault = Nothing; buffers = sixPlaces (bufferAt list) }
+buffersAnswer (At f) list = record { fault = At f; buffers = noBuffers }
+
+unfoldable pub checkedBuffers : BufferList → BuffersCheck
+checkedBuffers list = buffersAnswer (buffersFault list) list
+
+unfoldable pub refusedTables : Fault → TablesCheck
+refusedTables f = record { fault = At f; elements = noElements }
+
+unfoldable pub tablesAnswer : ElementFault → Elements → TablesCheck
+tablesAnswer Nothing e = record { fault = Nothing; elements = e }
+tablesAnswer (At f) e = refusedTables f
+
+unfoldable pub checkedTables : Tables → BufferList → TablesCheck
+checkedTables t list = tablesAnswer (tablesFault t list) (elementsOf t list)

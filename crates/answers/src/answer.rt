@@ -1,0 +1,88 @@
+// The answer of a route call. `refusalNumber`, `answerNumber` and `answerFigures` give document 01's numbers and figures.
+ghost use mathlib.Core.Path.{_≡_};
+ghost use Rattle.answers.specs.Numbers.{refusalNumber, answerNumber, answerFigures};
+
+// Refusal 4: which number was at fault. Buffer holds the buffer's place, from 1.
+pub enum Fault {
+    // T
+    Period,
+    // L
+    Limit,
+    Horizontal,
+    Vertical,
+    Register,
+    Count,
+    Buffer(u16),
+}
+
+// The refusals of a route call that have no figures.
+pub enum Refusal {
+    Grid,
+    // plan length
+    Length,
+    // stray mark
+    Mark,
+    Element(Fault),
+    Ends,
+    // bench
+    Scratch,
+    NoRoute,
+}
+
+pub struct Figures {
+    pub registers: u16,
+    pub steps: u32,
+    pub latency: u32,
+}
+
+pub enum Answer {
+    Found(Figures),
+    // sheet: the visits need more words than were lent
+    NoRoom(Figures),
+    Refused(Refusal),
+}
+
+impl Refusal {
+    // Document 01's number, 1 to 7.
+    pub fn number(self) -> u16
+        ensures { λ r. ⌜ r ≡ refusalNumber self ⌝ }
+    {
+        match self {
+            Refusal::Grid => 1,
+            Refusal::Length => 2,
+            Refusal::Mark => 3,
+            Refusal::Element(_) => 4,
+            Refusal::Ends => 5,
+            Refusal::Scratch => 6,
+            Refusal::NoRoute => 7,
+        }
+    }
+}
+
+impl Answer {
+    // Document 01's number, 0 to 8.
+    pub fn number(self) -> u16
+        ensures { λ r. ⌜ r ≡ answerNumber self ⌝ }
+    {
+        match self {
+            Answer::Found(_) => 0,
+            Answer::NoRoom(_) => 8,
+            Answer::Refused(r) => r.number(),
+        }
+    }
+
+    // The figures handed back: zeros for every refusal but 8.
+    pub fn figures(self) -> Figures
+        ensures { λ r. ⌜ r ≡ answerFigures self ⌝ }
+    {
+        match self {
+            Answer::Found(f) => f,
+            Answer::NoRoom(f) => f,
+            Answer::Refused(_) => Figures {
+                registers: 0,
+                steps: 0,
+                latency: 0,
+            },
+        }
+    }
+}

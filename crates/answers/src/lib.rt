@@ -1,0 +1,20 @@
+// What outsiders lend for a route and what they are answered: raw records, refusals, the answer.
+// The checks of tables (refusal 4) and ends (refusal 5). Document 01, "Elements" and "Calls and what they leave".
+mod answer;
+mod ends;
+mod records;
+mod tables;
+
+pub use answer::Answer;
+pub use answer::Fault;
+pub use answer::Figures;
+pub use answer::Refusal;
+pub use ends::ends_fault;
+pub use records::BufferList;
+pub use records::BufferRecord;
+pub use records::RegisterRecord;
+pub use records::Tables;
+pub use records::WireRecord;
+pub use tables::ElementFault;
+pub use tables::TablesCheck;
+pub use tables::check_tables;

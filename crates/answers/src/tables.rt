@@ -1,0 +1,132 @@
+// Refusal 4. Each element is made by its own checking constructor; nothing tests its numbers again.
+ghost use mathlib.Core.Path.{_≡_};
+ghost use Prim.Native.Nat.{_≤_};
+ghost use Rattle.timing.specs.Ranges.{buffersMax};
+ghost use Rattle.answers.specs.Tables.{checkedBuffers, checkedTables, refusedTables, noElements};
+use crate::answer::Fault;
+use crate::records::BufferList;
+use crate::records::Tables;
+use timing::Buffer;
+use timing::BufferCheck;
+use timing::Elements;
+use timing::Load;
+use timing::Register;
+use timing::RegisterCheck;
+use timing::Wire;
+use timing::WireCheck;
+
+pub enum ElementFault {
+    Nothing,
+    At(Fault),
+}
+
+// The elements are all zero where there is a fault.
+pub struct TablesCheck {
+    pub fault: ElementFault,
+    pub elements: Elements,
+}
+
+struct BuffersCheck {
+    fault: ElementFault,
+    buffers: [Buffer; Elements::BUFFERS_MAX],
+}
+
+// The first fault of the tables and of a lent list of buffers, or their elements.
+pub fn check_tables(t: Tables, list: BufferList) -> TablesCheck
+    ensures { λ r. ⌜ r ≡ checkedTables t list ⌝ }
+{
+    if t.period < Elements::PERIOD_MIN {
+        return refused(Fault::Period);
+    }
+    if Elements::PERIOD_MAX < t.period {
+        return refused(Fault::Period);
+    }
+    if Elements::LIMIT_MAX < t.limit {
+        return refused(Fault::Limit);
+    }
+    let WireCheck::Valid(horizontal) = Wire::checked(t.horizontal.resistance, t.horizontal.load)
+    else {
+        return refused(Fault::Horizontal);
+    };
+    let WireCheck::Valid(vertical) = Wire::checked(t.vertical.resistance, t.vertical.load) else {
+        return refused(Fault::Vertical);
+    };
+    let RegisterCheck::Valid(register) = Register::checked(
+        t.register.resistance,
+        t.register.delay,
+        t.register.load,
+        t.register.setup,
+    ) else {
+        return refused(Fault::Register);
+    };
+    if Elements::BUFFERS_MAX < list.n {
+        return refused(Fault::Count);
+    }
+    let checked = check_buffers(list);
+    let fault = checked.fault;
+    if let ElementFault::At(f) = fault {
+        return refused(f);
+    }
+    let buffers = checked.buffers;
+    TablesCheck {
+        fault: ElementFault::Nothing,
+        elements: Elements {
+            period: t.period,
+            limit: Load(t.limit),
+            horizontal: horizontal,
+            vertical: vertical,
+            register: register,
+            count: list.n,
+            buffers: buffers,
+        },
+    }
+}
+
+// The first buffer out of range, or the six places: the buffers, then buffers of zeros.
+fn check_buffers(list: BufferList) -> BuffersCheck
+    requires { ⌜ list .n ≤ buffersMax ⌝ }
+    ensures { λ r. ⌜ r ≡ checkedBuffers list ⌝ }
+{
+    let zero = Buffer::zero();
+    let mut buffers = [zero; Elements::BUFFERS_MAX];
+    let mut i = 0;
+    while i < list.n {
+        let item = list.items[i];
+        let BufferCheck::Valid(buffer) = Buffer::checked(item.resistance, item.delay, item.load)
+        else {
+            return BuffersCheck {
+                fault: ElementFault::At(Fault::Buffer((i + 1) as u16)),
+                buffers: [zero; Elements::BUFFERS_MAX],
+            };
+        };
+        buffers[i] = buffer;
+        i += 1;
+    }
+    BuffersCheck {
+        fault: ElementFault::Nothing,
+        buffers: buffers,
+    }
+}
+
+fn refused(fault: Fault) -> TablesCheck
+    ensures { λ r. ⌜ r ≡ refusedTables fault ⌝ }
+{
+    TablesCheck {
+        fault: ElementFault::At(fault),
+        elements: no_elements(),
+    }
+}
+
+fn no_elements() -> Elements
+    ensures { λ r. ⌜ r ≡ noElements ⌝ }
+{
+    Elements {
+        period: 0,
+        limit: Load(0),
+        horizontal: Wire::zero(),
+        vertical: Wire::zero(),
+        register: Register::zero(),
+        count: 0,
+        buffers: [Buffer::zero(); Elements::BUFFERS_MAX],
+    }
+}

@@ -1,0 +1,26 @@
+// Refusal 5, and the numbers and figures of answers.
+use answers::Answer;
+use answers::Figures;
+use answers::Refusal;
+use answers::ends_fault;
+use check::expect;
+
+pub fn ends() {
+    expect(!ends_fault(3, 0, 2));
+    expect(ends_fault(3, 3, 0));
+    expect(ends_fault(3, 0, 3));
+    expect(ends_fault(3, 1, 1));
+}
+
+pub fn answers() {
+    let figures = Figures {
+        registers: 1,
+        steps: 2,
+        latency: 50,
+    };
+    expect(Answer::Found(figures).number() == 0);
+    expect(Answer::NoRoom(figures).number() == 8);
+    expect(Answer::NoRoom(figures).figures().latency == 50);
+    expect(Answer::Refused(Refusal::NoRoute).number() == 7);
+    expect(Answer::Refused(Refusal::NoRoute).figures().latency == 0);
+}
