@@ -10,3 +10,4 @@ pub mod Reaches
 pub mod Emission
 pub mod Best
 pub mod Emit
+pub mod Document01

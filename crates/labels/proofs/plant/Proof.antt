@@ -1,0 +1,77 @@
+-- `labels::plant`: the seed flag is outside of the list and its flags, and `enlist` leaves the seed flags as they are.
+use Prim.Native.Nat.{ℕ, _+_, _*_, _<_, _≤_}
+use mathlib.Core.Path.{_≡_, _∙_}
+use mathlib.Core.List.{List}
+use native.Mathlib.Omega.{arith}
+use lib.ListN.{length, getD, set, length-set}
+use lib.Seq.{getD-set-same, getD-set-other}
+use borrow.Author.Needs.{needs}
+use Rattle.lists.specs.Lists.{Listed, Enlisted}
+use Rattle.lists.proofs.Lists.{listed-count, listed-kept}
+use Rattle.labels.specs.Labels.{Planted}
+use Rattle.labels.proofs.plant.Statement.{statement}
+use Rattle.labels.proofs.plant.Tie as tie
+
+-- the words after a seed flag is written
+abbrev seeded : List ℕ → ℕ → ℕ → ℕ → List ℕ
+seeded words n cell flag = set words (n * 135 + cell) flag
+
+kept : (words : List ℕ) (n cell flag k : ℕ) → (k ≡ n * 135 + cell → ⊥) → getD (seeded words n cell flag) k 0 ≡ getD words k 0
+kept words n cell flag k q = getD-set-other words (n * 135 + cell) k flag 0 q
+
+seed-listed : (words : List ℕ) (n cell flag active : ℕ) → Listed n words (n * 132) active → Listed n (seeded words n cell flag) (n * 132) active
+seed-listed words n cell flag active l =
+    listed-kept l (seeded words n cell flag) (λ c h. kept words n cell flag (n * 134 + c) (λ e. omega arith))
+    (λ i h. kept words n cell flag (n * 132 + i) (λ e. omega (arith, listed-count l)))
+
+planted : (n cell active : ℕ) (old new : List ℕ) (next : ℕ) → cell < n → n * 136 ≤ length old → Enlisted n (n * 132) active cell (seeded old n cell 1) new next → Planted n cell old new next
+planted n cell active old new next h r e =
+    record {
+      same = simp length-set at (e .same);
+      listed = e .listed;
+      nowFlagged = e .now-flagged;
+      nowSeed = e .high (n * 135 + cell) (omega arith) ∙ getD-set-same old (n * 135 + cell) 1 0 (omega arith);
+      others = λ c k q. e .others c k q ∙ kept old n cell 1 (n * 134 + c) (λ x. omega arith);
+      otherSeeds = λ c k q. e .high (n * 135 + c) (omega arith) ∙ kept old n cell 1 (n * 135 + c) (λ x. omega arith);
+      low = λ k q. e .low k (omega arith) ∙ kept old n cell 1 k (λ x. omega arith);
+      middle = λ k p q. e .middle k (omega arith) q ∙ kept old n cell 1 k (λ x. omega arith);
+      high = λ k q. e .high k (omega arith) ∙ kept old n cell 1 k (λ x. omega arith);
+    }
+
+mul-scratch : tie.Need-mul-scratch
+mul-scratch c = search needs
+
+add-scratch : tie.Need-add-scratch
+add-scratch c = search needs
+
+mul-scratch-2 : tie.Need-mul-scratch-2
+mul-scratch-2 c = search needs
+
+slice-write-scratch : tie.Need-slice-write-scratch
+slice-write-scratch c = search needs
+
+mul-enlist : tie.Need-mul-enlist
+mul-enlist c = search needs
+
+enlist-requires : tie.Need-enlist-requires
+enlist-requires c κs =
+    (seed-listed _ _ _ _ _ (c .before .before .pre .0), (omega arith, (omega arith, (omega arith, simp length-set (omega arith)))))
+
+same-length : tie.Need-same-length
+same-length c = simp length-set at (c .before .before .enlist .ensures .same)
+
+returns : tie.Need-returns
+returns c = planted _ _ _ _ _ _ (omega arith) (omega arith) (c .before .before .enlist .ensures)
+
+pub plant-spec : {M : Type 1} → statement M
+plant-spec =
+    tie.close
+    (tie.spec
+    mul-scratch
+    add-scratch
+    mul-scratch-2
+    slice-write-scratch
+    mul-enlist
+    enlist-requires
+    same-length
+    returns)

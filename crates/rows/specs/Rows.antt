@@ -1,0 +1,40 @@
+-- The row operations of the delay-budget table, as functions of the words at entry. A row is 64 words, one a load.
+use Prim.Native.Nat.{ℕ, _+_, _-_, _≤_, _<_, max}
+use mathlib.Core.Path.{_≡_}
+use mathlib.Core.Bool.{Bool, true, false, cond}
+use mathlib.Core.List.{List}
+use lib.Dec.{leb}
+use lib.ListN.{length, getD}
+use Rattle.timing.specs.declared.elements.Wire.{Wire}
+use Rattle.timing.specs.declared.elements.Driver.{Driver}
+use Rattle.timing.specs.Formulas.{wireDelay, wireLoad, gateDelay}
+use Rattle.budget.specs.Table.{only}
+use Rattle.rows.specs.Words.{Filled}
+
+abbrev pub rowWords : ℕ
+rowWords = 64
+
+-- the row at `from`, with 0 past the limit
+unfoldable pub copied : List ℕ → ℕ → ℕ → ℕ → ℕ
+copied words from limit l = only (leb l limit) (getD words (from + l) 0)
+
+-- the row at `at`, raised within the limit to what `top` leaves after the driver's delay
+unfoldable pub raised : List ℕ → ℕ → ℕ → Driver → ℕ → ℕ → ℕ
+raised words at top driver limit l =
+    cond (leb l limit) (max (getD words (at + l) 0) (top - gateDelay driver l)) (getD words (at + l) 0)
+
+-- the row at `to`, raised to what the arrival row at `from` leaves after one step of the wire
+unfoldable pub pushed : List ℕ → ℕ → ℕ → Wire → ℕ → ℕ → ℕ
+pushed words from to wire limit l =
+    max (getD words (to + l) 0) (only (leb (l + wireLoad wire) limit) (getD words (from + (l + wireLoad wire)) 0 - wireDelay wire l))
+
+-- some word of the row at `to` grew
+pub record RowGrew (to : ℕ) (old new : List ℕ) : Type 0 where
+  pub load : ℕ
+  pub inRow : load < rowWords
+  pub more : getD old (to + load) 0 < getD new (to + load) 0
+
+pub record Pushed (from to : ℕ) (wire : Wire) (limit : ℕ) (old new : List ℕ) (grew : Bool) : Type 0 where
+  pub filled : Filled (pushed old from to wire limit) to rowWords old new
+  pub some : grew ≡ true → RowGrew to old new
+  pub none : grew ≡ false → (k : ℕ) → getD new k 0 ≡ getD old k 0

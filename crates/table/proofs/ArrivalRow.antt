@@ -1,0 +1,188 @@
+-- The arrival row of one cell, as the words give it: buffer by buffer, and then `arrival` out of its three parts.
+use Prim.Native.Nat.{ℕ, zero, suc, _+_, _*_, _-_, _≤_, _<_, max}
+use mathlib.Core.Path.{_≡_, refl, ap, _∙_}
+use mathlib.Core.Bool.{Bool, true, false, cond}
+use mathlib.Core.List.{List}
+use mathlib.Core.Logic.{_⊎_, inl, inr}
+use native.Mathlib.Omega.{arith}
+use borrow.Author.Tests.{lt-ltb, le-leb, lt-leb}
+use lib.Dec.{T, T-not, not-T, leb}
+use lib.ListN.{length, getD}
+use Rattle.plan.specs.Plan.{marksAt}
+use Rattle.timing.specs.declared.elements.Elements.{Elements}
+use Rattle.timing.specs.Formulas.{gateDelay, bufferDriver, bufferLoad, registerDriver}
+use Rattle.rules.specs.Rules.{Rules, rulesOf, noGate}
+use Rattle.rules.specs.Legal.{mayStand}
+use Rattle.rules.proofs.Truth.{split, both, parts, is-true, is-false, of-true, of-false, neqb→ne, ne→neqb}
+use Rattle.rules.proofs.Document01.{BufferSite, no-gate-stands, buffer-site, buffer-stands}
+use Rattle.budget.specs.Table.{Table, only, maxBelow, viaBuffer, arrival, loadOf, bufferCost, closeCost}
+use Rattle.rows.specs.Rows.{rowWords, copied, raised}
+use Rattle.table.specs.declared.problem.Problem.{Problem}
+use Rattle.table.specs.Problem.{planFor, rulesFor, Ready, budgetOf, seedOf}
+use Rattle.table.specs.ArrivalRow.{takesBuffers, bufferAt, behind, buffered}
+
+-- The maximum
+
+max-same : (n : ℕ) (f g : ℕ → ℕ) → ((i : ℕ) → i < n → f i ≡ g i) → maxBelow n f ≡ maxBelow n g
+unfolding maxBelow
+max-same zero f g e = refl
+max-same (suc n) f g e = cc (max-same n f g (λ i h. e i (omega arith)), e n (omega arith))
+
+-- candidates of 0 from `count` on add nothing
+max-longer : (n count : ℕ) (f : ℕ → ℕ) → count ≤ n → ((i : ℕ) → count ≤ i → i < n → f i ≡ 0) → maxBelow n f ≡ maxBelow count f
+unfolding maxBelow
+max-longer zero count f h e =
+    let z : count ≡ 0 = omega arith in
+    rw z
+max-longer (suc n) count f h e = go (max-longer n count f) (split count n)
+  where
+    go : (count ≤ n → ((i : ℕ) → count ≤ i → i < n → f i ≡ 0) → maxBelow n f ≡ maxBelow count f) → (count ≤ n) ⊎ (n < count) → max (maxBelow n f) (f n) ≡ maxBelow count f
+    go r (inl k) =
+        let q : maxBelow n f ≡ maxBelow count f = r k (λ i a b. e i a (omega arith)) in
+        let z : f n ≡ 0 = e n k (omega arith) in
+        omega arith
+    go r (inr k) =
+        let z : count ≡ suc n = omega arith in
+        rw z
+
+-- A word that is raised within the limit: x within it, z past it
+
+raised-once : (b : Bool) (word x y z : ℕ) → word ≡ cond b x z → cond b (max word y) word ≡ cond b (max x y) z
+raised-once true word x y z h = omega arith
+raised-once false word x y z h = h
+
+raised-twice : (b : Bool) (word x y z d : ℕ) → word ≡ cond b (max x y) z → cond b (max word d) word ≡ cond b (max x (max y d)) z
+raised-twice true word x y z d h = omega arith
+raised-twice false word x y z d h = h
+
+-- Buffer by buffer
+
+module _ (words : List ℕ) (from to : ℕ) (e : Elements) where
+  pub buffered-none : (l : ℕ) → buffered words from to e 0 l ≡ getD words (to + l) 0
+  unfolding buffered maxBelow
+  buffered-none l = go (leb l (e .limit .0))
+    where
+      go : (b : Bool) → cond b (max (getD words (to + l) 0) 0) (getD words (to + l) 0) ≡ getD words (to + l) 0
+      go true = omega arith
+      go false = refl
+
+  module _ (i l : ℕ) where
+    -- a buffer whose load is past the limit adds nothing
+    pub buffered-past : e .limit .0 < bufferLoad (bufferAt e i) → buffered words from to e i l ≡ buffered words from to e (suc i) l
+    unfolding buffered maxBelow behind only
+    buffered-past h =
+        simp (lt-leb _ _ h) (ap (λ (x : ℕ). cond (leb l (e .limit .0)) x (getD words (to + l) 0)) (omega arith))
+
+    -- any other raises the row so far
+    pub buffered-more : (so-far : List ℕ) → getD so-far (to + l) 0 ≡ buffered words from to e i l → getD so-far (from + bufferLoad (bufferAt e i)) 0 ≡ getD words (from + bufferLoad (bufferAt e i)) 0 → bufferLoad (bufferAt e i) ≤ e .limit .0 → raised so-far to (getD so-far (from + bufferLoad (bufferAt e i)) 0) (bufferDriver (bufferAt e i)) (e .limit .0) l ≡ buffered words from to e (suc i) l
+    unfolding buffered maxBelow behind only raised
+    buffered-more so-far here top h =
+        rw top (simp (le-leb _ _ h) (raised-twice (leb l (e .limit .0)) _ _ _ _ _ here))
+
+-- Where a buffer may stand, by the code's test and by the rules
+
+module _ (p : Problem) (marks : List ℕ) (cell : ℕ) where
+  abbrev site : Bool
+  site = takesBuffers (getD marks cell 0) p cell
+
+  takes-site : site ≡ true → (code : ℕ) → 1 ≤ code → code ≤ p .elements .count → BufferSite (planFor p marks) (p .elements) (p .source) (p .sink) cell code
+  unfolding takesBuffers planFor marksAt
+  takes-site e code h k =
+      let t = of-true site e in
+      record {
+        some = h;
+        listed = k;
+        unblocked = search (parts, t);
+        notSink = neqb→ne cell (p .sink) (search (parts, t));
+        notSource = neqb→ne cell (p .source) (search (parts, t));
+      }
+
+  site-takes : (code : ℕ) → BufferSite (planFor p marks) (p .elements) (p .source) (p .sink) cell code → T site
+  unfolding takesBuffers planFor marksAt
+  site-takes code s =
+      search (both, ne→neqb cell (p .source) (s .notSource), ne→neqb cell (p .sink) (s .notSink), s .unblocked)
+
+-- The parts of `arrival`, each as the words give it
+
+module _ (p : Problem) (marks words : List ℕ) (cell : ℕ) (ready : Ready p marks) (inside : cell < length marks) where
+  abbrev R : Rules
+  R = rulesFor p marks
+
+  abbrev e : Elements
+  e = p .elements
+
+  abbrev A : Table
+  A = budgetOf (length marks) words
+
+  budget-word : (l : ℕ) → l < rowWords → A cell l ≡ getD words (cell * 64 + l) 0
+  unfolding budgetOf only
+  budget-word l h = simp (lt-ltb cell (length marks) inside, lt-ltb l rowWords h)
+
+  buffer-load : (i : ℕ) → i < e .count → bufferLoad (bufferAt e i) < rowWords
+  unfolding bufferLoad bufferAt
+  buffer-load i h = omega (arith, ready .valid .buffers i (omega (arith, ready .valid .count)) .load)
+
+  buffer-named : (i : ℕ) → R .buffer (suc i) ≡ bufferAt e i
+  unfolding rulesFor rulesOf bufferAt
+  buffer-named i =
+      let z : suc i - 1 ≡ i = omega arith in
+      rw z
+
+  limit-named : R .limit ≡ e .limit .0
+  unfolding rulesFor rulesOf
+  limit-named = refl
+
+  via-standing : (i l : ℕ) → i < e .count → T (mayStand R cell (suc i)) → viaBuffer R A cell l (suc i) ≡ behind words (cell * 64) e l i
+  unfolding viaBuffer behind loadOf bufferCost only
+  via-standing i l h t =
+      simp
+      (is-true (mayStand R cell (suc i)) t, buffer-named i, limit-named, budget-word (bufferLoad (bufferAt e i)) (buffer-load i h))
+
+  via-refused : (i l : ℕ) → (T (mayStand R cell (suc i)) → ⊥) → viaBuffer R A cell l (suc i) ≡ 0
+  unfolding viaBuffer only
+  via-refused i l t = simp (is-false (mayStand R cell (suc i)) (not-T (mayStand R cell (suc i)) t))
+
+  -- the buffers give the maximum over those that are listed, where a buffer may stand at all
+  buffers-listed : site p marks cell ≡ true → (l : ℕ) → maxBelow 6 (λ i. viaBuffer R A cell l (suc i)) ≡ maxBelow (e .count) (behind words (cell * 64) e l)
+  unfolding rulesFor
+  buffers-listed s l =
+      max-longer 6 (e .count) (λ i. viaBuffer R A cell l (suc i)) (ready .valid .count) (λ i h k. via-refused i l (λ t. omega (arith, buffer-site (planFor p marks) e (p .source) (p .sink) cell (suc i) (λ z. omega arith) (λ z. omega arith) t .listed)))
+      ∙ max-same (e .count) (λ i. viaBuffer R A cell l (suc i)) (behind words (cell * 64) e l) (λ i h. via-standing i l h (buffer-stands (planFor p marks) e (p .source) (p .sink) cell (suc i) (ready .valid .count) (takes-site p marks cell s (suc i) (omega arith) (omega arith))))
+
+  buffers-none : site p marks cell ≡ false → (l : ℕ) → maxBelow 6 (λ i. viaBuffer R A cell l (suc i)) ≡ 0
+  unfolding rulesFor maxBelow
+  buffers-none s l =
+      max-longer 6 0 (λ i. viaBuffer R A cell l (suc i)) (omega arith) (λ i h k. via-refused i l (λ t. T-not (site p marks cell) (of-false (site p marks cell) s) (site-takes p marks cell (suc i) (buffer-site (planFor p marks) e (p .source) (p .sink) cell (suc i) (λ z. omega arith) (λ z. omega arith) t))))
+
+  -- the row before a register is tried
+  unfoldable pub through : ℕ → ℕ
+  through l = only (leb l (e .limit .0)) (max (getD words (cell * 64 + l) 0) (maxBelow 6 (λ i. viaBuffer R A cell l (suc i))))
+
+  -- `arrival` at a cell of the plan
+  whole : (l : ℕ) → l < rowWords → arrival R (seedOf (length marks) words) (R .bound 0) A cell l ≡ only (leb l (e .limit .0)) (max (getD words (cell * 64 + l) 0) (max (maxBelow 6 (λ i. viaBuffer R A cell l (suc i))) (only (seedOf (length marks) words cell) (2 * e .period + 1 - gateDelay (registerDriver (e .register)) l))))
+  unfolding arrival closeCost rulesFor rulesOf only
+  whole l h =
+      simp
+      (is-true (mayStand R cell noGate) (no-gate-stands (planFor p marks) e (p .source) (p .sink) cell), budget-word l h)
+
+  pub copied-through : site p marks cell ≡ false → (l : ℕ) → copied words (cell * 64) (e .limit .0) l ≡ through l
+  unfolding copied through
+  copied-through s l = rw (buffers-none s l) (ap (only (leb l (e .limit .0))) (omega arith))
+
+  pub through-arrival : seedOf (length marks) words cell ≡ false → (l : ℕ) → l < rowWords → through l ≡ arrival R (seedOf (length marks) words) (R .bound 0) A cell l
+  unfolding through only
+  through-arrival s l h = rw (whole l h) (simp s (ap (only (leb l (e .limit .0))) (omega arith)))
+
+  module _ (mid : List ℕ) (to l : ℕ) where
+    pub buffered-through : site p marks cell ≡ true → ((k : ℕ) → k < rowWords → getD mid (cell * 64 + k) 0 ≡ getD words (cell * 64 + k) 0) → getD mid (to + l) 0 ≡ copied words (cell * 64) (e .limit .0) l → buffered mid (cell * 64) to e (e .count) l ≡ through l
+    unfolding copied through buffered only behind
+    buffered-through s row here =
+        rw (buffers-listed s l, ← same) (raised-once (leb l (e .limit .0)) _ _ _ _ here)
+      where
+        same : maxBelow (e .count) (behind mid (cell * 64) e l) ≡ maxBelow (e .count) (behind words (cell * 64) e l)
+        same =
+            max-same (e .count) (behind mid (cell * 64) e l) (behind words (cell * 64) e l) (λ i h. simp (row (bufferLoad (bufferAt e i)) (buffer-load i h)))
+
+    pub raised-arrival : seedOf (length marks) words cell ≡ true → l < rowWords → getD mid (to + l) 0 ≡ through l → raised mid to (2 * e .period + 1) (registerDriver (e .register)) (e .limit .0) l ≡ arrival R (seedOf (length marks) words) (R .bound 0) A cell l
+    unfolding raised through only
+    raised-arrival s h here = rw (whole l h) (simp s (raised-twice (leb l (e .limit .0)) _ _ _ _ _ here))

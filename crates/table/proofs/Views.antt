@@ -1,0 +1,67 @@
+-- Reading the tables in the scratch words, and keeping them.
+use Prim.Native.Nat.{ℕ, zero, suc, _+_, _-_, _*_, _≤_, _<_, max}
+use mathlib.Core.Path.{_≡_, refl, sym, ap, _∙_}
+use mathlib.Core.Bool.{Bool, true, false, _&&_}
+use mathlib.Core.Logic.{_⊎_, inl, inr}
+use mathlib.Core.List.{List}
+use native.Mathlib.Omega.{arith}
+use lib.Dec.{T, eqb, ltb, ltb→lt, lt→ltb}
+use lib.ListN.{length, getD}
+use Rattle.rules.proofs.Truth.{both, fst, snd, decided}
+use Rattle.budget.specs.Table.{Table, only}
+use Rattle.budget.proofs.Sides.{only-true, only-false}
+use Rattle.rows.specs.Words.{Kept, KeptFrom}
+use Rattle.rows.specs.Rows.{rowWords}
+use Rattle.table.specs.Problem.{budgetOf, seedOf}
+use Rattle.table.specs.Layer.{arrivalsOf}
+
+module _ (n : ℕ) where
+  in-table : (c l : ℕ) → c < n → l < rowWords → T (ltb c n && ltb l rowWords)
+  in-table c l h k = both (ltb c n) (ltb l rowWords) (lt→ltb c n h) (lt→ltb l rowWords k)
+
+  pub budget-at : (words : List ℕ) (c l : ℕ) → c < n → l < rowWords → budgetOf n words c l ≡ getD words (c * 64 + l) 0
+  unfolding budgetOf
+  budget-at words c l h k = only-true (ltb c n && ltb l rowWords) _ (in-table c l h k)
+
+  pub budget-outside : (words : List ℕ) (c l : ℕ) → (c < n → l < rowWords → ⊥) → budgetOf n words c l ≡ 0
+  unfolding budgetOf
+  budget-outside words c l f =
+      only-false (ltb c n && ltb l rowWords) _ (λ t. f (ltb→lt c n (fst (ltb c n) _ t)) (ltb→lt l rowWords (snd (ltb c n) _ t)))
+
+  pub arrivals-at : (words : List ℕ) (c l : ℕ) → c < n → l < rowWords → arrivalsOf n words c l ≡ getD words (n * 64 + c * 64 + l) 0
+  unfolding arrivalsOf
+  arrivals-at words c l h k = only-true (ltb c n && ltb l rowWords) _ (in-table c l h k)
+
+  pub arrivals-outside : (words : List ℕ) (c l : ℕ) → (c < n → l < rowWords → ⊥) → arrivalsOf n words c l ≡ 0
+  unfolding arrivalsOf
+  arrivals-outside words c l f =
+      only-false (ltb c n && ltb l rowWords) _ (λ t. f (ltb→lt c n (fst (ltb c n) _ t)) (ltb→lt l rowWords (snd (ltb c n) _ t)))
+
+  -- a place of the table, or outside it
+  pub inside : (c l : ℕ) → ((c < n) × (l < rowWords)) ⊎ (c < n → l < rowWords → ⊥)
+  inside c l = go (Rattle.rules.proofs.Truth.split n c) (Rattle.rules.proofs.Truth.split rowWords l)
+    where
+      go : (n ≤ c) ⊎ (c < n) → (rowWords ≤ l) ⊎ (l < rowWords) → ((c < n) × (l < rowWords)) ⊎ (c < n → l < rowWords → ⊥)
+      go (inl h) k = inr (λ a b. omega arith)
+      go (inr h) (inl k) = inr (λ a b. omega arith)
+      go (inr h) (inr k) = inl (h, k)
+
+  -- tables stay with their words
+
+  pub budget-kept : (old new : List ℕ) → Kept 0 (n * 64) old new → (c l : ℕ) → budgetOf n new c l ≡ budgetOf n old c l
+  budget-kept old new kept c l = go (inside c l)
+    where
+      go : ((c < n) × (l < rowWords)) ⊎ (c < n → l < rowWords → ⊥) → budgetOf n new c l ≡ budgetOf n old c l
+      go (inl h) = budget-at new c l (h .0) (h .1) ∙ (kept (c * 64 + l) (omega arith) (omega arith) ∙ sym (budget-at old c l (h .0) (h .1)))
+      go (inr f) = budget-outside new c l f ∙ sym (budget-outside old c l f)
+
+  pub arrivals-kept : (old new : List ℕ) → Kept (n * 64) (n * 128) old new → (c l : ℕ) → arrivalsOf n new c l ≡ arrivalsOf n old c l
+  arrivals-kept old new kept c l = go (inside c l)
+    where
+      go : ((c < n) × (l < rowWords)) ⊎ (c < n → l < rowWords → ⊥) → arrivalsOf n new c l ≡ arrivalsOf n old c l
+      go (inl h) = arrivals-at new c l (h .0) (h .1) ∙ (kept (n * 64 + c * 64 + l) (omega arith) (omega arith) ∙ sym (arrivals-at old c l (h .0) (h .1)))
+      go (inr f) = arrivals-outside new c l f ∙ sym (arrivals-outside old c l f)
+
+  pub seeds-kept : (old new : List ℕ) → KeptFrom (n * 135) old new → (c : ℕ) → seedOf n new c ≡ seedOf n old c
+  unfolding seedOf
+  seeds-kept old new kept c = rw (kept (n * 135 + c) (omega arith))

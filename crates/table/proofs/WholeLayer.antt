@@ -1,0 +1,128 @@
+-- The parts of a layer put together.
+use Prim.Native.Nat.{ℕ, zero, suc, _+_, _-_, _*_, _≤_, _<_, max}
+use mathlib.Core.Path.{_≡_, refl, sym, ap, _∙_}
+use mathlib.Core.Logic.{_⊎_, inl, inr}
+use mathlib.Core.List.{List}
+use native.Mathlib.Omega.{arith}
+use lib.ListN.{length, getD}
+use Rattle.rules.specs.Rules.{Rules}
+use Rattle.budget.specs.Table.{Table, arrival, given, layer}
+use Rattle.budget.proofs.Active.{pushes-layer, given-most, layer-least, arrival-row, given-row}
+use Rattle.rows.specs.Words.{Kept, KeptFrom}
+use Rattle.rows.specs.Rows.{rowWords}
+use Rattle.lists.specs.Lists.{flagOf, Place, Listed, Taken}
+use Rattle.lists.proofs.Lists.{bit-cases, listed-count}
+use Rattle.table.specs.Problem.{budgetOf, seedOf}
+use Rattle.table.specs.Layer.{arrivalsOf, Settled, Active, Grew, SameRow, ArrivalsFilled, Raised, SpreadAll, Layered}
+use Rattle.table.proofs.Fills.{filled-row}
+use Rattle.table.proofs.Views.{budget-kept, seeds-kept}
+
+-- pushes after pushes
+pub raised-more : (n : ℕ) (a b d : List ℕ) (k m : ℕ) → ((c l : ℕ) → budgetOf n a c l ≤ budgetOf n b c l) → ((c l : ℕ) → budgetOf n b c l ≤ budgetOf n d c l) → Raised n a b k → Raised n b d m → Raised n a d m
+raised-more n a b d k m up1 up2 r s =
+    record {
+      same = s .same ∙ r .same;
+      listed = s .listed;
+      flags = λ c h. flags c (s .flags c h) (r .flags c h);
+      quiet = λ c h z. quiet c h z (s .flags c h);
+      kept = λ i lo hi. s .kept i lo hi ∙ r .kept i lo hi;
+      rest = λ i lo. s .rest i lo ∙ r .rest i lo;
+    }
+  where
+    flags : (c : ℕ) → (flagOf n d c ≡ flagOf n b c) ⊎ ((flagOf n d c ≡ 1) × Grew n b d c) → (flagOf n b c ≡ flagOf n a c) ⊎ ((flagOf n b c ≡ 1) × Grew n a b c) → (flagOf n d c ≡ flagOf n a c) ⊎ ((flagOf n d c ≡ 1) × Grew n a d c)
+    flags c (inl e) (inl f) = inl (e ∙ f)
+    flags c (inl e) (inr f) = inr (e ∙ f .0, record { load = f .1 .load; more = omega (arith, f .1 .more, up2 c (f .1 .load)) })
+    flags c (inr e) f = inr (e .0, record { load = e .1 .load; more = omega (arith, e .1 .more, up1 c (e .1 .load)) })
+
+    quiet : (c : ℕ) → c < n → flagOf n d c ≡ 0 → (flagOf n d c ≡ flagOf n b c) ⊎ ((flagOf n d c ≡ 1) × Grew n b d c) → SameRow n a d c
+    quiet c h z (inl e) l = s .quiet c h z l ∙ r .quiet c h (sym e ∙ z) l
+    quiet c h z (inr e) l = absurd (omega (arith, e .0))
+
+-- From the arrival rows, the pushes and the new list to the layer.
+module _ (R : Rules) (n : ℕ) (old mid pushed new : List ℕ) (active next : ℕ) (cells : R .cellCount ≡ n) (start : Active R n old active) (filled : ArrivalsFilled R n old mid) (spread : SpreadAll R n active mid pushed next) (taken : Taken n next pushed new) where
+  abbrev B : Table
+  B = arrival R (seedOf n old) (R .bound 0) (budgetOf n old)
+
+  same-budget : (c l : ℕ) → budgetOf n mid c l ≡ budgetOf n old c l
+  same-budget = budget-kept n old mid (filled .table)
+
+  final-budget : (c l : ℕ) → budgetOf n new c l ≡ budgetOf n pushed c l
+  final-budget = budget-kept n pushed new (λ i lo hi. taken .low i (omega arith))
+
+  same-list : (i : ℕ) → i < active → getD mid (n * 132 + i) 0 ≡ getD old (n * 132 + i) 0
+  same-list i h = filled .labels (n * 132 + i) (omega arith) (omega (arith, listed-count (start .listed)))
+
+  module _ (lim : R .limit < rowWords) where
+    -- what a cell on the list gives
+    gives : (i : ℕ) → i < active → (c l : ℕ) → given R (arrivalsOf n mid) (getD mid (n * 132 + i) 0) c l ≡ given R B (getD old (n * 132 + i) 0) c l
+    gives i h c l =
+        let x : ℕ = getD old (n * 132 + i) 0 in
+        let e : getD mid (n * 132 + i) 0 ≡ x = same-list i h in
+        rw e (given-row R B (arrivalsOf n mid) x (filled-row R n old mid filled lim x (start .listed .cells i h) (start .listed .flagged i h)) c l)
+
+    least : (c l : ℕ) → budgetOf n old c l ≤ budgetOf n new c l
+    least c l = omega (arith, same-budget c l, spread .least c l, final-budget c l)
+
+    most : (c l : ℕ) → budgetOf n new c l ≤ layer R (seedOf n old) (R .bound 0) (budgetOf n old) c l
+    most c l =
+        omega (
+          arith,
+          final-budget c l,
+          spread .most (layer R (seedOf n old) (R .bound 0) (budgetOf n old) c l) c l
+              (omega (arith, same-budget c l, layer-least R (seedOf n old) (R .bound 0) (budgetOf n old) c l))
+              (λ i h.
+              omega (
+                arith,
+                gives i h c l,
+                given-most R (seedOf n old) (R .bound 0) (budgetOf n old) (getD old (n * 132 + i) 0) c l (omega (arith, start .listed .cells i h)),
+              )),
+        )
+
+    all : (x c l : ℕ) → x < n → given R B x c l ≤ budgetOf n new c l
+    all x c l h = go (bit-cases (flagOf n old x) (start .listed .bits x h))
+      where
+        listed : Place n old (n * 132) active x → given R B x c l ≤ budgetOf n new c l
+        listed p =
+            let q : given R B (getD old (n * 132 + p .at) 0) c l ≤ budgetOf n new c l = omega (arith, gives (p .at) (p .below) c l, spread .gave (p .at) (p .below) c l, final-budget c l) in
+            rw (p .holds) at q
+
+        go : (flagOf n old x ≡ 0) ⊎ (flagOf n old x ≡ 1) → given R B x c l ≤ budgetOf n new c l
+        go (inl z) = omega (arith, start .settled x h z c l, least c l)
+        go (inr z) = listed (start .listed .covered x h z)
+
+    flag-new : (c : ℕ) → flagOf n new c ≡ flagOf n pushed c
+    flag-new c = taken .high (n * 134 + c) (omega arith)
+
+    grew : (c : ℕ) → c < n → flagOf n new c ≡ 1 → Grew n old new c
+    grew c h f = go (spread .raised .flags c h)
+      where
+        go : (flagOf n pushed c ≡ flagOf n mid c) ⊎ ((flagOf n pushed c ≡ 1) × Grew n mid pushed c) → Grew n old new c
+        go (inl e) = absurd (omega (arith, flag-new c, filled .cleared c h))
+        go (inr g) = record { load = g .1 .load; more = omega (arith, g .1 .more, same-budget c (g .1 .load), final-budget c (g .1 .load)) }
+
+    quiet : (c : ℕ) → c < n → flagOf n new c ≡ 0 → SameRow n old new c
+    quiet c h f l = final-budget c l ∙ (spread .raised .quiet c h (sym (flag-new c) ∙ f) l ∙ same-budget c l)
+
+    rest : KeptFrom (n * 135) old new
+    rest i h = taken .high i (omega arith) ∙ (spread .raised .rest i h ∙ filled .rest i h)
+
+    settled : (x : ℕ) → x < n → flagOf n new x ≡ 0 → Settled R n new x
+    settled x h f c l =
+        omega (
+          arith,
+          given-row R B (arrival R (seedOf n new) (R .bound 0) (budgetOf n new)) x
+              (arrival-row R (seedOf n old) (seedOf n new) (R .bound 0) (budgetOf n old) (budgetOf n new) x (quiet x h f) (seeds-kept n old new rest x)) c l,
+          all x c l h,
+        )
+
+    pub layered : Layered R n old new next
+    layered =
+        record {
+          same = taken .same ∙ (spread .raised .same ∙ filled .same);
+          table = pushes-layer R (seedOf n old) (R .bound 0) (budgetOf n old) (budgetOf n new) least most (λ x c l h. all x c l (omega arith));
+          active = record { listed = taken .listed; settled = settled };
+          grew = grew;
+          quiet = quiet;
+          labels = λ i lo hi. taken .low i hi ∙ (spread .raised .kept i (omega arith) (omega arith) ∙ filled .labels i lo (omega arith));
+          rest = rest;
+        }

@@ -1,0 +1,144 @@
+-- The row is `through` after the buffers (`mid`), whichever way the test of the site went, and `arrival` after the register. The seed flag lies beyond the rows, so it is as it was.
+use Prim.Native.Nat.{_+_, _*_}
+use mathlib.Core.Path.{_≡_, sym, _∙_}
+use mathlib.Core.Logic.{⊎-elim}
+use native.Mathlib.Omega.{arith}
+use borrow.Author.Needs.{needs}
+use borrow.Author.Tests.{eq-eqb, ne-eqb}
+use lib.ListN.{length, getD}
+use Rattle.timing.specs.Formulas.{registerDriver}
+use Rattle.rows.specs.Words.{Filled}
+use Rattle.rows.specs.Rows.{rowWords, copied, raised}
+use Rattle.rows.proofs.Words.{filled-as, filled-twice}
+use Rattle.table.specs.Problem.{seedOf}
+use Rattle.table.specs.ArrivalRow.{takesBuffers, buffered}
+use Rattle.table.proofs.ArrivalRow.{through, copied-through, buffered-through, through-arrival, raised-arrival}
+use Rattle.table.proofs.arrival.fill_arrival.Statement.{statement}
+use Rattle.table.proofs.arrival.fill_arrival.Tie as tie
+
+mul-from : tie.Need-mul-from
+mul-from c = search needs
+
+mul-to : tie.Need-mul-to
+mul-to c = search needs
+
+mul-to-2 : tie.Need-mul-to-2
+mul-to-2 c = search needs
+
+add-to : tie.Need-add-to
+add-to c = search needs
+
+cast-limit : tie.Need-cast-limit
+cast-limit c = search needs
+
+copy-row-requires : tie.Need-copy-row-requires
+copy-row-requires c κs = search needs
+
+shared-slice-read-takes-buffers : tie.Need-shared-slice-read-takes-buffers
+shared-slice-read-takes-buffers c = search needs
+
+takes-buffers-requires : tie.Need-takes-buffers-requires
+takes-buffers-requires c κs = search needs
+
+raise-buffers-requires : tie.Need-raise-buffers-requires
+raise-buffers-requires c κs = search needs
+
+mul-if2 : tie.Need-mul-if2
+mul-if2 c = search needs
+
+add-if2 : tie.Need-add-if2
+add-if2 c = search needs
+
+mul-if2-2 : tie.Need-mul-if2-2
+mul-if2-2 c = search needs
+
+-- the row that the buffers leave
+mid : (c : tie.Joined1) → let start = c .before .before .before .before .before .before .before .before .before .before .before in Filled (through (start .args .p) (start .args .plan .now) (start .args .scratch .now) (start .args .cell) (start .pre .ready) (start .pre .inside)) (length (start .args .plan .now) * 64 + start .args .cell * 64) rowWords (start .args .scratch .now) (c .if1 .scratch)
+mid c =
+    let start = c .before .before .before .before .before .before .before .before .before .before .before in
+    let a = start .args in
+    let to = length (a .plan .now) * 64 + a .cell * 64 in
+    let test : c .before .takes-buffers .result ≡ takesBuffers (getD (a .plan .now) (a .cell) 0) (a .p) (a .cell) = c .before .takes-buffers .ensures in
+    let copy : Filled (copied (a .scratch .now) (a .cell * 64) (a .p .elements .limit .0)) to rowWords (a .scratch .now) (c .before .before .before .before .before .copy-row .last .0) = c .before .before .before .before .before .copy-row .ensures in
+    ⊎-elim
+    (λ w.
+    let raise : Filled (buffered (c .before .before .before .before .before .copy-row .last .0) (a .cell * 64) to (a .p .elements) (a .p .elements .count)) to rowWords (c .before .before .before .before .before .copy-row .last .0) (w .2 .last .0) = w .2 .ensures in
+    rw (w .5) (filled-as (filled-twice copy _ _ raise) _ (λ k h. buffered-through (a .p) (a .plan .now) (a .scratch .now) (a .cell) (start .pre .ready) (start .pre .inside) _ to k (sym test ∙ w .0 .taken) (λ j l. copy .low (a .cell * 64 + j) (omega arith)) (copy .done k h))))
+    (λ w. rw (w .1) (filled-as copy _ (λ k h. copied-through (a .p) (a .plan .now) (a .scratch .now) (a .cell) (start .pre .ready) (start .pre .inside) (sym test ∙ w .0 .left) k)))
+    (c .if1 .came)
+
+slice-read-if2 : tie.Need-slice-read-if2
+slice-read-if2 c = omega (arith, mid (c .before) .same, c .before .before .before .before .before .before .before .before .before .before .before .before .pre .room)
+
+mul-raise-row : tie.Need-mul-raise-row
+mul-raise-row c = search needs
+
+add-raise-row : tie.Need-add-raise-row
+add-raise-row c = search needs
+
+driver-requires : tie.Need-driver-requires
+driver-requires c κs = search needs
+
+raise-row-requires : tie.Need-raise-row-requires
+unfolding registerDriver
+raise-row-requires c κs =
+    let start = c .before .before .before .before .before .before .before .before .before .before .before .before .before .before .before .before .before in
+    let driver : c .driver .result ≡ registerDriver (start .args .p .elements .register) = c .driver .ensures in
+    (rw driver (start .pre .ready .valid .register .driver), omega (arith, mid (c .before .before .before .before .before .before) .same, start .pre .room))
+
+same-length : tie.Need-same-length
+same-length c = c .before .before .raise-row .ensures .same ∙ mid (c .before .before .before .before .before .before .before .before .before) .same
+
+-- the seed flag is as it was
+flag : (c : tie.Joined1) → let a = c .before .before .before .before .before .before .before .before .before .before .before .args in let k = length (a .plan .now) * 135 + a .cell in getD (c .if1 .scratch) k 0 ≡ getD (a .scratch .now) k 0
+flag c =
+    let start = c .before .before .before .before .before .before .before .before .before .before .before in
+    mid c .high (length (start .args .plan .now) * 135 + start .args .cell) (omega (arith, start .pre .inside))
+
+returns : tie.Need-returns
+unfolding seedOf
+returns c =
+    let join = c .before .before .before .before .before .before .before .before .before in
+    let start = join .before .before .before .before .before .before .before .before .before .before .before in
+    let a = start .args in
+    let to = length (a .plan .now) * 64 + a .cell * 64 in
+    let driver : c .before .before .before .driver .result ≡ registerDriver (a .p .elements .register) = c .before .before .before .driver .ensures in
+    let raise : Filled (raised (join .if1 .scratch) to (2 * a .p .elements .period + 1) (c .before .before .before .driver .result) (a .p .elements .limit .0)) to rowWords (join .if1 .scratch) (c .before .before .raise-row .last .0) = c .before .before .raise-row .ensures in
+    filled-as (filled-twice (mid join) _ _ (rw driver at raise)) _ (λ k h. raised-arrival (a .p) (a .plan .now) (a .scratch .now) (a .cell) (start .pre .ready) (start .pre .inside) _ to k (eq-eqb _ _ (sym (flag join) ∙ c .before .before .before .before .before .before .before .if2 .taken)) h (mid join .done k h))
+
+same-length-2 : tie.Need-same-length-2
+same-length-2 c = mid (c .before .before) .same
+
+returns-2 : tie.Need-returns-2
+unfolding seedOf
+returns-2 c =
+    let join = c .before .before in
+    let start = join .before .before .before .before .before .before .before .before .before .before .before in
+    let a = start .args in
+    filled-as (mid join) _ (λ k h. through-arrival (a .p) (a .plan .now) (a .scratch .now) (a .cell) (start .pre .ready) (start .pre .inside) (ne-eqb _ _ (λ z. c .if2 .left (flag join ∙ z))) k h)
+
+pub fill-arrival-spec : {M : Type 1} → statement M
+fill-arrival-spec =
+    tie.close
+    (tie.spec
+    mul-from
+    mul-to
+    mul-to-2
+    add-to
+    cast-limit
+    copy-row-requires
+    shared-slice-read-takes-buffers
+    takes-buffers-requires
+    raise-buffers-requires
+    mul-if2
+    add-if2
+    mul-if2-2
+    slice-read-if2
+    mul-raise-row
+    add-raise-row
+    driver-requires
+    raise-row-requires
+    same-length
+    returns
+    same-length-2
+    returns-2)

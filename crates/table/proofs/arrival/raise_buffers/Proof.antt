@@ -1,0 +1,118 @@
+-- After i buffers the row at `to` is `buffered` by the first i; the budget row lies before it, so it is as it was.
+use Prim.Native.Nat.{_+_, _-_, _≤_}
+use mathlib.Core.Path.{_≡_, sym}
+use mathlib.Core.Logic.{⊎-elim}
+use native.Mathlib.Omega.{arith}
+use native.Mathlib.Numerals.{add-one}
+use borrow.Author.Needs.{needs}
+use lib.ListN.{getD}
+use Rattle.timing.specs.Elements.{bufferOf, driverOf}
+use Rattle.timing.specs.Formulas.{bufferDriver, bufferLoad}
+use Rattle.rows.specs.Words.{Filled}
+use Rattle.rows.specs.Rows.{rowWords, raised}
+use Rattle.rows.proofs.Words.{filled-none, filled-longer, filled-as, filled-twice}
+use Rattle.table.specs.ArrivalRow.{bufferAt, buffered}
+use Rattle.table.proofs.ArrivalRow.{buffered-none, buffered-past, buffered-more}
+use Rattle.table.proofs.arrival.raise_buffers.Statement.{statement}
+use Rattle.table.proofs.arrival.raise_buffers.Tie as tie
+
+abbrev Inv-loop : tie.InvT-loop
+Inv-loop scratch₀ from to elements limit count i₀ scratch i = (i ≤ elements .count) × Filled (buffered scratch₀ from to elements i) to rowWords scratch₀ scratch
+
+abbrev μ-loop : tie.MeasureT-loop
+μ-loop scratch₀ from to elements limit count i₀ scratch i = elements .count - i
+
+cast-limit : tie.Need-cast-limit Inv-loop μ-loop
+cast-limit c = omega arith
+
+loop-holds : tie.Need-loop-holds Inv-loop μ-loop
+loop-holds c = (omega arith, filled-longer (filled-none _ _ _) rowWords (omega arith) (λ k a b. sym (buffered-none _ _ _ _ k)))
+
+mul-buffer : tie.Need-mul-buffer Inv-loop μ-loop
+mul-buffer c = omega arith
+
+element-copy-out-buffer : tie.Need-element-copy-out-buffer Inv-loop μ-loop
+element-copy-out-buffer c = omega arith
+
+load-requires : tie.Need-load-requires Inv-loop μ-loop
+load-requires c κs = search needs
+
+cast-load : tie.Need-cast-load Inv-loop μ-loop
+cast-load c = omega arith
+
+add-top : tie.Need-add-top Inv-loop μ-loop
+add-top c = omega arith
+
+mul-top : tie.Need-mul-top Inv-loop μ-loop
+mul-top c = omega arith
+
+slice-read-top : tie.Need-slice-read-top Inv-loop μ-loop
+slice-read-top c = omega arith
+
+driver-requires : tie.Need-driver-requires Inv-loop μ-loop
+driver-requires c κs = search needs
+
+raise-row-requires : tie.Need-raise-row-requires Inv-loop μ-loop
+unfolding bufferAt bufferOf driverOf bufferDriver
+raise-row-requires c κs =
+    let start = c .before .before .before .before .before .before .before .before .before .before in
+    let loop = c .before .before .before .before .before .before .before .before .loop in
+    let e = start .args .t4 in
+    let driver : c .driver .result ≡ bufferDriver (bufferAt e (loop .i)) = c .driver .ensures in
+    (rw driver (start .pre .valid .buffers (loop .i) (omega arith) .driver), omega (arith, loop .inv .1 .same))
+
+add-i : tie.Need-add-i Inv-loop μ-loop
+add-i c = omega arith
+
+loop-less : tie.Need-loop-less Inv-loop μ-loop
+loop-less c = omega arith
+
+loop-again : tie.Need-loop-again Inv-loop μ-loop
+unfolding bufferAt bufferOf driverOf bufferDriver
+loop-again c =
+    let start = c .before .before .before .before .before .before .before in
+    let loop = c .before .before .before .before .before .loop in
+    let a = start .args in
+    let b = bufferAt (a .t4) (loop .i) in
+    let load : c .before .before .load .result .0 ≡ bufferLoad b = c .before .before .load .ensures in (
+      omega arith,
+      rw add-one (⊎-elim
+          (λ w.
+          let driver : w .3 .result ≡ bufferDriver b = w .3 .ensures in
+          let raise : Filled (raised (loop .scratch) (a .to) (getD (loop .scratch) (a .from + c .before .before .load .result .0) 0) (w .3 .result) (a .t4 .limit .0)) (a .to) rowWords (loop .scratch) (w .4 .last .0) = w .4 .ensures in
+          let top = loop .inv .1 .low (a .from + bufferLoad b) (omega arith) in
+          rw (w .7) (filled-as (filled-twice (loop .inv .1) _ _ (rw (load, driver) at raise)) _ (λ k h. buffered-more (a .scratch .now) (a .from) (a .to) (a .t4) (loop .i) k (loop .scratch) (loop .inv .1 .done k h) top (omega (arith, load, w .0 .taken)))))
+          (λ w. rw (w .1) (filled-as (loop .inv .1) _ (λ k h. buffered-past (a .scratch .now) (a .from) (a .to) (a .t4) (loop .i) k (omega (arith, load, w .0 .left)))))
+          (c .if1 .came)),
+    )
+
+same-length : tie.Need-same-length Inv-loop μ-loop
+same-length c = omega arith
+
+returns : tie.Need-returns Inv-loop μ-loop
+returns c =
+    let end : c .before .loop .i ≡ c .before .before .before .args .t4 .count = omega arith in
+    rw end at (c .before .loop .inv .1)
+
+pub raise-buffers-spec : {M : Type 1} → statement M
+raise-buffers-spec =
+    tie.close
+    (tie.spec
+    Inv-loop
+    μ-loop
+    cast-limit
+    loop-holds
+    mul-buffer
+    element-copy-out-buffer
+    load-requires
+    cast-load
+    add-top
+    mul-top
+    slice-read-top
+    driver-requires
+    raise-row-requires
+    add-i
+    loop-less
+    loop-again
+    same-length
+    returns)

@@ -1,0 +1,66 @@
+-- `table::pushes::offer` meets its contract: the laws of proofs/Offers, one for each way out.
+use Prim.Native.Nat.{ℕ, _+_, _*_, _<_, _≤_}
+use mathlib.Core.Path.{_≡_}
+use native.Mathlib.Omega.{arith}
+use borrow.Author.Needs.{needs}
+use lib.ListN.{getD}
+use Rattle.lists.proofs.Lists.{listed-kept, listed-count}
+use Rattle.table.proofs.Offers.{offer-none, offer-quiet, offer-grew}
+use Rattle.table.proofs.pushes.offer.Statement.{statement}
+use Rattle.table.proofs.pushes.offer.Tie as tie
+
+returns : tie.Need-returns
+returns c =
+    let a = c .before .before .args in
+    offer-none (a .n) (a .cell) (a .to) (a .wire) (a .limit) (a .next) _ (c .before .before .pre) (c .if1 .taken)
+
+mul-push-row : tie.Need-mul-push-row
+mul-push-row c = search needs
+
+mul-push-row-2 : tie.Need-mul-push-row-2
+mul-push-row-2 c = search needs
+
+add-push-row : tie.Need-add-push-row
+add-push-row c = search needs
+
+mul-push-row-3 : tie.Need-mul-push-row-3
+mul-push-row-3 c = search needs
+
+push-row-requires : tie.Need-push-row-requires
+push-row-requires c κs =
+    let a = c .before .before .before .pre in
+    (a .wireFits, (a .light, (omega arith, omega (arith, a .cellIn, a .room))))
+
+mul-enlist : tie.Need-mul-enlist
+mul-enlist c = search needs
+
+enlist-requires : tie.Need-enlist-requires
+enlist-requires c κs =
+    let s = c .before .before .before .before .before .before .before .before in
+    let f = c .before .before .before .before .push-row .ensures .filled in
+    let few = listed-count (s .pre .listed) in
+    let inPlan : s .args .to < s .args .n = omega arith in (
+      listed-kept (s .pre .listed) _ (λ k h. f .high (s .args .n * 134 + k) (omega arith)) (λ i h. f .high (s .args .n * 133 + i) (omega arith)),
+      (inPlan, (s .pre .few, (omega arith, omega (arith, f .same, s .pre .room)))),
+    )
+
+same-length : tie.Need-same-length
+same-length c = search needs
+
+returns-2 : tie.Need-returns-2
+returns-2 c =
+    let s = c .before .before .before .before .before .before .before .before .before .before .before in
+    let a = s .args in
+    offer-grew (a .n) (a .cell) (a .to) (a .wire) (a .limit) (a .next) _ (s .pre) _ (omega arith) _ (c .before .before .before .before .before .before .before .push-row .ensures) _ _ (c .before .before .before .before .if2 .taken) (c .before .before .enlist .ensures)
+
+same-length-2 : tie.Need-same-length-2
+same-length-2 c = search needs
+
+returns-3 : tie.Need-returns-3
+returns-3 c =
+    let s = c .before .before .before .before .before .before .before in
+    let a = s .args in
+    offer-quiet (a .n) (a .cell) (a .to) (a .wire) (a .limit) (a .next) _ (s .pre) _ (omega arith) _ (c .before .before .before .push-row .ensures) (c .if2 .left)
+
+pub offer-spec : {M : Type 1} → statement M
+offer-spec = tie.close (tie.spec returns mul-push-row mul-push-row-2 add-push-row mul-push-row-3 push-row-requires mul-enlist enlist-requires same-length returns-2 same-length-2 returns-3)

@@ -1,0 +1,65 @@
+-- `table::pushes::spread` meets its contract: the four offers, by proofs/Spreads.
+use Prim.Native.Nat.{ℕ, _+_, _*_, _<_, _≤_}
+use mathlib.Core.Path.{_≡_, refl, sym, _∙_}
+use native.Mathlib.Omega.{arith}
+use borrow.Author.Needs.{needs}
+use Rattle.plan.proofs.Sides.{ascending}
+use Rattle.table.specs.Problem.{planFor}
+use Rattle.table.proofs.Spreads.{cells-are, cells-product, offer-asks, spread-whole}
+use Rattle.table.proofs.pushes.spread.Statement.{statement}
+use Rattle.table.proofs.pushes.spread.Tie as tie
+
+neighbours-of-requires : tie.Need-neighbours-of-requires
+unfolding planFor
+neighbours-of-requires c κs =
+    let s = c .before .before in
+    (s .pre .ready .sized, omega (arith, cells-product _ _ (s .pre .ready), s .pre .cellIn))
+
+cast-limit : tie.Need-cast-limit
+cast-limit c = search needs
+
+offer-requires : tie.Need-offer-requires
+unfolding planFor
+offer-requires c κs =
+    let s = c .before .before .before .before .before .before in
+    offer-asks (s .args .p) (s .args .plan .now) (s .args .cell) (s .args .next) (s .args .scratch .now) (s .pre) _ _ _ _
+    (rw (c .before .before .before .neighbours-of .ensures) (ascending _ (s .pre .ready .sized) (s .args .cell) (omega (arith, cells-are _ _ (s .pre .ready), s .pre .cellIn)) .up-most))
+    (s .pre .ready .valid .vertical) (refl) (s .pre .listed)
+
+offer-requires-2 : tie.Need-offer-requires-2
+unfolding planFor
+offer-requires-2 c κs =
+    let s = c .before .before .before .before .before .before .before .before .before .before in
+    offer-asks (s .args .p) (s .args .plan .now) (s .args .cell) (s .args .next) (s .args .scratch .now) (s .pre) _ _ _ _
+    (rw (c .before .before .before .before .before .before .before .neighbours-of .ensures) (ascending _ (s .pre .ready .sized) (s .args .cell) (omega (arith, cells-are _ _ (s .pre .ready), s .pre .cellIn)) .left-most))
+    (s .pre .ready .valid .horizontal) ((c .before .before .before .offer .ensures .raised .same)) (c .before .before .before .offer .ensures .raised .listed)
+
+offer-requires-3 : tie.Need-offer-requires-3
+unfolding planFor
+offer-requires-3 c κs =
+    let s = c .before .before .before .before .before .before .before .before .before .before .before .before .before .before in
+    offer-asks (s .args .p) (s .args .plan .now) (s .args .cell) (s .args .next) (s .args .scratch .now) (s .pre) _ _ _ _
+    (rw (c .before .before .before .before .before .before .before .before .before .before .before .neighbours-of .ensures) (ascending _ (s .pre .ready .sized) (s .args .cell) (omega (arith, cells-are _ _ (s .pre .ready), s .pre .cellIn)) .right-most))
+    (s .pre .ready .valid .horizontal) ((c .before .before .before .offer2 .ensures .raised .same) ∙ (c .before .before .before .before .before .before .before .offer .ensures .raised .same)) (c .before .before .before .offer2 .ensures .raised .listed)
+
+offer-requires-4 : tie.Need-offer-requires-4
+unfolding planFor
+offer-requires-4 c κs =
+    let s = c .before .before .before .before .before .before .before .before .before .before .before .before .before .before .before .before .before .before in
+    offer-asks (s .args .p) (s .args .plan .now) (s .args .cell) (s .args .next) (s .args .scratch .now) (s .pre) _ _ _ _
+    (rw (c .before .before .before .before .before .before .before .before .before .before .before .before .before .before .before .neighbours-of .ensures) (ascending _ (s .pre .ready .sized) (s .args .cell) (omega (arith, cells-are _ _ (s .pre .ready), s .pre .cellIn)) .down-most))
+    (s .pre .ready .valid .vertical) ((c .before .before .before .offer3 .ensures .raised .same) ∙ (c .before .before .before .before .before .before .before .offer2 .ensures .raised .same) ∙ (c .before .before .before .before .before .before .before .before .before .before .before .offer .ensures .raised .same)) (c .before .before .before .offer3 .ensures .raised .listed)
+
+same-length : tie.Need-same-length
+same-length c = (c .before .before .offer4 .ensures .raised .same) ∙ (c .before .before .before .before .before .before .offer3 .ensures .raised .same) ∙ (c .before .before .before .before .before .before .before .before .before .before .offer2 .ensures .raised .same) ∙ (c .before .before .before .before .before .before .before .before .before .before .before .before .before .before .offer .ensures .raised .same)
+
+returns : tie.Need-returns
+unfolding planFor
+returns c =
+    let s = c .before .before .before .before .before .before .before .before .before .before .before .before .before .before .before .before .before .before .before .before .before in
+    let e = c .before .before .before .before .before .before .before .before .before .before .before .before .before .before .before .before .before .before .neighbours-of .ensures in
+    spread-whole (s .args .p) (s .args .plan .now) (s .args .cell) (s .args .next) (s .args .scratch .now) (s .pre) _ _ _ _ _ _ _ _
+    (rw e at (c .before .before .before .before .before .before .before .before .before .before .before .before .before .before .offer .ensures)) (rw e at (c .before .before .before .before .before .before .before .before .before .before .offer2 .ensures)) (rw e at (c .before .before .before .before .before .before .offer3 .ensures)) (rw e at (c .before .before .offer4 .ensures))
+
+pub spread-spec : {M : Type 1} → statement M
+spread-spec = tie.close (tie.spec neighbours-of-requires cast-limit offer-requires offer-requires-2 offer-requires-3 offer-requires-4 same-length returns)

@@ -1,0 +1,45 @@
+-- The arrival row of one cell, step by step: where a buffer may stand, and the row that the first buffers have raised.
+use Prim.Native.Nat.{ℕ, _+_, _-_, _≤_, _<_, max}
+use mathlib.Core.Bool.{Bool, _&&_, not, cond}
+use mathlib.Core.List.{List}
+use lib.Dec.{eqb, leb}
+use lib.ListN.{length, getD}
+use Rattle.plan.specs.Plan.{blocked}
+use Rattle.timing.specs.declared.elements.Buffer.{Buffer}
+use Rattle.timing.specs.declared.elements.Elements.{Elements}
+use Rattle.timing.specs.Formulas.{gateDelay, bufferDriver, bufferLoad}
+use Rattle.timing.specs.Elements.{bufferOf}
+use Rattle.timing.specs.Valid.{Valid}
+use Rattle.budget.specs.Table.{only, maxBelow}
+use Rattle.rows.specs.Rows.{rowWords}
+use Rattle.table.specs.declared.problem.Problem.{Problem}
+use Rattle.table.specs.Problem.{Ready, Room}
+
+-- a cell of a plan that has passed the checks, and room for the scratch words
+pub record CellReady (p : Problem) (marks words : List ℕ) (cell : ℕ) : Type 0 where
+  pub ready : Ready p marks
+  pub inside : cell < length marks
+  pub room : Room (length marks) words
+
+-- checked tables, and two rows in the words, the one at `from` before the one at `to`
+pub record RowsReady (e : Elements) (from to : ℕ) (words : List ℕ) : Type 0 where
+  pub valid : Valid e
+  pub before : from + rowWords ≤ to
+  pub inside : to + rowWords ≤ length words
+
+-- a buffer may stand on a cell with these marks: the cell is no end and not blocked
+unfoldable pub takesBuffers : ℕ → Problem → ℕ → Bool
+takesBuffers marks p cell = not (eqb cell (p .source)) && not (eqb cell (p .sink)) && not (blocked marks)
+
+unfoldable pub bufferAt : Elements → ℕ → Buffer
+bufferAt e i = getD (e .buffers) i (bufferOf 0 0 0)
+
+-- what the budget row at `from` leaves before buffer i, under load l
+unfoldable pub behind : List ℕ → ℕ → Elements → ℕ → ℕ → ℕ
+behind words from e l i =
+    only (leb (bufferLoad (bufferAt e i)) (e .limit .0)) (getD words (from + bufferLoad (bufferAt e i)) 0 - gateDelay (bufferDriver (bufferAt e i)) l)
+
+-- the row at `to`, raised within the limit by the first `count` buffers
+unfoldable pub buffered : List ℕ → ℕ → ℕ → Elements → ℕ → ℕ → ℕ
+buffered words from to e count l =
+    cond (leb l (e .limit .0)) (max (getD words (to + l) 0) (maxBelow count (behind words from e l))) (getD words (to + l) 0)

@@ -1,0 +1,72 @@
+// The arrival row of one cell: its budget row, raised by what each gate that may stand there gives.
+ghost use mathlib.Core.Path.{_≡_};
+ghost use Prim.Native.Nat.{_+_, _*_};
+ghost use lib.ListN.{length};
+ghost use Rattle.budget.specs.Table.{arrival};
+ghost use Rattle.rows.specs.Words.{Filled};
+ghost use Rattle.rows.specs.Rows.{rowWords};
+ghost use Rattle.table.specs.Problem.{rulesFor, budgetOf, seedOf};
+ghost use Rattle.table.specs.ArrivalRow.{CellReady, RowsReady, takesBuffers, buffered};
+use crate::problem::Problem;
+use plan::is_blocked;
+use rows::copy_row;
+use rows::raise_row;
+use timing::Elements;
+
+// A buffer may stand on the cell, which has these marks.
+fn takes_buffers(marks: u8, p: Problem, cell: usize) -> bool
+    ensures { λ r. ⌜ r ≡ takesBuffers marks p cell ⌝ }
+{
+    if cell == p.source {
+        return false;
+    }
+    if cell == p.sink {
+        return false;
+    }
+    !is_blocked(marks)
+}
+
+// Each buffer raises the arrival row at `to`, from the budget row at `from`.
+fn raise_buffers(scratch: &mut [u16], from: usize, to: usize, elements: Elements)
+    requires { ⌜ RowsReady elements from to (now scratch) ⌝ }
+    ensures { λ _. ⌜ Filled (buffered (now (scratch .entry)) from to elements (elements .count)) to rowWords (now (scratch .entry)) (now (scratch .exit)) ⌝ }
+{
+    let limit = elements.limit.0 as usize;
+    let count = elements.count;
+    let mut i = 0;
+    while i < count {
+        let buffer = elements.buffers[i];
+        let load = buffer.load().0 as usize;
+        if load <= limit {
+            let top = scratch[from + load];
+            raise_row(scratch, to, top, buffer.driver(), limit);
+        }
+        i += 1;
+    }
+}
+
+// The arrival row of a cell.
+pub fn fill_arrival(plan: &[u8], scratch: &mut [u16], p: Problem, cell: usize)
+    requires { ⌜ CellReady p (now plan) (now scratch) cell ⌝ }
+    ensures { λ _. ⌜ Filled (arrival (rulesFor p (now (plan .entry))) (seedOf (length (now (plan .entry))) (now (scratch .entry))) (rulesFor p (now (plan .entry)) .bound 0) (budgetOf (length (now (plan .entry))) (now (scratch .entry))) cell) (length (now (plan .entry)) * 64 + cell * 64) rowWords (now (scratch .entry)) (now (scratch .exit)) ⌝ }
+{
+    let n = plan.len();
+    let from = cell * 64;
+    let to = n * 64 + cell * 64;
+    let elements = p.elements;
+    let limit = elements.limit.0 as usize;
+    copy_row(scratch, from, to, limit);
+    if takes_buffers(plan[cell], p, cell) {
+        raise_buffers(scratch, from, to, elements);
+    }
+    if scratch[n * 135 + cell] == 1 {
+        let register = elements.register;
+        raise_row(
+            scratch,
+            to,
+            2 * elements.period + 1,
+            register.driver(),
+            limit,
+        );
+    }
+}

@@ -1,0 +1,10 @@
+// A routing problem: the plan's sides, the ends and the checked tables. The marks are lent beside it.
+use timing::Elements;
+
+pub struct Problem {
+    pub width: usize,
+    pub height: usize,
+    pub source: usize,
+    pub sink: usize,
+    pub elements: Elements,
+}

@@ -1,0 +1,68 @@
+// What the active cells give to their neighbours.
+ghost use mathlib.Core.Path.{_≡_};
+ghost use Prim.Native.Nat.{ℕ, _+_, _*_, _≤_, _<_};
+ghost use lib.ListN.{length, getD};
+ghost use Rattle.timing.specs.Ranges.{loadMax};
+ghost use Rattle.timing.specs.Elements.{WireInRange};
+ghost use Rattle.lists.specs.Lists.{Listed};
+ghost use Rattle.table.specs.Problem.{Ready, Room, rulesFor};
+ghost use Rattle.table.specs.Layer.{Offered, OfferAsks, Spread, SpreadAsks, SpreadAll, SpreadAllAsks};
+use crate::problem::Problem;
+use lists::enlist;
+use plan::neighbours_of;
+use rows::push_row;
+use timing::Wire;
+
+// One neighbour takes what the cell gives; it is listed if its row grew. The number n is no neighbour. The count of the next list.
+fn offer(
+    scratch: &mut [u16],
+    n: usize,
+    cell: usize,
+    to: usize,
+    wire: Wire,
+    limit: usize,
+    next: usize,
+) -> usize
+    requires { ⌜ OfferAsks n cell to wire limit next (now scratch) ⌝ }
+    ensures { λ r. ⌜ Offered n cell to wire limit (now (scratch .entry)) (now (scratch .exit)) r ⌝ }
+{
+    if to == n {
+        return next;
+    }
+    let grew = push_row(scratch, n * 64 + cell * 64, to * 64, wire, limit);
+    if grew {
+        return enlist(scratch, n, n * 133, next, to);
+    }
+    next
+}
+
+// The four neighbours take what the cell gives.
+fn spread(plan: &[u8], scratch: &mut [u16], p: Problem, cell: usize, next: usize) -> usize
+    requires { ⌜ SpreadAsks p (now plan) cell next (now scratch) ⌝ }
+    ensures { λ r. ⌜ Spread (rulesFor p (now (plan .entry))) (length (now (plan .entry))) cell (now (scratch .entry)) (now (scratch .exit)) r ⌝ }
+{
+    let n = plan.len();
+    let near = neighbours_of(plan, p.width, p.height, cell);
+    let elements = p.elements;
+    let limit = elements.limit.0 as usize;
+    let a = offer(scratch, n, cell, near.up, elements.vertical, limit, next);
+    let b = offer(scratch, n, cell, near.left, elements.horizontal, limit, a);
+    let c = offer(scratch, n, cell, near.right, elements.horizontal, limit, b);
+    offer(scratch, n, cell, near.down, elements.vertical, limit, c)
+}
+
+// The neighbours of the active cells take what these give. The count of the next list.
+pub fn spread_all(plan: &[u8], scratch: &mut [u16], p: Problem, active: usize) -> usize
+    requires { ⌜ SpreadAllAsks p (now plan) active (now scratch) ⌝ }
+    ensures { λ r. ⌜ SpreadAll (rulesFor p (now (plan .entry))) (length (now (plan .entry))) active (now (scratch .entry)) (now (scratch .exit)) r ⌝ }
+{
+    let n = plan.len();
+    let mut next = 0;
+    let mut i = 0;
+    while i < active {
+        let cell = scratch[n * 132 + i] as usize;
+        next = spread(plan, scratch, p, cell, next);
+        i += 1;
+    }
+    next
+}
