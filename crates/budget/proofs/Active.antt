@@ -1,13 +1,17 @@
 -- The active list: pushes in any order make a layer, and what an unchanged row gives is unchanged.
 use Prim.Native.Nat.{ℕ, zero, suc, _+_, _-_, _≤_, _<_, max}
 use mathlib.Core.Path.{_≡_, refl, sym, ap, _∙_}
-use mathlib.Core.Bool.{Bool}
+use mathlib.Core.Bool.{Bool, true, false, _&&_}
 use mathlib.Core.Logic.{_⊎_, inl, inr}
 use native.Mathlib.Omega.{arith}
 use borrow.Author.Tests.{lt-leb}
-use Rattle.rules.specs.Rules.{Rules}
+use lib.Dec.{leb}
+use Rattle.timing.specs.Formulas.{wireDelay}
+use Rattle.rules.specs.Rules.{Rules, noGate}
+use Rattle.rules.specs.Legal.{mayStand}
 use Rattle.rules.proofs.Truth.{split}
-use Rattle.budget.specs.Table.{Table, only, maxBelow, viaBuffer, arrival, given, layer}
+use Rattle.budget.specs.Table.{Table, only, maxBelow, loadAt, loadOf, bufferCost, closeCost, viaBuffer, arrival, given, layer}
+use Rattle.budget.proofs.Max.{only-most, only-false, only-bound}
 
 -- the maximum is at least each candidate, and at most what bounds them all
 
@@ -58,7 +62,26 @@ pub arrival-past : (R : Rules) (seed : ℕ → Bool) (bound : ℕ) (A : Table) (
 unfolding arrival only
 arrival-past R seed bound A n l h = rw (lt-leb l (R .limit) h)
 
+-- a row of zeros without a seed gives nothing
+pub arrival-none : (R : Rules) (seed : ℕ → Bool) (bound : ℕ) (A : Table) (n : ℕ) → ((l : ℕ) → A n l ≡ 0) → seed n ≡ false → (l : ℕ) → arrival R seed bound A n l ≡ 0
+unfolding arrival viaBuffer
+arrival-none R seed bound A n row e l =
+    let x : ℕ = maxBelow 6 (λ i. viaBuffer R A n l (suc i)) in
+    let a : only (mayStand R n noGate) (A n l) ≤ 0 = omega (arith, only-most (mayStand R n noGate) (A n l), row l) in
+    let b : x ≤ 0 = max-most 6 (λ i. viaBuffer R A n l (suc i)) 0 (λ i h. only-bound (mayStand R n (suc i) && leb (loadOf R (suc i)) (R .limit)) (A n (loadOf R (suc i)) - bufferCost R (suc i) l) 0 (λ t. omega (arith, row (loadOf R (suc i))))) in
+    let c : only (seed n) (bound - closeCost R n l) ≡ 0 = only-false (seed n) (bound - closeCost R n l) (λ t. rw e at t) in
+    let q : only (leb l (R .limit)) (max (only (mayStand R n noGate) (A n l)) (max x (only (seed n) (bound - closeCost R n l)))) ≤ 0 = only-bound (leb l (R .limit)) (max (only (mayStand R n noGate) (A n l)) (max x (only (seed n) (bound - closeCost R n l)))) 0 (λ t. omega arith) in
+    omega arith
+
 -- what a cell gives depends on its arrival row alone
 pub given-row : (R : Rules) (B C : Table) (n : ℕ) → ((l : ℕ) → C n l ≡ B n l) → (c l : ℕ) → given R C n c l ≡ given R B n c l
 unfolding given
 given-row R B C n row c l = simp row
+
+pub given-none : (R : Rules) (B : Table) (n : ℕ) → ((l : ℕ) → B n l ≡ 0) → (c l : ℕ) → given R B n c l ≡ 0
+unfolding given
+given-none R B n row c l =
+    omega (
+      arith,
+      only-bound (R .linked c n) (B n (loadAt R c n l) - wireDelay (R .wire c n) l) 0 (λ t. omega (arith, row (loadAt R c n l))),
+    )

@@ -58,3 +58,24 @@ pub only-in : (b : Bool) (x d : ℕ) → T b → d < x → d < only b x
 unfolding only
 only-in true x d t h = h
 only-in false x d t h = absurd t
+
+pub only-most : (b : Bool) (x : ℕ) → only b x ≤ x
+unfolding only
+only-most true x = omega arith
+only-most false x = omega arith
+
+pub only-true : (b : Bool) (x : ℕ) → T b → only b x ≡ x
+unfolding only
+only-true true x t = refl
+only-true false x t = absurd t
+
+pub only-false : (b : Bool) (x : ℕ) → (T b → ⊥) → only b x ≡ 0
+unfolding only
+only-false true x f = absurd (f tt)
+only-false false x f = refl
+
+-- only b x is at most y, if x is wherever the test passes
+pub only-bound : (b : Bool) (x y : ℕ) → (T b → x ≤ y) → only b x ≤ y
+unfolding only
+only-bound true x y h = h tt
+only-bound false x y h = omega arith

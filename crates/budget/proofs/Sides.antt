@@ -15,29 +15,9 @@ use Rattle.timing.specs.declared.elements.Elements.{Elements}
 use Rattle.timing.specs.Formulas.{wireDelay, wireLoad}
 use Rattle.rules.specs.Rules.{Rules, rulesOf, wireOf}
 use Rattle.rules.proofs.Truth.{both, fst, snd, decided, is-true, is-false, eq→eqb}
+use Rattle.budget.proofs.Max.{only-most, only-true, only-false, only-bound}
 use Rattle.budget.specs.Table.{Table, only, given, loadAt}
 use Rattle.budget.specs.Sides.{gift, isSide}
-
-pub only-most : (b : Bool) (x : ℕ) → only b x ≤ x
-unfolding only
-only-most true x = omega arith
-only-most false x = omega arith
-
-pub only-true : (b : Bool) (x : ℕ) → T b → only b x ≡ x
-unfolding only
-only-true true x t = refl
-only-true false x t = absurd t
-
-pub only-false : (b : Bool) (x : ℕ) → (T b → ⊥) → only b x ≡ 0
-unfolding only
-only-false true x f = absurd (f tt)
-only-false false x f = refl
-
--- only b x is at most y, if x is wherever the test passes
-pub only-bound : (b : Bool) (x y : ℕ) → (T b → x ≤ y) → only b x ≤ y
-unfolding only
-only-bound true x y h = h tt
-only-bound false x y h = omega arith
 
 module _ (p : Plan) (sized : Sized p) (e : Elements) (from to cell : ℕ) (inside : cell < cells p) where
   abbrev R : Rules

@@ -13,7 +13,7 @@ use Rattle.timing.specs.Ranges.{loadMax}
 use Rattle.rules.proofs.Truth.{both, fst, snd, decided, split, equal, eq→eqb}
 use Rattle.budget.specs.Table.{Table, only}
 use Rattle.budget.specs.Sides.{gift, isSide}
-use Rattle.budget.proofs.Sides.{only-true, only-false, only-bound}
+use Rattle.budget.proofs.Max.{only-true, only-false, only-bound}
 use Rattle.rows.specs.Words.{Filled, Kept, KeptFrom}
 use Rattle.rows.specs.Rows.{rowWords, pushed, RowGrew, Pushed}
 use Rattle.lists.specs.Lists.{flagOf, Listed, Enlisted}

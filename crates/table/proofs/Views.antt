@@ -9,7 +9,7 @@ use lib.Dec.{T, eqb, ltb, ltb→lt, lt→ltb}
 use lib.ListN.{length, getD}
 use Rattle.rules.proofs.Truth.{both, fst, snd, decided}
 use Rattle.budget.specs.Table.{Table, only}
-use Rattle.budget.proofs.Sides.{only-true, only-false}
+use Rattle.budget.proofs.Max.{only-true, only-false}
 use Rattle.rows.specs.Words.{Kept, KeptFrom}
 use Rattle.rows.specs.Rows.{rowWords}
 use Rattle.table.specs.Problem.{budgetOf, seedOf}

@@ -1,0 +1,69 @@
+-- R1 to R13, each computed, and the theorem that walks the list. Where R1 closes.
+use Prim.Native.Nat.{ℕ}
+use mathlib.Core.Path.{_≡_, refl}
+use mathlib.Core.List.{List, [], _∷_}
+use Rattle.plan.specs.Plan.{cells, row, column, marksAt, blocked, tap, cutRight, cutBelow}
+use Rattle.plan.specs.Joined.{wireRight, wireBelow, bothIn, horizontal, vertical, joined}
+use Rattle.timing.specs.Formulas.{wireDelay, gateDelay, wireLoad, bufferDriver, bufferLoad, registerDriver, registerLoad, setupDelay}
+use Rattle.timing.specs.Elements.{wireOf, driverOf, bufferOf, registerOf}
+use Rattle.timing.specs.Valid.{Valid}
+use Rattle.rules.specs.Rules.{rulesOf, siteOf}
+use Rattle.rules.specs.Rules.{wireOf as stepOf}
+use Rattle.rules.specs.Legal.{mayStand, isEnd, arrive, leave, closing}
+use Rattle.rules.specs.Ranking.{codeSevens, registers, steps, latency}
+use Rattle.rules.specs.Beginning.{nextPlace, placeFrom, startPlace, placeAfter}
+use Rattle.budget.specs.Table.{loadAt, delayAt, bufferCost, loadOf, closeCost, only, maxBelow, viaBuffer, arrival, given}
+use Rattle.budget.specs.Done.{seedAt}
+use Rattle.budget.specs.Emission.{exactSeed, goesOn, afterLoad, afterDelay, afterRegisters, visit, firstFrom, nextCode, nextCell, emit}
+use Rattle.best.specs.Rows.{listFrom, sumBelow, tableOf, rowsOf, layerRows, total}
+use Rattle.best.specs.Labels.{isKnown, registersOf, stepsOf, labelsOf, relabelAt, relabel, least, leastBelow, isPending, isOfWave, nextPending, firstOfWave}
+use Rattle.best.specs.Search.{layerTurn, quietTurn, turn, searchFrom, mostSteps, mostTurns, search}
+use Rattle.best.specs.Best.{Outcome, found, none, reachRows, routeOf, outcome, best}
+use Rattle.best.proofs.Document01.{rules-best, rules-none}
+use Rattle.cases.specs.Cases.{Expected, route, noRoute, Case, Meets, rulesIn, IsRight, Each, more, closesAt, tables, strip, straight, case1, close1, case2, case3, case4, case5, case6, case7, case8, case9, case10, case11, case12, case13, cases}
+use Rattle.cases.specs.Cases.{none as last}
+use Rattle.cases.proofs.Tables.{valid}
+
+-- what is computed: the answer of `best`, and the route's figures
+abbrev Agrees : Outcome → ℕ → Expected → Type 0
+Agrees x period (route k s t r) = (x ≡ found r) × (registers r ≡ k) × (steps r ≡ s) × (latency period r ≡ t)
+Agrees x period noRoute = x ≡ none
+
+computed : Each (λ c. Agrees (best (rulesIn c)) (c .elements .period) (c .expected)) cases
+unfolding cells row column marksAt blocked tap cutRight cutBelow wireRight wireBelow bothIn horizontal vertical joined wireOf bufferOf registerOf driverOf wireDelay gateDelay wireLoad bufferDriver bufferLoad registerDriver registerLoad setupDelay rulesOf siteOf stepOf mayStand isEnd loadAt delayAt bufferCost loadOf closeCost only maxBelow viaBuffer arrival given seedAt exactSeed goesOn afterLoad afterDelay afterRegisters firstFrom nextCode nextCell emit listFrom sumBelow tableOf rowsOf layerRows total isKnown registersOf stepsOf labelsOf relabelAt relabel least leastBelow isPending isOfWave nextPending firstOfWave layerTurn quietTurn turn searchFrom mostSteps mostTurns search reachRows routeOf outcome best tables strip straight codeSevens registers steps latency case1 case2 case3 case4 case5 case6 case7 case8 case9 case10 case11 case12 case13
+computed =
+    more case1 (refl, refl, refl, refl)
+    (more case2 (refl, refl, refl, refl)
+    (more case3 (refl, refl, refl, refl)
+    (more case4 refl
+    (more case5 (refl, refl, refl, refl)
+    (more case6 (refl, refl, refl, refl)
+    (more case7 refl
+    (more case8 (refl, refl, refl, refl)
+    (more case9 (refl, refl, refl, refl)
+    (more case10 (refl, refl, refl, refl)
+    (more case11 refl
+    (more case12 (refl, refl, refl, refl)
+    (more case13 (refl, refl, refl, refl) last))))))))))))
+
+module _ {P Q S : Case → Type 0} (f : (c : Case) → P c → Q c → S c) where
+  together : {cs : List Case} → Each P cs → Each Q cs → Each S cs
+  together last last = last
+  together (more c p ps) (more d q qs) = more c (f c p q) (together ps qs)
+
+right : (c : Case) → Valid (c .elements) → Agrees (best (rulesIn c)) (c .elements .period) (c .expected) → IsRight c
+right c ok h = go (c .expected) h
+  where
+    go : (x : Expected) → Agrees (best (rulesIn c)) (c .elements .period) x → Meets (rulesIn c) (c .elements .period) x
+    go (route k s t r) h =
+        record { isBest = rules-best (c .plan) (c .elements) (c .source) (c .sink) ok r .0 (h .0); registers = h .1; steps = h .2; latency = h .3 }
+    go noRoute h = rules-none (c .plan) (c .elements) (c .source) (c .sink) ok .0 h
+
+-- Document 01's worked routes are right.
+pub worked-routes : Each IsRight cases
+worked-routes = together right valid computed
+
+-- R1 closes at 52 half-ticks, which is 2T.
+pub first-close : closesAt (rulesIn case1) (visit 2 7) (visit 1 0 ∷ []) 0 ≡ close1
+unfolding closesAt placeAfter placeFrom startPlace nextPlace arrive leave closing case1 strip tables wireOf registerOf driverOf wireDelay wireLoad gateDelay registerDriver registerLoad setupDelay rulesOf stepOf cells row column marksAt cutRight cutBelow wireRight wireBelow bothIn horizontal
+first-close = refl
