@@ -1,4 +1,9 @@
 // Labels: for a cell with a register, the least registers and steps to go. A label's word is registers plus one, 0 for none.
+mod sites;
+
+pub use sites::fresh_in;
+pub use sites::label_active;
+pub use sites::may_register;
 ghost use mathlib.Core.Path.{_≡_};
 ghost use Prim.Native.Nat.{ℕ, _*_, _≤_, _<_};
 ghost use lib.ListN.{length};

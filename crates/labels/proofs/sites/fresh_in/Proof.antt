@@ -1,0 +1,78 @@
+-- `labels::sites::fresh_in`: the word that it reads is the table's, and both stages start with the register's load and setup.
+use Prim.Native.Nat.{ℕ, _+_, _*_, _<_, _≤_}
+use mathlib.Core.Path.{_≡_}
+use mathlib.Core.List.{List}
+use native.Mathlib.Omega.{arith}
+use borrow.Author.Needs.{needs}
+use lib.Dec.{ltb}
+use lib.ListN.{length, getD}
+use Rattle.timing.specs.declared.elements.Elements.{Elements}
+use Rattle.timing.specs.Ranges.{loadMax, setupMax}
+use Rattle.timing.specs.Formulas.{registerLoad, setupDelay}
+use Rattle.timing.specs.Valid.{Valid}
+use Rattle.rules.specs.Rules.{rulesOf}
+use Rattle.table.specs.declared.problem.Problem.{Problem}
+use Rattle.table.specs.Problem.{rulesFor, budgetOf}
+use Rattle.table.proofs.Views.{budget-at}
+use Rattle.labels.specs.Additions.{FreshIn}
+use Rattle.labels.proofs.sites.fresh_in.Statement.{statement}
+use Rattle.labels.proofs.sites.fresh_in.Tie as tie
+
+load-most : {e : Elements} → Valid e → registerLoad (e .register) ≤ loadMax
+unfolding registerLoad
+load-most v = v .register .load
+
+delay-most : {e : Elements} → Valid e → setupDelay (e .register) ≤ 2 * setupMax
+unfolding setupDelay
+delay-most v = omega (arith, v .register .setup)
+
+fresh-word : (p : Problem) → Valid (p .elements) → (words : List ℕ) (cell delay load : ℕ) → delay ≡ setupDelay (p .elements .register) → load ≡ registerLoad (p .elements .register) → FreshIn p words cell (ltb delay (getD words (cell * 64 + load) 0))
+unfolding rulesFor rulesOf
+fresh-word p v words cell delay load d l = record { fresh = same; start = same }
+  where
+    same : (marks : List ℕ) → cell < length marks → ltb delay (getD words (cell * 64 + load) 0) ≡ ltb (setupDelay (p .elements .register)) (budgetOf (length marks) words cell (registerLoad (p .elements .register)))
+    same marks h = rw (d, l, budget-at (length marks) words cell (registerLoad (p .elements .register)) h (omega (arith, load-most v)))
+
+load-requires : tie.Need-load-requires
+load-requires c κs = search needs
+
+cast-load : tie.Need-cast-load
+cast-load c = search needs
+
+start-delay-requires : tie.Need-start-delay-requires
+start-delay-requires c κs = search needs
+
+cast-start : tie.Need-cast-start
+cast-start c = omega (arith, c .before .start-delay .ensures, delay-most (c .before .before .before .before .before .before .before .pre .0))
+
+mul-result : tie.Need-mul-result
+mul-result c = search needs
+
+add-result : tie.Need-add-result
+add-result c = search needs
+
+mul-result-2 : tie.Need-mul-result-2
+mul-result-2 c = search needs
+
+shared-slice-read-result : tie.Need-shared-slice-read-result
+shared-slice-read-result c =
+    omega (arith, c .before .before .before .before .load .ensures, load-most (c .before .before .before .before .before .before .before .before .pre .0))
+
+returns : tie.Need-returns
+returns c =
+    let s = c .before .before .before .before .before .before .before .before in
+    fresh-word (s .args .p) (s .pre .0) _ (s .args .cell) _ _ (c .before .before .start-delay .ensures) (c .before .before .before .before .load .ensures)
+
+pub fresh-in-spec : {M : Type 1} → statement M
+fresh-in-spec =
+    tie.close
+    (tie.spec
+    load-requires
+    cast-load
+    start-delay-requires
+    cast-start
+    mul-result
+    add-result
+    mul-result-2
+    shared-slice-read-result
+    returns)

@@ -1,0 +1,53 @@
+-- New seeds are listed, so the active list stays right.
+use Prim.Native.Nat.{ℕ, zero, suc, _+_, _-_, _*_, _≤_, _<_}
+use mathlib.Core.Path.{_≡_, refl, sym, ap, _∙_}
+use mathlib.Core.Bool.{Bool, true, false}
+use mathlib.Core.Logic.{_⊎_, inl, inr}
+use mathlib.Core.List.{List}
+use native.Mathlib.Omega.{arith}
+use lib.Dec.{T, eqb}
+use lib.ListN.{length, getD}
+use Rattle.rules.specs.Rules.{Rules}
+use Rattle.rules.proofs.Truth.{equal}
+use Rattle.budget.specs.Table.{arrival, given}
+use Rattle.budget.proofs.Active.{arrival-row, given-row}
+use Rattle.lists.specs.Lists.{flagOf, Listed}
+use Rattle.lists.proofs.Lists.{bit-cases}
+use Rattle.table.specs.Problem.{budgetOf, seedOf}
+use Rattle.table.specs.Layer.{Settled, Active}
+use Rattle.table.proofs.Views.{budget-kept}
+use Rattle.labels.specs.Labels.{orderOf, Planted, Arrived}
+
+module _ (R : Rules) (n : ℕ) (old new : List ℕ) where
+  same-seed : (c : ℕ) → getD new (n * 135 + c) 0 ≡ getD old (n * 135 + c) 0 → seedOf n new c ≡ seedOf n old c
+  unfolding seedOf
+  same-seed c e = rw e
+
+  -- a cell with the same row and seed stays settled in the same table
+  pub settled-kept : (c : ℕ) → ((k : ℕ) → k < n * 64 → getD new k 0 ≡ getD old k 0) → seedOf n new c ≡ seedOf n old c → Settled R n old c → Settled R n new c
+  settled-kept c kept seed settled m l =
+      let same = budget-kept n old new (λ k lo hi. kept k hi) in
+      omega (
+        arith,
+        given-row R (arrival R (seedOf n old) (R .bound 0) (budgetOf n old)) (arrival R (seedOf n new) (R .bound 0) (budgetOf n new)) c
+            (arrival-row R (seedOf n old) (seedOf n new) (R .bound 0) (budgetOf n old) (budgetOf n new) c (same c) seed) m l,
+        settled m l,
+        same m l,
+      )
+
+  pub active-planted : (cell before after : ℕ) → Active R n old before → Planted n cell old new after → Active R n new after
+  active-planted cell before after a p = record { listed = p .listed; settled = λ c h z. go c h z (equal c cell) }
+    where
+      go : (c : ℕ) → c < n → flagOf n new c ≡ 0 → (c ≡ cell) ⊎ (c ≡ cell → ⊥) → Settled R n new c
+      go c h z (inl e) = absurd (let w : flagOf n new c ≡ 1 = rw e (p .nowFlagged) in omega arith)
+      go c h z (inr e) = settled-kept c (λ k q. p .low k (omega arith)) (same-seed c (p .otherSeeds c h e)) (a .settled c h (sym (p .others c h e) ∙ z))
+
+  pub active-arrived : (from to steps before after : ℕ) → Active R n old before → Arrived n from to steps old new after → Active R n new after
+  active-arrived from to steps before after a r = record { listed = r .listed; settled = go }
+    where
+      go : (c : ℕ) → c < n → flagOf n new c ≡ 0 → Settled R n new c
+      go c h z =
+          settled-kept c (λ k q. r .low k (omega arith)) (same-seed c (r .otherSeeds c h none)) (a .settled c h (sym (r .otherFlags c h none) ∙ z))
+        where
+          none : (i : ℕ) → from ≤ i → i < to → orderOf n old i ≡ c → ⊥
+          none i lo hi e = let w : flagOf n new c ≡ 1 = rw e at (r .flags i lo hi) in omega arith

@@ -1,0 +1,24 @@
+-- The rules of a ready problem.
+use Prim.Native.Nat.{ℕ, _<_}
+use mathlib.Core.Path.{_≡_, refl, sym}
+use mathlib.Core.List.{List}
+use lib.ListN.{length}
+use Rattle.rules.specs.Rules.{rulesOf}
+use Rattle.budget.specs.Done.{Lawful}
+use Rattle.budget.proofs.Document01.{rules-lawful}
+use Rattle.table.specs.declared.problem.Problem.{Problem}
+use Rattle.table.specs.Problem.{planFor, rulesFor, Ready}
+use Rattle.table.proofs.Spreads.{cells-are}
+
+module _ (p : Problem) (marks : List ℕ) (ready : Ready p marks) where
+  pub ready-lawful : Lawful (rulesFor p marks)
+  unfolding rulesFor
+  ready-lawful = rules-lawful (planFor p marks) (p .elements) (p .source) (p .sink) (ready .valid)
+
+  pub ready-cells : rulesFor p marks .cellCount ≡ length marks
+  unfolding rulesFor rulesOf
+  ready-cells = sym (cells-are p marks ready)
+
+  pub ready-source : rulesFor p marks .source < length marks
+  unfolding rulesFor rulesOf
+  ready-source = ready .source

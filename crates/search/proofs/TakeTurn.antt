@@ -1,0 +1,114 @@
+-- One turn: a quiet layer, a layer that reaches the sink, a layer that grew.
+use Prim.Native.Nat.{ℕ, zero, suc, _+_, _-_, _*_, _≤_, _<_}
+use mathlib.Core.Path.{_≡_, refl, sym, ap, _∙_}
+use mathlib.Core.Logic.{_⊎_, inl, inr}
+use mathlib.Core.List.{List}
+use native.Mathlib.Omega.{arith}
+use native.Mathlib.Numerals.{add-one}
+use lib.Dec.{T}
+use lib.ListN.{length, getD}
+use Rattle.rules.specs.Rules.{Rules}
+use Rattle.rules.proofs.Truth.{equal}
+use Rattle.budget.specs.Table.{Table, arrival, given, layer}
+use Rattle.budget.specs.Done.{NotAfter, Lawful, seedAt}
+use Rattle.budget.specs.Search.{Next}
+use Rattle.budget.proofs.Done.{not-after-trans}
+use Rattle.budget.proofs.Active.{pushes-layer, layer-least}
+use Rattle.lists.proofs.Lists.{empty-flags}
+use Rattle.rows.specs.Words.{KeptFrom}
+use Rattle.table.specs.Problem.{budgetOf, seedOf}
+use Rattle.table.specs.Layer.{Layered}
+use Rattle.labels.specs.Labels.{knownOf, registersOf, stepsOf, labelsOf, orderOf, Ordered}
+use Rattle.labels.specs.Additions.{LabelsAdded}
+use Rattle.labels.proofs.Labels.{known-below, known-kept, label-kept, labelled-kept, ordered-kept}
+use Rattle.search.specs.declared.turns.Progress.{Progress}
+use Rattle.search.specs.declared.turns.Turn.{Turn}
+use Rattle.search.specs.Front.{total, Waiting, Front}
+use Rattle.search.specs.Turn.{FrontOf, WaitingOf, quietTurn, Advance, Reaching, TurnDone, TurnEffect}
+use Rattle.search.proofs.Total.{total-least, total-kept}
+use Rattle.search.proofs.Fronts.{layer-seeds, front-seeds, front-next, front-least, front-grows, front-sink, still, quiet-front, pending-front, wave-front, none-front}
+use Rattle.search.proofs.NextFront.{grown-front}
+use Rattle.search.proofs.Quiet.{quiet-nothing, quiet-wave, quiet-pending}
+
+module _ (R : Rules) (law : Lawful R) (n : ℕ) (cells : R .cellCount ≡ n) where
+  -- with no cell listed, the layer is the table itself
+  quiet-next : (words : List ℕ) (k s at end count : ℕ) → Front R n words k s 0 at end count → Next R (labelsOf n words) k s (budgetOf n words) (budgetOf n words)
+  quiet-next words k s at end count f c l =
+      pushes-layer R (seedOf n words) (R .bound 0) (budgetOf n words) (budgetOf n words) (λ x y. omega arith)
+      (λ x y. layer-least R (seedOf n words) (R .bound 0) (budgetOf n words) x y)
+      (λ m x y h. f .waiting .list .settled m (omega arith) (empty-flags (f .waiting .list .listed) refl m (omega arith)) x y) c l
+      ∙ layer-seeds R (seedOf n words) (seedAt R (labelsOf n words) k s) (R .bound 0) (budgetOf n words)
+      (λ x h. front-seeds R law n cells words k s 0 at end count f x (omega arith)) c l
+
+  module _ (words : List ℕ) (f : Progress) (front : FrontOf R n words f) (new : List ℕ) (next : ℕ) (l : Layered R n words new next) where
+    abbrev k : ℕ
+    k = f .registers
+
+    abbrev s : ℕ
+    s = f .steps
+
+    rest : KeptFrom (n * 136) words new
+    rest i h = l .rest i (omega arith)
+
+    module _ (none : next ≡ 0) where
+      front′ : Front R n new k s 0 (f .at) (f .end) (f .count)
+      front′ = rw none at (quiet-front R law n cells words k s (f .active) (f .at) (f .end) (f .count) front new next l none)
+
+      same-total : total n new ≡ total n words
+      same-total =
+          let e = still R law n cells words k s (f .active) (f .at) (f .end) (f .count) front new next l none in
+          omega (arith, total-least n words new (λ c d. omega (arith, e c d)), total-least n new words (λ c d. omega (arith, e c d)))
+
+      quiet : Next R (labelsOf n new) k s (budgetOf n new) (budgetOf n new)
+      quiet = quiet-next new k s (f .at) (f .end) (f .count) front′
+
+      pub turn-quiet : (t : Turn) → t ≡ quietTurn n new f → TurnEffect R n words f new t
+      turn-quiet t e = record { same = l .same; rest = rest; done = go (equal (f .at) (f .end)) (equal (f .end) (f .count)) }
+        where
+          go : (f .at ≡ f .end) ⊎ (f .at ≡ f .end → ⊥) → (f .end ≡ f .count) ⊎ (f .end ≡ f .count → ⊥) → TurnDone R n words f new t
+          go (inl a) (inl b) = rw (e ∙ quiet-nothing n new f a b) (TurnDone.nothing (none-front R law n cells new k s 0 (f .at) (f .end) (f .count) front′ quiet a b))
+          go (inl a) (inr b) =
+              let h : f .end < f .count = omega (arith, front .waiting .endCount) in
+              rw (e ∙ quiet-wave n new f a b)
+              (TurnDone.on _ (rw (← add-one) at (wave-front R law n cells new k s 0 (f .at) (f .end) (f .count) front′ quiet a h))
+              (Advance.comes same-total refl (omega arith) (omega arith)))
+          go (inr a) b =
+              let h : f .at < f .end = omega (arith, front .waiting .atEnd) in
+              rw (e ∙ quiet-pending n new f a)
+              (TurnDone.on _ (pending-front R law n cells new k s 0 (f .at) (f .end) (f .count) front′ quiet h) (Advance.comes same-total refl h (omega arith)))
+
+    pub turn-sink : R .start .delay < budgetOf n new (R .sink) (R .start .load) → TurnEffect R n words f new (Turn.Sink k (s + 1) (f .count))
+    turn-sink h =
+        record {
+          same = l .same;
+          rest = rest;
+          done =
+              TurnDone.sink k (s + 1) (f .count)
+              (record {
+                least = rw add-one (front-sink R law n cells words k s (f .active) (f .at) (f .end) (f .count) front new next l h);
+                before = s;
+                labels = labelled-kept n words new (λ i lo hi. l .labels i lo (omega arith)) R k s (front .waiting .searching .labels);
+                ordered = ordered-kept (front .waiting .ordered) new (l .labels);
+              });
+        }
+
+    -- the labels so far are no later than the new ones
+    pub labels-before : (c : ℕ) → T (knownOf n new c) → NotAfter (registersOf n new c) (stepsOf n new c) k (s + 1)
+    labels-before c t =
+        let u : T (knownOf n words c) = rw (known-kept n words new (λ i lo hi. l .labels i lo (omega arith)) c) at t in
+        let b = label-kept n words new (λ i lo hi. l .labels i lo (omega arith)) c (known-below n words c u) in
+        rw (b .registers, b .steps) (not-after-trans (front .waiting .searching .labels .found c u) (inr (refl, omega arith)))
+
+    pub turn-grown : 0 < next → (R .start .delay < budgetOf n new (R .sink) (R .start .load) → ⊥) → (last : List ℕ) (count : ℕ) → LabelsAdded R n k (s + 1) new last (f .count) count → TurnEffect R n words f last (Turn.On (record { registers = k; steps = s + 1; active = next; at = f .at; end = f .end; count = count }))
+    turn-grown some not-yet last count added =
+        let g : Progress = record { registers = k; steps = s + 1; active = next; at = f .at; end = f .end; count = count } in
+        let w : WaitingOf R n last g = rw (add-one s) (grown-front R law n cells words k s (f .active) (f .at) (f .end) (f .count) front new next l some last count (rw (add-one s) at added) not-yet) in
+        record {
+          same = added .same ∙ l .same;
+          rest = λ i h. added .high i (omega arith) ∙ rest i h;
+          done =
+              TurnDone.on g w
+              (Advance.grew
+              (omega (arith, front-grows R law n cells words k s (f .active) (f .at) (f .end) (f .count) front new next l some, total-kept n new last (λ i lo hi. added .low i (omega arith))))
+              refl);
+        }

@@ -1,0 +1,65 @@
+-- The sum of the table: bounded, and raised by every layer that changes a word.
+use Prim.Native.Nat.{ℕ, zero, suc, _+_, _-_, _*_, _/_, _%_, _≤_, _<_, max}
+use mathlib.Core.Path.{_≡_, refl, sym, ap, _∙_}
+use mathlib.Core.Logic.{_⊎_, inl, inr}
+use mathlib.Core.List.{List}
+use native.Mathlib.Omega.{arith}
+use lib.ListN.{length, getD}
+use Rattle.rules.proofs.Truth.{split, equal}
+use Rattle.lists.specs.Lists.{sumBelow}
+use Rattle.lists.proofs.Sums.{sum-same, sum-bound}
+use Rattle.rows.specs.Words.{Kept}
+use Rattle.rows.specs.Rows.{rowWords}
+use Rattle.table.specs.Problem.{budgetOf}
+use Rattle.table.specs.Layer.{Grew}
+use Rattle.table.proofs.Views.{budget-at, budget-outside}
+use Rattle.search.specs.Front.{total}
+
+pub sum-least : (n : ℕ) (f g : ℕ → ℕ) → ((i : ℕ) → i < n → f i ≤ g i) → sumBelow n f ≤ sumBelow n g
+unfolding sumBelow
+sum-least zero f g h = omega arith
+sum-least (suc n) f g h = omega (arith, h n (omega arith), sum-least n f g (λ i k. h i (omega arith)))
+
+pub sum-grows : (n : ℕ) (f g : ℕ → ℕ) (at : ℕ) → ((i : ℕ) → i < n → f i ≤ g i) → at < n → f at < g at → sumBelow n f < sumBelow n g
+unfolding sumBelow
+sum-grows zero f g at h k m = absurd (omega arith)
+sum-grows (suc n) f g at h k m = go (sum-grows n f g at (λ i q. h i (omega arith))) (equal at n)
+  where
+    go : (at < n → f at < g at → sumBelow n f < sumBelow n g) → (at ≡ n) ⊎ (at ≡ n → ⊥) → sumBelow n f + f n < sumBelow n g + g n
+    go r (inl e) =
+        let q : f n < g n = rw e at m in
+        omega (arith, sum-least n f g (λ i q. h i (omega arith)))
+    go r (inr e) = omega (arith, r (omega arith) m, h n (omega arith))
+
+module _ (n : ℕ) (old new : List ℕ) where
+  pub total-kept : Kept 0 (n * 64) old new → total n new ≡ total n old
+  unfolding total
+  total-kept kept = sum-same (n * 64) _ _ (λ i h. kept i (omega arith) h)
+
+  -- a word of the table, as an entry
+  entry : (words : List ℕ) (i : ℕ) → i < n * 64 → budgetOf n words (i / 64) (i % 64) ≡ getD words i 0
+  entry words i h =
+      let e : i / 64 * 64 + i % 64 ≡ i = omega arith in
+      budget-at n words (i / 64) (i % 64) (omega arith) (omega arith) ∙ rw e
+
+  pub total-least : ((c l : ℕ) → budgetOf n old c l ≤ budgetOf n new c l) → total n old ≤ total n new
+  unfolding total
+  total-least least = sum-least (n * 64) _ _ (λ i h. omega (arith, entry old i h, entry new i h, least (i / 64) (i % 64)))
+
+  pub total-grows : ((c l : ℕ) → budgetOf n old c l ≤ budgetOf n new c l) → (c : ℕ) → Grew n old new c → total n old < total n new
+  unfolding total
+  total-grows least c g = go (split rowWords (g .load)) (split n c)
+    where
+      go : (rowWords ≤ g .load) ⊎ (g .load < rowWords) → (n ≤ c) ⊎ (c < n) → sumBelow (n * 64) (λ i. getD old i 0) < sumBelow (n * 64) (λ i. getD new i 0)
+      go (inl k) q = absurd (omega (arith, g .more, budget-outside n new c (g .load) (λ a b. omega arith)))
+      go (inr k) (inl q) = absurd (omega (arith, g .more, budget-outside n new c (g .load) (λ a b. omega arith)))
+      go (inr k) (inr q) =
+          sum-grows (n * 64) (λ i. getD old i 0) (λ i. getD new i 0) (c * 64 + g .load)
+          (λ i h. omega (arith, entry old i h, entry new i h, least (i / 64) (i % 64)))
+          (omega arith)
+          (omega (arith, g .more, budget-at n old c (g .load) q k, budget-at n new c (g .load) q k))
+
+-- words of 16 bits, at most 65,536 of them: the sum is below 2³²
+pub total-fits : (n : ℕ) (words : List ℕ) → n ≤ 1024 → ((i : ℕ) → getD words i 0 < 65536) → total n words < 4294967296
+unfolding total
+total-fits n words few small = omega (arith, sum-bound (n * 64) 65535 (λ i. getD words i 0) (λ i h. omega (arith, small i)))

@@ -1,0 +1,23 @@
+-- What the search leaves: the least registers and steps from the sink, with the labels; or that there is no route.
+use Prim.Native.Nat.{ℕ, _*_, _<_}
+use mathlib.Core.Path.{_≡_}
+use mathlib.Core.List.{List}
+use lib.ListN.{length, getD}
+use Rattle.rules.specs.Rules.{Rules}
+use Rattle.budget.specs.Search.{FromSink}
+use Rattle.rows.specs.Words.{KeptFrom}
+use Rattle.search.specs.Turn.{Reaching}
+use Rattle.search.specs.declared.waves.Reached.{Reached}
+
+-- the words that the search uses are zero
+abbrev pub Blank : ℕ → List ℕ → Type 0
+Blank n words = (i : ℕ) → i < n * 136 → getD words i 0 ≡ 0
+
+pub data SearchDone (R : Rules) (n : ℕ) (new : List ℕ) : Reached → Type 0 where
+  sink : (k s count : ℕ) → Reaching R n new k s count → SearchDone R n new (Reached.Sink k s count)
+  nothing : ((p q : ℕ) → FromSink R p q → ⊥) → SearchDone R n new Reached.Nothing
+
+pub record SearchEffect (R : Rules) (n : ℕ) (old new : List ℕ) (r : Reached) : Type 0 where
+  pub same : length new ≡ length old
+  pub rest : KeptFrom (n * 136) old new
+  pub done : SearchDone R n new r
