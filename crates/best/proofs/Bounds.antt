@@ -7,7 +7,7 @@ use native.Mathlib.Omega.{arith}
 use lib.Dec.{T, ltb, ltb→lt, lt→ltb}
 use Rattle.rules.specs.Rules.{Stage, Rules, registerCode}
 use Rattle.rules.specs.Legal.{Route, arrive, buffered, closing, mayStand}
-use Rattle.rules.proofs.Truth.{both, fst, snd, split}
+use Rattle.plan.proofs.Truth.{both, fst, snd, split}
 use Rattle.rules.proofs.View.{Ending, ending-view, stands-between, not-source}
 use Rattle.budget.specs.Table.{Table, Represents}
 use Rattle.budget.specs.Done.{stage, Done, Labels, Lawful, seedAt}

@@ -10,7 +10,7 @@ use lib.Dec.{T, ltb, ltb→lt, lt→ltb, eqb→eq}
 use lib.ListN.{getD}
 use Rattle.rules.specs.Rules.{Rules, registerCode}
 use Rattle.rules.specs.Legal.{mayStand}
-use Rattle.rules.proofs.Truth.{both, fst, snd, parts, is-true, of-true, eq→eqb, split, equal}
+use Rattle.plan.proofs.Truth.{both, fst, snd, parts, is-true, of-true, eq→eqb, split, equal}
 use Rattle.budget.specs.Table.{Table}
 use Rattle.budget.specs.Done.{Labels}
 use Rattle.budget.specs.Search.{Relabelled}

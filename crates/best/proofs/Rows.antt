@@ -9,7 +9,7 @@ use lib.Dec.{leb, leb→le}
 use lib.ListN.{getD}
 use Rattle.timing.specs.Formulas.{wireDelay}
 use Rattle.rules.specs.Rules.{Rules}
-use Rattle.rules.proofs.Truth.{split}
+use Rattle.plan.proofs.Truth.{split}
 use Rattle.budget.specs.Table.{Table, maxBelow, loadAt, arrival, given, layer}
 use Rattle.budget.proofs.Max.{only-test, only-value}
 use Rattle.budget.proofs.Active.{max-most, max-same, given-row}

@@ -10,7 +10,7 @@ use native.Mathlib.Omega.{arith}
 use borrow.Author.Tests.{ltb-true, ltb-false}
 use lib.Dec.{T, ltb, T-not}
 use Rattle.rules.specs.Rules.{Rules}
-use Rattle.rules.proofs.Truth.{decided, split}
+use Rattle.plan.proofs.Truth.{decided, split}
 use Rattle.budget.specs.Table.{Table, layer}
 use Rattle.budget.specs.Done.{NotAfter, Least, Labels, Labelled, Lawful, seedAt}
 use Rattle.budget.specs.Search.{FromSink, Searching, Next, Relabelled, IdleUntil, NonePending}

@@ -7,7 +7,7 @@ use native.Mathlib.Nat.{suc-mul, mul-one}
 use native.Mathlib.Omega.{arith}
 use lib.Dec.{T}
 use Rattle.rules.specs.Rules.{Rules}
-use Rattle.rules.proofs.Truth.{split, equal}
+use Rattle.plan.proofs.Truth.{split, equal}
 use Rattle.budget.specs.Table.{Table}
 use Rattle.best.specs.Rows.{sumBelow, total}
 

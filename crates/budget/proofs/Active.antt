@@ -9,7 +9,7 @@ use lib.Dec.{leb}
 use Rattle.timing.specs.Formulas.{wireDelay}
 use Rattle.rules.specs.Rules.{Rules, noGate}
 use Rattle.rules.specs.Legal.{mayStand}
-use Rattle.rules.proofs.Truth.{split}
+use Rattle.plan.proofs.Truth.{split}
 use Rattle.budget.specs.Table.{Table, only, maxBelow, loadAt, loadOf, bufferCost, closeCost, viaBuffer, arrival, given, layer}
 use Rattle.budget.proofs.Max.{only-most, only-false, only-bound}
 

@@ -9,7 +9,7 @@ use lib.ListN.{length}
 use Rattle.rules.specs.Rules.{Rules, registerCode}
 use Rattle.rules.specs.Legal.{Route, legal}
 use Rattle.rules.specs.Ranking.{registers, steps, ranksBefore, IsBest}
-use Rattle.rules.proofs.Truth.{split}
+use Rattle.plan.proofs.Truth.{split}
 use Rattle.rules.proofs.Order.{Earlier, earlier-view, ranks-irreflexive, ranks-transitive, fewer-registers, fewer-steps, ranks-written}
 use Rattle.rules.proofs.Figures.{closings, ending-sevens, route-registers, route-steps}
 use Rattle.rules.proofs.View.{Ending, FirstVisit, LegalRoute, ending-view, ending-test, route-view, route-test}

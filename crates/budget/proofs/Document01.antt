@@ -10,7 +10,7 @@ use Rattle.timing.specs.declared.elements.Elements.{Elements}
 use Rattle.timing.specs.Valid.{Valid}
 use Rattle.rules.specs.Rules.{noGate, registerCode, rulesOf}
 use Rattle.rules.specs.Legal.{mayStand}
-use Rattle.rules.proofs.Truth.{equal}
+use Rattle.plan.proofs.Truth.{equal}
 use Rattle.rules.proofs.Document01.{rules-cellCount, rules-linked, rules-bound, buffer-site}
 use Rattle.budget.specs.Done.{Lawful}
 

@@ -11,7 +11,7 @@ use lib.ListN.{length}
 use Rattle.rules.specs.Rules.{Rules, noGate, registerCode}
 use Rattle.rules.specs.Legal.{Visit, Route, mayStand, legalFrom}
 use Rattle.rules.specs.Ranking.{codeSevens, written, precedes}
-use Rattle.rules.proofs.Truth.{both, snd, parts, equal}
+use Rattle.plan.proofs.Truth.{both, snd, parts, equal}
 use Rattle.rules.proofs.Order.{Earlier, earlier-view}
 use Rattle.rules.proofs.View.{ending-view}
 use Rattle.budget.specs.Table.{Table, Represents, loadAt, delayAt, bufferCost, loadOf, closeCost}

@@ -8,7 +8,7 @@ use native.Mathlib.Omega.{arith}
 use lib.Dec.{T, leb, leb→le, le→leb}
 use Rattle.rules.specs.Rules.{Rules, registerCode}
 use Rattle.rules.specs.Ranking.{IsBest}
-use Rattle.rules.proofs.Truth.{equal, of-true, split}
+use Rattle.plan.proofs.Truth.{equal, of-true, split}
 use Rattle.budget.specs.Table.{Table, Represents}
 use Rattle.budget.specs.Done.{Least, Labels, Labelled, Lawful}
 use Rattle.budget.specs.Emission.{Reaches, goesOn, afterLoad, afterDelay, afterRegisters, visit, Before, FirstViable, Candidate, FirstEnding, firstFrom, nextCode, nextCell, emit}

@@ -7,7 +7,7 @@ use lib.Dec.{T, leb, leb→le, le→leb}
 use Rattle.timing.specs.Formulas.{wireDelay}
 use Rattle.rules.specs.Rules.{Rules, noGate}
 use Rattle.rules.specs.Legal.{mayStand}
-use Rattle.rules.proofs.Truth.{both, fst, snd}
+use Rattle.plan.proofs.Truth.{both, fst, snd}
 use Rattle.budget.specs.Table.{Table, States, Represents, Step, stays, passes, drives, closes, only, maxBelow, loadAt, delayAt, bufferCost, loadOf, closeCost, viaBuffer, arrival, given, layer}
 use Rattle.budget.proofs.Max.{Above, max-cases, below-max, max-below, only-test, only-value, only-in}
 

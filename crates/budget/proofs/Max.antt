@@ -5,7 +5,7 @@ use mathlib.Core.Bool.{Bool, true, false, cond}
 use mathlib.Core.Logic.{_⊎_, inl, inr}
 use native.Mathlib.Omega.{arith}
 use lib.Dec.{T}
-use Rattle.rules.proofs.Truth.{split, equal}
+use Rattle.plan.proofs.Truth.{split, equal}
 use Rattle.budget.specs.Table.{maxBelow, only}
 
 -- d is below f at some place below n

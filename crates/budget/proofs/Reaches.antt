@@ -10,7 +10,7 @@ use lib.ListN.{length}
 use Rattle.rules.specs.Rules.{Rules, registerCode}
 use Rattle.rules.specs.Legal.{Route, mayStand, legalFrom}
 use Rattle.rules.specs.Ranking.{codeSevens}
-use Rattle.rules.proofs.Truth.{both, parts, eq→eqb, equal}
+use Rattle.plan.proofs.Truth.{both, parts, eq→eqb, equal}
 use Rattle.rules.proofs.Figures.{ending-visits}
 use Rattle.rules.proofs.View.{ending-view}
 use Rattle.budget.specs.Table.{Table, States, Represents, Step, layer}
@@ -158,7 +158,7 @@ module _ (R : Rules) (law : Lawful R) {k₀ s₀ : ℕ} {m : Labels} (labels : L
 -- The tables of `Reaches`, layer by layer
 
 -- the seeds change only by labels that come in
-exact-later : (R : Rules) (m : Labels) (k u v n : ℕ) → (T (m .known n) → suc (m .registers n) ≡ k → m .steps n ≤ u → m .steps n ≤ v) → T (exactSeed R m k u n) → T (exactSeed R m k v n)
+pub exact-later : (R : Rules) (m : Labels) (k u v n : ℕ) → (T (m .known n) → suc (m .registers n) ≡ k → m .steps n ≤ u → m .steps n ≤ v) → T (exactSeed R m k u n) → T (exactSeed R m k v n)
 exact-later R m zero u v n f s = source-seed R m v n (seed-at-source R m u n s)
 exact-later R m (suc j) u v n f s =
     let x = exact-view R m j u n s in

@@ -10,7 +10,7 @@ use lib.ListN.{length}
 use Rattle.rules.specs.Rules.{Rules, registerCode}
 use Rattle.rules.specs.Legal.{Route, mayStand}
 use Rattle.rules.specs.Ranking.{codeSevens}
-use Rattle.rules.proofs.Truth.{both, fst, snd, or-left, or-right, or-cases, eq→eqb, split, equal, three-way, decided}
+use Rattle.plan.proofs.Truth.{both, fst, snd, or-left, or-right, or-cases, eq→eqb, split, equal, three-way, decided}
 use Rattle.budget.specs.Table.{Table, Represents, layer}
 use Rattle.budget.specs.Done.{NotAfter, Within, Done, Fresh, Least, Seed, Labels, Labelled, Lawful, seedAt}
 use Rattle.budget.specs.Search.{FromSink, Searching, Next, Relabelled, IdleUntil, NonePending}

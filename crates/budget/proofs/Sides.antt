@@ -14,7 +14,7 @@ use Rattle.timing.specs.declared.elements.Wire.{Wire}
 use Rattle.timing.specs.declared.elements.Elements.{Elements}
 use Rattle.timing.specs.Formulas.{wireDelay, wireLoad}
 use Rattle.rules.specs.Rules.{Rules, rulesOf, wireOf}
-use Rattle.rules.proofs.Truth.{both, fst, snd, decided, is-true, is-false, eq→eqb}
+use Rattle.plan.proofs.Truth.{both, fst, snd, decided, is-true, is-false, eq→eqb}
 use Rattle.budget.proofs.Max.{only-most, only-true, only-false, only-bound}
 use Rattle.budget.specs.Table.{Table, only, given, loadAt}
 use Rattle.budget.specs.Sides.{gift, isSide}

@@ -10,7 +10,7 @@ use lib.Dec.{T, eqb}
 use Rattle.rules.specs.Rules.{Stage, Rules, noGate, registerCode}
 use Rattle.rules.specs.Legal.{Visit, Route, arrive, buffered, closing, mayStand, legalFrom}
 use Rattle.rules.specs.Ranking.{codeSevens}
-use Rattle.rules.proofs.Truth.{equal}
+use Rattle.plan.proofs.Truth.{equal}
 use Rattle.rules.proofs.View.{Ending, Reached, ending-view, ending-test}
 use Rattle.budget.specs.Table.{loadAt, delayAt, bufferCost, loadOf, closeCost}
 use Rattle.budget.specs.Done.{stage, Within, Done, Lawful}

@@ -9,7 +9,7 @@ use lib.Dec.{T, T-not}
 use lib.ListN.{getD}
 use Rattle.rules.specs.Rules.{Rules, registerCode}
 use Rattle.rules.specs.Legal.{mayStand}
-use Rattle.rules.proofs.Truth.{split, equal, decided}
+use Rattle.plan.proofs.Truth.{split, equal, decided}
 use Rattle.budget.specs.Done.{NotAfter}
 use Rattle.budget.specs.Search.{Relabelled}
 use Rattle.lists.specs.Lists.{flagOf, Place, Listed}

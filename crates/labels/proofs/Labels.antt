@@ -8,7 +8,7 @@ use native.Mathlib.Omega.{arith}
 use lib.Dec.{T, eqb, ltb, not-T}
 use lib.ListN.{getD}
 use Rattle.rules.specs.Rules.{Rules}
-use Rattle.rules.proofs.Truth.{both, fst, snd, tests, split, equal, decided, is-true, is-false}
+use Rattle.plan.proofs.Truth.{both, fst, snd, tests, split, equal, decided, is-true, is-false}
 use Rattle.budget.specs.Done.{NotAfter, Labelled, seedAt}
 use Rattle.lists.specs.Lists.{Place}
 use Rattle.lists.proofs.Sums.{sum-same, sum-bound, sum-none, sum-more, sum-short}

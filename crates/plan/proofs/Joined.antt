@@ -9,7 +9,7 @@ use borrow.Author.Tests.{eq-eqb}
 use lib.Dec.{T, eqb, ltb, eqb→eq, ltb→lt}
 use Rattle.plan.specs.Plan.{Plan, cells, row, column, marksAt, cutRight, cutBelow}
 use Rattle.plan.specs.Joined.{wireRight, wireBelow, bothIn, horizontal, vertical, joined}
-use Rattle.plan.proofs.Truth.{fst, snd, either, or-comm, not-holds}
+use Rattle.plan.proofs.Truth.{fst, snd, or-cases, or-comm, is-false}
 use Rattle.plan.proofs.Division.{right-row, right-column, right-is, down-row, down-column, down-is}
 
 swapped : (a b c d : Bool) → (a && b && (c || d)) ≡ (b && a && (d || c))
@@ -46,7 +46,7 @@ vertical-in p a b t = both-in p a b (fst (bothIn p a b) (wireBelow p a b || wire
 pub joined-in : (p : Plan) (a b : ℕ) → T (joined p a b) → (a < cells p) × (b < cells p)
 unfolding joined
 joined-in p a b t =
-    ⊎-elim (horizontal-in p a b) (vertical-in p a b) (either (horizontal p a b) (vertical p a b) t)
+    ⊎-elim (horizontal-in p a b) (vertical-in p a b) (or-cases (horizontal p a b) (vertical p a b) t)
 
 -- a wire that leads right from a to b, as numbers
 pub record Right (p : Plan) (a b : ℕ) : Type 0 where
@@ -71,7 +71,7 @@ module _ (p : Plan) (wide : 0 < p .width) where
       record {
         next = right-is (p .width) wide a b (eqb→eq _ _ (fst r c (fst (r && c) u t))) f;
         inside = omega (arith, mod-lt b wide);
-        uncut = not-holds (cutRight (marksAt p a)) (snd (r && c) u t);
+        uncut = is-false (cutRight (marksAt p a)) (snd (r && c) u t);
       }
 
   pub of-right : (a b : ℕ) → Right p a b → T (wireRight p a b)
@@ -89,7 +89,7 @@ module _ (p : Plan) (wide : 0 < p .width) where
       let u = not (cutBelow (marksAt p a)) in
       record {
         next = down-is (p .width) wide a b (eqb→eq _ _ (snd c r (fst (c && r) u t))) (eqb→eq _ _ (fst c r (fst (c && r) u t)));
-        uncut = not-holds (cutBelow (marksAt p a)) (snd (c && r) u t);
+        uncut = is-false (cutBelow (marksAt p a)) (snd (c && r) u t);
       }
 
   pub of-below : (a b : ℕ) → Below p a b → T (wireBelow p a b)

@@ -10,7 +10,7 @@ use lib.Dec.{T, leb, ltb, leb→le, ltb→lt, lt→ltb}
 use Rattle.plan.specs.declared.Neighbours.{Neighbours}
 use Rattle.plan.specs.Plan.{Plan, Sized, cells, column, marksAt, cutRight, cutBelow}
 use Rattle.plan.specs.Joined.{wireRight, wireBelow, bothIn, horizontal, vertical, joined, neighboursOf}
-use Rattle.plan.proofs.Truth.{both, fst, snd, either, or-left, or-right, not-holds}
+use Rattle.plan.proofs.Truth.{both, fst, snd, or-cases, or-left, or-right, is-false}
 use Rattle.plan.proofs.Division.{left-column, right-column, right-in}
 use Rattle.plan.proofs.Joined.{Right, Below, right-of, of-right, below-of, of-below, vertical-in}
 
@@ -48,7 +48,7 @@ module _ (p : Plan) (s : Sized p) (c : ℕ) (h : c < cells p) where
       let t = leb (p .width) c in
       let k = cutBelow (marksAt p (c - p .width)) in
       choice (t && not k) (c - p .width) (cells p) (λ n. (n ≡ cells p) ⊎ Below p n c)
-      (λ o. let w : p .width ≤ c = leb→le _ _ (fst t (not k) o) in inr (record { next = omega arith; uncut = not-holds k (snd t (not k) o) }))
+      (λ o. let w : p .width ≤ c = leb→le _ _ (fst t (not k) o) in inr (record { next = omega arith; uncut = is-false k (snd t (not k) o) }))
       (inl refl)
 
   left-wire : (neighboursOf p c .left ≡ cells p) ⊎ Right p (neighboursOf p c .left) c
@@ -63,7 +63,7 @@ module _ (p : Plan) (s : Sized p) (c : ℕ) (h : c < cells p) where
       (record {
         next = omega (arith, mod-le c (p .width));
         inside = omega (arith, left-column (p .width) (s .wide) c w, mod-lt c (s .wide));
-        uncut = not-holds k (snd t (not k) o);
+        uncut = is-false k (snd t (not k) o);
       }))
       (inl refl)
 
@@ -73,7 +73,7 @@ module _ (p : Plan) (s : Sized p) (c : ℕ) (h : c < cells p) where
       let t = ltb (column p c + 1) (p .width) in
       let k = cutRight (marksAt p c) in
       choice (t && not k) (c + 1) (cells p) (λ n. (n ≡ cells p) ⊎ Right p c n)
-      (λ o. inr (record { next = refl; inside = ltb→lt _ _ (fst t (not k) o); uncut = not-holds k (snd t (not k) o) }))
+      (λ o. inr (record { next = refl; inside = ltb→lt _ _ (fst t (not k) o); uncut = is-false k (snd t (not k) o) }))
       (inl refl)
 
   down-wire : (neighboursOf p c .down ≡ cells p) ⊎ (Below p c (neighboursOf p c .down) × (neighboursOf p c .down < cells p))
@@ -82,7 +82,7 @@ module _ (p : Plan) (s : Sized p) (c : ℕ) (h : c < cells p) where
       let t = ltb (c + p .width) (cells p) in
       let k = cutBelow (marksAt p c) in
       choice (t && not k) (c + p .width) (cells p) (λ n. (n ≡ cells p) ⊎ (Below p c n × (n < cells p)))
-      (λ o. inr (record { next = refl; uncut = not-holds k (snd t (not k) o) }, ltb→lt _ _ (fst t (not k) o)))
+      (λ o. inr (record { next = refl; uncut = is-false k (snd t (not k) o) }, ltb→lt _ _ (fst t (not k) o)))
       (inl refl)
 
   -- A wire leads to its side.
@@ -116,7 +116,7 @@ module _ (p : Plan) (s : Sized p) (c : ℕ) (h : c < cells p) where
       ⊎-elim
       (λ w. inr (wire-down b (vertical-in p c b t .1) (below-of p (s .wide) c b w)))
       (λ w. inl (wire-up b (below-of p (s .wide) b c w)))
-      (either (wireBelow p c b) (wireBelow p b c) (snd (bothIn p c b) (wireBelow p c b || wireBelow p b c) t))
+      (or-cases (wireBelow p c b) (wireBelow p b c) (snd (bothIn p c b) (wireBelow p c b || wireBelow p b c) t))
 
   -- horizontal wires: left and right
   pub horizontal-neighbour : (b : ℕ) → T (horizontal p c b) → (b ≡ neighboursOf p c .left) ⊎ (b ≡ neighboursOf p c .right)
@@ -125,7 +125,7 @@ module _ (p : Plan) (s : Sized p) (c : ℕ) (h : c < cells p) where
       ⊎-elim
       (λ w. inr (wire-right b (right-of p (s .wide) c b w)))
       (λ w. inl (wire-left b (right-of p (s .wide) b c w)))
-      (either (wireRight p c b) (wireRight p b c) (snd (bothIn p c b) (wireRight p c b || wireRight p b c) t))
+      (or-cases (wireRight p c b) (wireRight p b c) (snd (bothIn p c b) (wireRight p c b || wireRight p b c) t))
 
   in-both : (b : ℕ) → b < cells p → T (bothIn p c b)
   unfolding bothIn
@@ -172,7 +172,7 @@ module _ (p : Plan) (s : Sized p) (c : ℕ) (h : c < cells p) where
       ⊎-elim
       (λ w. inr (⊎-elim inl (λ e. inr (inl e)) (horizontal-neighbour b w)))
       (λ w. ⊎-elim inl (λ e. inr (inr (inr e))) (vertical-neighbour b w))
-      (either (horizontal p c b) (vertical p c b) t)
+      (or-cases (horizontal p c b) (vertical p c b) t)
 
   pub neighbour-joined : (b : ℕ) → b < cells p → IsNeighbour p c b → T (joined p c b)
   unfolding joined

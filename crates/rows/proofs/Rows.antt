@@ -8,7 +8,7 @@ use borrow.Author.Tests.{lt-leb}
 use lib.ListN.{getD}
 use Rattle.timing.specs.declared.elements.Wire.{Wire}
 use Rattle.timing.specs.Formulas.{wireLoad}
-use Rattle.rules.proofs.Truth.{split}
+use Rattle.plan.proofs.Truth.{split}
 use Rattle.budget.specs.Table.{only, maxBelow}
 use Rattle.budget.proofs.Max.{below-max, max-below}
 use Rattle.rows.specs.Words.{Filled}

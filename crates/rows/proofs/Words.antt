@@ -7,7 +7,7 @@ use native.Mathlib.Omega.{arith}
 use borrow.Author.Count.{below-more}
 use lib.ListN.{length, getD, set, length-set}
 use lib.Seq.{getD-set-same, getD-set-other, ext-getD}
-use Rattle.rules.proofs.Truth.{split}
+use Rattle.plan.proofs.Truth.{split}
 use Rattle.rows.specs.Words.{Filled, Kept, KeptFrom}
 
 pub filled-none : (F : ℕ → ℕ) (at : ℕ) (words : List ℕ) → Filled F at 0 words words

@@ -15,7 +15,7 @@ use Rattle.timing.specs.Formulas.{registerDriver, registerLoad, setupDelay}
 use Rattle.timing.specs.Elements.{bufferOf}
 use Rattle.rules.specs.Rules.{Rules, noGate, registerCode, siteOf, wireOf, rulesOf}
 use Rattle.rules.specs.Legal.{isEnd, mayStand}
-use Rattle.rules.proofs.Truth.{decided, split}
+use Rattle.plan.proofs.Truth.{decided, split}
 use Rattle.rules.proofs.View.{may-stand, may-pass-end, stands-between, stands-site, not-end, not-sink, not-source}
 
 -- The fields

@@ -9,7 +9,7 @@ use Rattle.timing.specs.Formulas.{wireDelay, gateDelay, bufferDriver}
 use Rattle.rules.specs.Rules.{Stage, Rules}
 use Rattle.rules.specs.Legal.{Visit, Route, arrive, buffered, closing, legalFrom, legal}
 use Rattle.rules.specs.Beginning.{begins, placeAfter, NoLater, Dominates}
-use Rattle.rules.proofs.Truth.{both, snd}
+use Rattle.plan.proofs.Truth.{both, snd}
 use Rattle.rules.proofs.Beginning.{legal-split}
 use Rattle.rules.proofs.View.{Reached, Ending, ends, passes, buffers, closes, ending-view, ending-test}
 

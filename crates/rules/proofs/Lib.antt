@@ -1,4 +1,3 @@
-pub mod Truth
 pub mod Order
 pub mod View
 pub mod Figures

@@ -11,7 +11,7 @@ use lib.Dec.{T, eqb, ltb, ltb→lt, lt→ltb, eqb→eq}
 use Rattle.rules.specs.Rules.{Rules}
 use Rattle.rules.specs.Legal.{Visit, Route}
 use Rattle.rules.specs.Ranking.{registers, steps, written, precedes, key, ranksBefore, IsBest}
-use Rattle.rules.proofs.Truth.{both, parts, or-left, or-right, or-cases, eq→eqb, three-way}
+use Rattle.plan.proofs.Truth.{both, parts, or-left, or-right, or-cases, eq→eqb, three-way}
 
 -- The order of two lists by their heads and tails
 

@@ -9,7 +9,7 @@ use borrow.Author.Tests.{eq-eqb, ne-eqb}
 use lib.Dec.{T, eqb, ltb, leb→le, le→leb, ltb→lt, lt→ltb, eqb→eq, T-not, not-T}
 use Rattle.rules.specs.Rules.{Stage, Rules, noGate, registerCode}
 use Rattle.rules.specs.Legal.{Visit, Route, arrive, buffered, leave, closing, inTime, isEnd, mayStand, isLast, cellRight, wireRight, codeRight, loadRight, periodRight, visitRight, spanAfter, legalFrom, firstRight, legal}
-use Rattle.rules.proofs.Truth.{both, parts, or-right, is-true, is-false, eq→eqb, equal}
+use Rattle.plan.proofs.Truth.{both, parts, or-right, is-true, is-false, eq→eqb, equal}
 
 -- What a gate leaves, and the span after it, by the gate's code
 

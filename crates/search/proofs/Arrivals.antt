@@ -8,14 +8,15 @@ use native.Mathlib.Omega.{arith}
 use lib.Dec.{T, eqb}
 use lib.ListN.{length, getD}
 use Rattle.rules.specs.Rules.{Rules}
-use Rattle.rules.proofs.Truth.{equal}
-use Rattle.budget.specs.Table.{arrival, given}
-use Rattle.budget.proofs.Active.{arrival-row, given-row}
+use Rattle.plan.proofs.Truth.{equal}
+use Rattle.budget.specs.Table.{Table, arrival, given}
+use Rattle.budget.proofs.Active.{arrival-row, arrival-none, given-row, given-none}
 use Rattle.lists.specs.Lists.{flagOf, Listed}
-use Rattle.lists.proofs.Lists.{bit-cases}
+use Rattle.lists.proofs.Lists.{bit-cases, listed-none}
+use Rattle.rows.specs.Rows.{rowWords}
 use Rattle.table.specs.Problem.{budgetOf, seedOf}
 use Rattle.table.specs.Layer.{Settled, Active}
-use Rattle.table.proofs.Views.{budget-kept}
+use Rattle.table.proofs.Views.{inside, budget-at, budget-outside, budget-kept}
 use Rattle.labels.specs.Labels.{orderOf, Planted, Arrived}
 
 module _ (R : Rules) (n : ℕ) (old new : List ℕ) where
@@ -51,3 +52,26 @@ module _ (R : Rules) (n : ℕ) (old new : List ℕ) where
         where
           none : (i : ℕ) → from ≤ i → i < to → orderOf n old i ≡ c → ⊥
           none i lo hi e = let w : flagOf n new c ≡ 1 = rw e at (r .flags i lo hi) in omega arith
+
+-- rows of zeros are a table of zeros
+pub cleared-table : (n : ℕ) (words : List ℕ) → ((i : ℕ) → i < n * 64 → getD words i 0 ≡ 0) → (c l : ℕ) → budgetOf n words c l ≡ 0
+cleared-table n words rows c l = go (inside n c l)
+  where
+    go : ((c < n) × (l < rowWords)) ⊎ (c < n → l < rowWords → ⊥) → budgetOf n words c l ≡ 0
+    go (inl h) = budget-at n words c l (h .0) (h .1) ∙ rows (c * 64 + l) (omega arith)
+    go (inr f) = budget-outside n words c l f
+
+pub cleared-seed : (n : ℕ) (words : List ℕ) (c : ℕ) → getD words (n * 135 + c) 0 ≡ 0 → seedOf n words c ≡ false
+unfolding seedOf
+cleared-seed n words c e = rw e
+
+-- with no flag and no seed either, no cell gives anything
+pub cleared-active : (R : Rules) (n : ℕ) (words : List ℕ) → ((i : ℕ) → i < n * 64 → getD words i 0 ≡ 0) → ((i : ℕ) → n * 134 ≤ i → i < n * 136 → getD words i 0 ≡ 0) → Active R n words 0
+cleared-active R n words rows flags =
+    record {
+      listed = listed-none n words (n * 132) (λ c h. flags (n * 134 + c) (omega arith) (omega arith));
+      settled = λ c h z m l. omega (arith, given-none R B c (arrival-none R (seedOf n words) (R .bound 0) (budgetOf n words) c (cleared-table n words rows c) (cleared-seed n words c (flags (n * 135 + c) (omega arith) (omega arith)))) m l);
+    }
+  where
+    B : Table
+    B = arrival R (seedOf n words) (R .bound 0) (budgetOf n words)

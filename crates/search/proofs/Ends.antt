@@ -6,7 +6,7 @@ use mathlib.Core.List.{List}
 use native.Mathlib.Omega.{arith}
 use lib.ListN.{length, getD}
 use Rattle.rules.specs.Rules.{Rules}
-use Rattle.rules.proofs.Truth.{split}
+use Rattle.plan.proofs.Truth.{split}
 use Rattle.budget.specs.Search.{FromSink}
 use Rattle.labels.specs.Labels.{ArrivedAll}
 use Rattle.search.specs.declared.turns.Progress.{Progress}

@@ -9,7 +9,7 @@ use lib.Dec.{T, eqb}
 use lib.ListN.{length, getD}
 use Rattle.rules.specs.Rules.{Rules, registerCode}
 use Rattle.rules.specs.Legal.{mayStand}
-use Rattle.rules.proofs.Truth.{split, equal, is-true, of-true, decided}
+use Rattle.plan.proofs.Truth.{split, equal, is-true, of-true, decided}
 use Rattle.budget.specs.Table.{Table, arrival, given, layer, maxBelow}
 use Rattle.budget.specs.Done.{NotAfter, Done, Least, Labels, Labelled, Lawful, seedAt}
 use Rattle.budget.specs.Search.{FromSink, Searching, Next, Relabelled, IdleUntil, NonePending}
@@ -30,7 +30,7 @@ use Rattle.search.specs.Front.{total, Waiting, Front}
 use Rattle.search.proofs.Total.{total-kept, total-least, total-grows}
 use Rattle.search.proofs.Arrivals.{active-arrived}
 
-bool-same : (a b : Bool) → (T a → T b) → (T b → T a) → a ≡ b
+pub bool-same : (a b : Bool) → (T a → T b) → (T b → T a) → a ≡ b
 bool-same true true f g = refl
 bool-same true false f g = absurd (f tt)
 bool-same false true f g = absurd (g tt)

@@ -9,16 +9,14 @@ use lib.Dec.{T, eqb, eqb→eq, T-not}
 use lib.ListN.{length, getD}
 use Rattle.rules.specs.Rules.{Rules, registerCode}
 use Rattle.rules.specs.Legal.{mayStand}
-use Rattle.rules.proofs.Truth.{split, equal, decided, eq→eqb, is-true, of-true}
-use Rattle.budget.specs.Table.{Table, arrival}
+use Rattle.plan.proofs.Truth.{split, equal, decided, eq→eqb, is-true, of-true}
 use Rattle.budget.specs.Done.{NotAfter, Done, Least, Labels, Labelled, Lawful}
 use Rattle.budget.specs.Search.{Searching, Next, Relabelled}
 use Rattle.budget.proofs.Done.{not-after-trans}
-use Rattle.budget.proofs.Active.{arrival-none, given-row, given-none}
 use Rattle.budget.proofs.Search.{same-table}
 use Rattle.budget.proofs.Turns.{search-start, layer-turn}
 use Rattle.lists.specs.Lists.{flagOf, Place, Listed}
-use Rattle.lists.proofs.Lists.{bit-cases, listed-none, listed-kept, listed-count}
+use Rattle.lists.proofs.Lists.{bit-cases, listed-kept, listed-count}
 use Rattle.rows.specs.Words.{Kept, KeptFrom}
 use Rattle.table.specs.Problem.{budgetOf, seedOf}
 use Rattle.table.specs.Layer.{Active, Layered}
@@ -28,14 +26,14 @@ use Rattle.labels.specs.Additions.{LabelsAdded}
 use Rattle.labels.proofs.Labels.{known-below, known-kept, label-kept, labelled-kept, ordered-count, ordered-kept, ordered-none, word-unknown, unknown-not}
 use Rattle.search.specs.Front.{total, Waiting, Front}
 use Rattle.search.proofs.Total.{total-kept}
-use Rattle.search.proofs.Arrivals.{settled-kept, active-planted, active-arrived}
+use Rattle.search.proofs.Arrivals.{settled-kept, active-planted, active-arrived, cleared-table, cleared-active}
 use Rattle.search.proofs.Fronts.{order-same, order-registers, order-steps, front-next, front-grows}
 
-seed-word : (n : ℕ) (words : List ℕ) (c : ℕ) → T (seedOf n words c) → getD words (n * 135 + c) 0 ≡ 1
+pub seed-word : (n : ℕ) (words : List ℕ) (c : ℕ) → T (seedOf n words c) → getD words (n * 135 + c) 0 ≡ 1
 unfolding seedOf
 seed-word n words c t = eqb→eq _ _ t
 
-word-seed : (n : ℕ) (words : List ℕ) (c : ℕ) → getD words (n * 135 + c) 0 ≡ 1 → T (seedOf n words c)
+pub word-seed : (n : ℕ) (words : List ℕ) (c : ℕ) → getD words (n * 135 + c) 0 ≡ 1 → T (seedOf n words c)
 unfolding seedOf
 word-seed n words c e = eq→eqb _ _ e
 
@@ -230,36 +228,15 @@ module _ (R : Rules) (n : ℕ) (inPlan : R .source < n) (words : List ℕ) (k s 
 
 -- words of zeros, with the source as the only seed
 module _ (R : Rules) (n : ℕ) (inPlan : R .source < n) (words : List ℕ) (zeros : (i : ℕ) → i < n * 136 → getD words i 0 ≡ 0) where
-  no-seed : (c : ℕ) → c < n → seedOf n words c ≡ false
-  unfolding seedOf
-  no-seed c h = rw (zeros (n * 135 + c) (omega arith))
-
-  zero-table : (c l : ℕ) → budgetOf n words c l ≡ 0
-  zero-table c l = go (Rattle.table.proofs.Views.inside n c l)
-    where
-      go : ((c < n) × (l < Rattle.rows.specs.Rows.rowWords)) ⊎ (c < n → l < Rattle.rows.specs.Rows.rowWords → ⊥) → budgetOf n words c l ≡ 0
-      go (inl h) = Rattle.table.proofs.Views.budget-at n words c l (h .0) (h .1) ∙ zeros (c * 64 + l) (omega arith)
-      go (inr f) = budget-outside n words c l f
-
   pub start-active : Active R n words 0
-  start-active =
-      record {
-        listed = listed-none n words (n * 132) (λ c h. zeros (n * 134 + c) (omega arith));
-        settled = λ c h z m l. omega (arith, nothing c h m l);
-      }
-    where
-      nothing : (c : ℕ) → c < n → (m l : ℕ) → Rattle.budget.specs.Table.given R (arrival R (seedOf n words) (R .bound 0) (budgetOf n words)) c m l ≡ 0
-      nothing c h m l = given-row R (λ x y. 0) (arrival R (seedOf n words) (R .bound 0) (budgetOf n words)) c (arrival-none R (seedOf n words) (R .bound 0) (budgetOf n words) c (zero-table c) (no-seed c h)) m l ∙ zero-given m l
-        where
-          zero-given : (m l : ℕ) → Rattle.budget.specs.Table.given R (λ x y. 0) c m l ≡ 0
-          zero-given m l = given-none R (λ x y. 0) c (λ k. refl) m l
+  start-active = cleared-active R n words (λ i h. zeros i (omega arith)) (λ i lo hi. zeros i hi)
 
   pub start-front : (new : List ℕ) (active : ℕ) → Planted n (R .source) words new active → Front R n new 0 0 active 0 0 0
   start-front new active p =
       record {
         waiting =
             record {
-              searching = search-start R (budgetOf n new) (labelsOf n new) (λ c l. budget-kept n words new (λ i lo hi. p .low i (omega arith)) c l ∙ zero-table c l) (λ c t. unknown c t);
+              searching = search-start R (budgetOf n new) (labelsOf n new) (λ c l. budget-kept n words new (λ i lo hi. p .low i (omega arith)) c l ∙ cleared-table n words (λ i h. zeros i (omega arith)) c l) (λ c t. unknown c t);
               list = active-planted R n words new (R .source) 0 active start-active p;
               ordered = ordered-none n new (λ c h. p .low (n * 128 + c) (omega arith) ∙ zeros (n * 128 + c) (omega arith));
               sourceSeed = word-seed n new (R .source) (p .nowSeed);

@@ -8,7 +8,7 @@ use native.Mathlib.Numerals.{add-one}
 use lib.Dec.{T}
 use lib.ListN.{length, getD}
 use Rattle.rules.specs.Rules.{Rules}
-use Rattle.rules.proofs.Truth.{equal}
+use Rattle.plan.proofs.Truth.{equal}
 use Rattle.budget.specs.Table.{Table, arrival, given, layer}
 use Rattle.budget.specs.Done.{NotAfter, Lawful, seedAt}
 use Rattle.budget.specs.Search.{Next}

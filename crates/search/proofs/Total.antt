@@ -5,7 +5,7 @@ use mathlib.Core.Logic.{_⊎_, inl, inr}
 use mathlib.Core.List.{List}
 use native.Mathlib.Omega.{arith}
 use lib.ListN.{length, getD}
-use Rattle.rules.proofs.Truth.{split, equal}
+use Rattle.plan.proofs.Truth.{split, equal}
 use Rattle.lists.specs.Lists.{sumBelow}
 use Rattle.lists.proofs.Sums.{sum-same, sum-bound}
 use Rattle.rows.specs.Words.{Kept}

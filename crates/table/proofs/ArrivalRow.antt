@@ -13,7 +13,7 @@ use Rattle.timing.specs.declared.elements.Elements.{Elements}
 use Rattle.timing.specs.Formulas.{gateDelay, bufferDriver, bufferLoad, registerDriver}
 use Rattle.rules.specs.Rules.{Rules, rulesOf, noGate}
 use Rattle.rules.specs.Legal.{mayStand}
-use Rattle.rules.proofs.Truth.{split, both, parts, is-true, is-false, of-true, of-false, neqb→ne, ne→neqb}
+use Rattle.plan.proofs.Truth.{split, both, parts, is-true, is-false, of-true, of-false, neqb→ne, ne→neqb}
 use Rattle.rules.proofs.Document01.{BufferSite, no-gate-stands, buffer-site, buffer-stands}
 use Rattle.budget.specs.Table.{Table, only, maxBelow, viaBuffer, arrival, loadOf, bufferCost, closeCost}
 use Rattle.rows.specs.Rows.{rowWords, copied, raised}
@@ -85,7 +85,7 @@ module _ (p : Problem) (marks : List ℕ) (cell : ℕ) where
   abbrev site : Bool
   site = takesBuffers (getD marks cell 0) p cell
 
-  takes-site : site ≡ true → (code : ℕ) → 1 ≤ code → code ≤ p .elements .count → BufferSite (planFor p marks) (p .elements) (p .source) (p .sink) cell code
+  pub takes-site : site ≡ true → (code : ℕ) → 1 ≤ code → code ≤ p .elements .count → BufferSite (planFor p marks) (p .elements) (p .source) (p .sink) cell code
   unfolding takesBuffers planFor marksAt
   takes-site e code h k =
       let t = of-true site e in
@@ -97,7 +97,7 @@ module _ (p : Problem) (marks : List ℕ) (cell : ℕ) where
         notSource = neqb→ne cell (p .source) (search (parts, t));
       }
 
-  site-takes : (code : ℕ) → BufferSite (planFor p marks) (p .elements) (p .source) (p .sink) cell code → T site
+  pub site-takes : (code : ℕ) → BufferSite (planFor p marks) (p .elements) (p .source) (p .sink) cell code → T site
   unfolding takesBuffers planFor marksAt
   site-takes code s =
       search (both, ne→neqb cell (p .source) (s .notSource), ne→neqb cell (p .sink) (s .notSink), s .unblocked)

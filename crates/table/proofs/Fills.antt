@@ -7,7 +7,7 @@ use native.Mathlib.Omega.{arith}
 use lib.ListN.{length, getD, set, length-set}
 use lib.Seq.{getD-set-same, getD-set-other}
 use Rattle.rules.specs.Rules.{Rules, rulesOf}
-use Rattle.rules.proofs.Truth.{split, equal}
+use Rattle.plan.proofs.Truth.{split, equal}
 use Rattle.budget.specs.Table.{Table, arrival}
 use Rattle.budget.proofs.Active.{arrival-row, arrival-past}
 use Rattle.rows.specs.Words.{Filled, Kept, KeptFrom}

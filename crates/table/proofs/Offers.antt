@@ -10,7 +10,7 @@ use lib.ListN.{length, getD}
 use Rattle.timing.specs.declared.elements.Wire.{Wire}
 use Rattle.timing.specs.Formulas.{wireDelay, wireLoad}
 use Rattle.timing.specs.Ranges.{loadMax}
-use Rattle.rules.proofs.Truth.{both, fst, snd, decided, split, equal, eq→eqb}
+use Rattle.plan.proofs.Truth.{both, fst, snd, decided, split, equal, eq→eqb}
 use Rattle.budget.specs.Table.{Table, only}
 use Rattle.budget.specs.Sides.{gift, isSide}
 use Rattle.budget.proofs.Max.{only-true, only-false, only-bound}

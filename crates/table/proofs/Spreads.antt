@@ -12,7 +12,7 @@ use Rattle.plan.proofs.Sides.{ascending}
 use Rattle.timing.specs.declared.elements.Wire.{Wire}
 use Rattle.timing.specs.Elements.{WireInRange}
 use Rattle.rules.specs.Rules.{Rules, rulesOf}
-use Rattle.rules.proofs.Truth.{split}
+use Rattle.plan.proofs.Truth.{split}
 use Rattle.budget.specs.Table.{Table, only, given}
 use Rattle.budget.specs.Sides.{gift, isSide}
 use Rattle.budget.proofs.Sides.{four-sides}

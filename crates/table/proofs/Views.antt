@@ -7,7 +7,7 @@ use mathlib.Core.List.{List}
 use native.Mathlib.Omega.{arith}
 use lib.Dec.{T, eqb, ltb, ltb→lt, lt→ltb}
 use lib.ListN.{length, getD}
-use Rattle.rules.proofs.Truth.{both, fst, snd, decided}
+use Rattle.plan.proofs.Truth.{both, fst, snd, decided}
 use Rattle.budget.specs.Table.{Table, only}
 use Rattle.budget.proofs.Max.{only-true, only-false}
 use Rattle.rows.specs.Words.{Kept, KeptFrom}
@@ -39,7 +39,7 @@ module _ (n : ℕ) where
 
   -- a place of the table, or outside it
   pub inside : (c l : ℕ) → ((c < n) × (l < rowWords)) ⊎ (c < n → l < rowWords → ⊥)
-  inside c l = go (Rattle.rules.proofs.Truth.split n c) (Rattle.rules.proofs.Truth.split rowWords l)
+  inside c l = go (Rattle.plan.proofs.Truth.split n c) (Rattle.plan.proofs.Truth.split rowWords l)
     where
       go : (n ≤ c) ⊎ (c < n) → (rowWords ≤ l) ⊎ (l < rowWords) → ((c < n) × (l < rowWords)) ⊎ (c < n → l < rowWords → ⊥)
       go (inl h) k = inr (λ a b. omega arith)

@@ -14,7 +14,7 @@ use rows::raise_row;
 use timing::Elements;
 
 // A buffer may stand on the cell, which has these marks.
-fn takes_buffers(marks: u8, p: Problem, cell: usize) -> bool
+pub fn takes_buffers(marks: u8, p: Problem, cell: usize) -> bool
     ensures { λ r. ⌜ r ≡ takesBuffers marks p cell ⌝ }
 {
     if cell == p.source {

@@ -4,5 +4,6 @@ mod layer;
 mod problem;
 mod pushes;
 
+pub use arrival::takes_buffers;
 pub use layer::next_layer;
 pub use problem::Problem;

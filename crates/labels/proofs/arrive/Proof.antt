@@ -5,7 +5,7 @@ use mathlib.Core.Logic.{_⊎_, inl, inr}
 use mathlib.Core.List.{List}
 use native.Mathlib.Omega.{arith}
 use lib.ListN.{getD}
-use Rattle.rules.proofs.Truth.{equal}
+use Rattle.plan.proofs.Truth.{equal}
 use Rattle.lists.specs.Lists.{flagOf, Listed}
 use Rattle.lists.proofs.Lists.{listed-some}
 use Rattle.labels.specs.Labels.{stepsOf, orderOf, seedOf, Planted, Arrived}

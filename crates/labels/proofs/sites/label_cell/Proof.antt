@@ -10,7 +10,7 @@ use lib.Dec.{T}
 use lib.ListN.{length, getD}
 use Rattle.rules.specs.Rules.{Rules, registerCode}
 use Rattle.rules.specs.Legal.{mayStand}
-use Rattle.rules.proofs.Truth.{of-true}
+use Rattle.plan.proofs.Truth.{of-true}
 use Rattle.table.specs.declared.problem.Problem.{Problem}
 use Rattle.table.specs.Problem.{rulesFor, budgetOf}
 use Rattle.table.proofs.Spreads.{few-cells}

@@ -10,7 +10,7 @@ use lib.ListN.{getD}
 use Rattle.plan.specs.Plan.{marksAt, tap}
 use Rattle.rules.specs.Rules.{registerCode, rulesOf}
 use Rattle.rules.specs.Legal.{isEnd, mayStand}
-use Rattle.rules.proofs.Truth.{is-false}
+use Rattle.plan.proofs.Truth.{is-false}
 use Rattle.rules.proofs.Document01.{RegisterSite, register-site, site-register}
 use Rattle.table.specs.declared.problem.Problem.{Problem}
 use Rattle.table.specs.Problem.{Ready, planFor, rulesFor}

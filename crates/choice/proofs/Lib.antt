@@ -1,0 +1,4 @@
+pub mod Codes
+pub mod Visits
+pub mod Sides
+pub mod Chosen

@@ -1,0 +1,184 @@
+-- The first visit to any neighbour, out of the first to each of the four sides: these are in ascending order.
+use Prim.Native.Nat.{ℕ, _≤_, _<_}
+use mathlib.Core.Path.{_≡_, refl}
+use mathlib.Core.List.{List}
+use mathlib.Core.Logic.{_⊎_, inl, inr}
+use native.Mathlib.Omega.{arith}
+use lib.Dec.{T, not-T}
+use lib.ListN.{length}
+use Rattle.plan.specs.Plan.{Plan, cells}
+use Rattle.plan.specs.Joined.{horizontal, neighboursOf}
+use Rattle.plan.specs.declared.Neighbours.{Neighbours}
+use Rattle.plan.proofs.Sides.{Ascending, IsNeighbour, ascending, joined-neighbour, neighbour-joined, horizontal-neighbour, neighbour-horizontal}
+use Rattle.timing.specs.declared.elements.Wire.{Wire}
+use Rattle.timing.specs.declared.elements.Elements.{Elements}
+use Rattle.timing.specs.Elements.{WireInRange}
+use Rattle.rules.specs.Rules.{Rules, rulesOf, wireOf, registerCode}
+use Rattle.plan.proofs.Truth.{is-true, is-false}
+use Rattle.budget.specs.Table.{Table}
+use Rattle.budget.specs.Done.{Labels}
+use Rattle.budget.specs.Emission.{Before}
+use Rattle.labels.specs.Labels.{labelsOf}
+use Rattle.table.specs.declared.problem.Problem.{Problem}
+use Rattle.table.specs.Problem.{planFor, rulesFor, budgetOf}
+use Rattle.table.proofs.Spreads.{cells-are}
+use Rattle.choice.specs.declared.State.{State}
+use Rattle.choice.specs.declared.Choice.{Choice}
+use Rattle.choice.specs.Choice.{ChooseAsks, Goes, FirstVisit, ChosenAmong, Chosen}
+use Rattle.choice.specs.Codes.{TryAsks}
+use Rattle.choice.proofs.Visits.{goes-linked}
+
+module _ (p : Problem) (marks words : List ℕ) (from : State) (asks : ChooseAsks p marks words from) where
+  abbrev P : Plan
+  P = planFor p marks
+
+  abbrev n : ℕ
+  n = length marks
+
+  abbrev R : Rules
+  R = rulesFor p marks
+
+  abbrev m : Labels
+  m = labelsOf n words
+
+  abbrev A : Table
+  A = budgetOf n words
+
+  abbrev e : Elements
+  e = p .elements
+
+  abbrev near : Neighbours
+  near = neighboursOf P (from .cell)
+
+  inside : from .cell < cells P
+  inside = omega (arith, asks .inRange .inPlan, cells-are p marks (asks .ready))
+
+  order : Ascending (cells P) (from .cell) near
+  order = ascending P (asks .ready .sized) (from .cell) inside
+
+  -- the wire to each side
+
+  sides : (c : ℕ) → T (R .linked (from .cell) c) → IsNeighbour P (from .cell) c
+  unfolding rulesFor rulesOf
+  sides c t = joined-neighbour P (asks .ready .sized) (from .cell) inside c t
+
+  linked : (c : ℕ) → IsNeighbour P (from .cell) c → c < n → T (R .linked (from .cell) c)
+  unfolding rulesFor rulesOf
+  linked c s h = neighbour-joined P (asks .ready .sized) (from .cell) inside c (omega (arith, cells-are p marks (asks .ready))) s
+
+  across : (c : ℕ) → (c ≡ near .left) ⊎ (c ≡ near .right) → c < n → R .wire (from .cell) c ≡ e .horizontal
+  unfolding rulesFor rulesOf wireOf
+  across c s h =
+      rw (is-true (horizontal P (from .cell) c) (neighbour-horizontal P (asks .ready .sized) (from .cell) inside c (omega (arith, cells-are p marks (asks .ready))) s))
+
+  along : (c : ℕ) → (c ≡ near .up) ⊎ (c ≡ near .down) → c < n → R .wire (from .cell) c ≡ e .vertical
+  unfolding rulesFor rulesOf wireOf
+  along c s h =
+      rw (is-false (horizontal P (from .cell) c) (not-T (horizontal P (from .cell) c) (λ t. go s (horizontal-neighbour P (asks .ready .sized) (from .cell) inside c t))))
+    where
+      size : n ≡ cells P
+      size = cells-are p marks (asks .ready)
+
+      go : (c ≡ near .up) ⊎ (c ≡ near .down) → (c ≡ near .left) ⊎ (c ≡ near .right) → ⊥
+      go (inl a) (inl b) = omega (arith, size, order .up-left (omega (arith, size)))
+      go (inl a) (inr b) = omega (arith, size, order .up-right (omega (arith, size)))
+      go (inr a) (inl b) = omega (arith, size, order .left-down (omega (arith, size)))
+      go (inr a) (inr b) = omega (arith, size, order .right-down (omega (arith, size)))
+
+  side-asks : (c : ℕ) (wire : Wire) → IsNeighbour P (from .cell) c → c ≤ cells P → WireInRange wire → (c < n → R .wire (from .cell) c ≡ wire) → TryAsks p marks words from c wire
+  side-asks c wire s h w q =
+      record { asks = asks; within = omega (arith, cells-are p marks (asks .ready)); joined = linked c s; same = q; wireFits = w }
+
+  pub up-asks : TryAsks p marks words from (near .up) (e .vertical)
+  up-asks = side-asks (near .up) (e .vertical) (inl refl) (order .up-most) (asks .ready .valid .vertical) (along (near .up) (inl refl))
+
+  pub left-asks : TryAsks p marks words from (near .left) (e .horizontal)
+  left-asks = side-asks (near .left) (e .horizontal) (inr (inl refl)) (order .left-most) (asks .ready .valid .horizontal) (across (near .left) (inl refl))
+
+  pub right-asks : TryAsks p marks words from (near .right) (e .horizontal)
+  right-asks = side-asks (near .right) (e .horizontal) (inr (inr (inl refl))) (order .right-most) (asks .ready .valid .horizontal) (across (near .right) (inr refl))
+
+  pub down-asks : TryAsks p marks words from (near .down) (e .vertical)
+  down-asks = side-asks (near .down) (e .vertical) (inr (inr (inr refl))) (order .down-most) (asks .ready .valid .vertical) (along (near .down) (inr refl))
+
+  -- one side
+
+  abbrev pub Only : ℕ → Choice → Type 0
+  Only side = ChosenAmong R n m A from (λ c. c ≡ side)
+
+  abbrev Whole : Choice → Type 0
+  Whole = Chosen R n m A from
+
+  -- no visit there goes on
+  abbrev pub Empty : ℕ → Type 0
+  Empty side = (a : ℕ) → a ≤ registerCode → Goes R m A from side a → ⊥
+
+  pub empty : (side : ℕ) → Only side Choice.Nothing → Empty side
+  empty side (ChosenAmong.nothing f) a h t = f side a refl h t
+
+  -- The first visit to a side is the first of all, if nothing goes on to smaller neighbours.
+  widen : (side code : ℕ) (to : State) → FirstVisit R n m A from (λ c. c ≡ side) code to → (side < cells P → (c : ℕ) → c < side → IsNeighbour P (from .cell) c → Empty c) → Whole (Choice.Visit code to)
+  widen side code to x none =
+      ChosenAmong.visit
+      (record {
+        among = goes-linked R m A from (to .cell) code (x .goes);
+        goes = x .goes;
+        isFirst = first;
+        small = x .small;
+        load = x .load;
+        delay = x .delay;
+        registers = x .registers;
+        steps = x .steps;
+        inRange = x .inRange;
+      })
+    where
+      first : (c a : ℕ) → T (R .linked (from .cell) c) → a ≤ registerCode → Before c a (to .cell) code → Goes R m A from c a → ⊥
+      first c a l h (inl b) t = none (omega (arith, x .among, x .inRange .inPlan, cells-are p marks (asks .ready))) c (omega (arith, x .among)) (sides c l) a h t
+      first c a l h (inr b) t = x .isFirst c a (omega (arith, x .among)) h (inr b) t
+
+  -- the sides in their order
+
+  pub up-first : (code : ℕ) (to : State) → Only (near .up) (Choice.Visit code to) → Whole (Choice.Visit code to)
+  up-first code to (ChosenAmong.visit x) = widen (near .up) code to x none
+    where
+      none : near .up < cells P → (c : ℕ) → c < near .up → IsNeighbour P (from .cell) c → Empty c
+      none h c k (inl q) = absurd (omega arith)
+      none h c k (inr (inl q)) = absurd (omega (arith, order .up-left h))
+      none h c k (inr (inr (inl q))) = absurd (omega (arith, order .up-right h))
+      none h c k (inr (inr (inr q))) = absurd (omega (arith, order .up-down h))
+
+  module _ (up : Empty (near .up)) where
+    pub left-first : (code : ℕ) (to : State) → Only (near .left) (Choice.Visit code to) → Whole (Choice.Visit code to)
+    left-first code to (ChosenAmong.visit x) = widen (near .left) code to x none
+      where
+        none : near .left < cells P → (c : ℕ) → c < near .left → IsNeighbour P (from .cell) c → Empty c
+        none h c k (inl q) = rw q up
+        none h c k (inr (inl q)) = absurd (omega arith)
+        none h c k (inr (inr (inl q))) = absurd (omega (arith, order .left-right h))
+        none h c k (inr (inr (inr q))) = absurd (omega (arith, order .left-down h))
+
+    module _ (left : Empty (near .left)) where
+      pub right-first : (code : ℕ) (to : State) → Only (near .right) (Choice.Visit code to) → Whole (Choice.Visit code to)
+      right-first code to (ChosenAmong.visit x) = widen (near .right) code to x none
+        where
+          none : near .right < cells P → (c : ℕ) → c < near .right → IsNeighbour P (from .cell) c → Empty c
+          none h c k (inl q) = rw q up
+          none h c k (inr (inl q)) = rw q left
+          none h c k (inr (inr (inl q))) = absurd (omega arith)
+          none h c k (inr (inr (inr q))) = absurd (omega (arith, order .right-down h))
+
+      pub down-last : Empty (near .right) → (choice : Choice) → Only (near .down) choice → Whole choice
+      down-last right (Choice.Visit code to) (ChosenAmong.visit x) = widen (near .down) code to x none
+        where
+          none : near .down < cells P → (c : ℕ) → c < near .down → IsNeighbour P (from .cell) c → Empty c
+          none h c k (inl q) = rw q up
+          none h c k (inr (inl q)) = rw q left
+          none h c k (inr (inr (inl q))) = rw q right
+          none h c k (inr (inr (inr q))) = absurd (omega arith)
+      down-last right Choice.Nothing (ChosenAmong.nothing f) = ChosenAmong.nothing (λ c a l. none c (sides c l) a)
+        where
+          none : (c : ℕ) → IsNeighbour P (from .cell) c → Empty c
+          none c (inl q) = rw q up
+          none c (inr (inl q)) = rw q left
+          none c (inr (inr (inl q))) = rw q right
+          none c (inr (inr (inr q))) = λ a h t. f c a q h t

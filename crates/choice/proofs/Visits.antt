@@ -1,0 +1,187 @@
+-- The first visit to one neighbour, out of the first code there.
+use Prim.Native.Nat.{ℕ, _+_, _-_, _≤_, _<_}
+use mathlib.Core.Path.{_≡_, refl, _∙_}
+use mathlib.Core.Bool.{_&&_}
+use mathlib.Core.List.{List}
+use mathlib.Core.Logic.{inl, inr}
+use native.Mathlib.Omega.{arith}
+use borrow.Author.Tests.{eq-eqb, ne-eqb}
+use lib.Dec.{T, leb, ltb, le→leb}
+use lib.ListN.{length}
+use Rattle.plan.proofs.Joined.{joined-in}
+use Rattle.timing.specs.declared.elements.Wire.{Wire}
+use Rattle.timing.specs.declared.elements.Elements.{Elements}
+use Rattle.timing.specs.Ranges.{loadMax}
+use Rattle.timing.specs.Formulas.{wireDelay, wireLoad, gateDelay, bufferDriver, registerLoad, setupDelay}
+use Rattle.timing.specs.Valid.{Valid}
+use Rattle.timing.proofs.Bounds.{wire-delay-max}
+use Rattle.rules.specs.Rules.{Rules, rulesOf, noGate, registerCode}
+use Rattle.rules.specs.Legal.{mayStand}
+use Rattle.plan.proofs.Truth.{both, fst, snd, tests}
+use Rattle.budget.specs.Table.{Table, loadAt, delayAt, loadOf, bufferCost}
+use Rattle.budget.specs.Done.{Labels}
+use Rattle.budget.specs.Emission.{goesOn, afterLoad, afterDelay, Before}
+use Rattle.budget.proofs.Visit.{Gate, gate}
+use Rattle.labels.specs.Labels.{labelsOf}
+use Rattle.table.specs.declared.problem.Problem.{Problem}
+use Rattle.table.specs.Problem.{planFor, rulesFor, budgetOf}
+use Rattle.table.specs.ArrivalRow.{bufferAt}
+use Rattle.table.proofs.Spreads.{cells-are}
+use Rattle.choice.specs.declared.State.{State}
+use Rattle.choice.specs.declared.Choice.{Choice}
+use Rattle.choice.specs.Choice.{delayMost, Goes, ChosenAmong}
+use Rattle.choice.specs.Codes.{CodeAsks, TryAsks, goesAt, FirstCode, leftLoad, leftDelay, Left}
+use Rattle.choice.proofs.Codes.{buffer-load-most}
+
+-- a visit that goes on passes a wire
+pub goes-linked : (R : Rules) (m : Labels) (A : Table) (from : State) (c code : ℕ) → Goes R m A from c code → T (R .linked (from .cell) c)
+unfolding goesOn
+goes-linked R m A from c code t =
+    fst (R .linked (from .cell) c) _ (fst (R .linked (from .cell) c && leb (loadAt R (from .cell) c (from .load)) (R .limit)) _ t)
+
+-- what is left after a gate is in range
+
+module _ (e : Elements) (valid : Valid e) (at : State) (code : ℕ) (small : code ≤ registerCode) where
+  left-light : at .load ≤ loadMax → leftLoad e at code ≤ loadMax
+  unfolding leftLoad registerLoad
+  left-light h = go (gate code)
+    where
+      go : Gate code → leftLoad e at code ≤ loadMax
+      go (Gate.none q) = simp (eq-eqb code noGate q) h
+      go (Gate.register q) = simp (ne-eqb code noGate (omega arith), eq-eqb code registerCode q) (valid .register .load)
+      go (Gate.buffer f g) = simp (ne-eqb code noGate f, ne-eqb code registerCode g) (buffer-load-most valid (code - 1) (omega (arith, f, g)))
+
+  left-early : (R : Rules) (m : Labels) (A : Table) → ((n : ℕ) → bufferCost R code n ≡ gateDelay (bufferDriver (bufferAt e (code - 1))) n) → ((c l : ℕ) → A c l ≤ delayMost) → T (goesAt R m A at code) → leftDelay e at code ≤ delayMost
+  unfolding leftDelay setupDelay goesAt
+  left-early R m A cost bounded t = go (gate code)
+    where
+      go : Gate code → leftDelay e at code ≤ delayMost
+      go (Gate.none q) =
+          let u : T (mayStand R (at .cell) noGate && ltb (at .delay) (A (at .cell) (at .load))) = simp (eq-eqb code noGate q) at t in
+          let h = snd (mayStand R (at .cell) noGate) (ltb (at .delay) (A (at .cell) (at .load))) u in
+          simp (eq-eqb code noGate q) (omega (arith, tests, bounded (at .cell) (at .load)))
+      go (Gate.register q) = simp (ne-eqb code noGate (omega arith), eq-eqb code registerCode q) (omega (arith, valid .register .setup))
+      go (Gate.buffer f g) =
+          let u : T (mayStand R (at .cell) code && leb (loadOf R code) (R .limit) && ltb (at .delay + bufferCost R code (at .load)) (A (at .cell) (loadOf R code))) = simp (ne-eqb code noGate f, ne-eqb code registerCode g) at t in
+          let h = snd (mayStand R (at .cell) code && leb (loadOf R code) (R .limit)) (ltb (at .delay + bufferCost R code (at .load)) (A (at .cell) (loadOf R code))) u in
+          simp (ne-eqb code noGate f, ne-eqb code registerCode g) (omega (arith, tests, cost (at .load), bounded (at .cell) (loadOf R code)))
+
+module _ (p : Problem) (marks words : List ℕ) (from : State) (cell : ℕ) (wire : Wire) (asks : TryAsks p marks words from cell wire) where
+  abbrev R : Rules
+  R = rulesFor p marks
+
+  abbrev m : Labels
+  m = labelsOf (length marks) words
+
+  abbrev A : Table
+  A = budgetOf (length marks) words
+
+  abbrev e : Elements
+  e = p .elements
+
+  abbrev k : ℕ
+  k = from .registers
+
+  abbrev u : ℕ
+  u = from .steps - 1
+
+  abbrev Only : Choice → Type 0
+  Only = ChosenAmong R (length marks) m A from (λ c. c ≡ cell)
+
+  linked-in : (c : ℕ) → T (R .linked (from .cell) c) → c < length marks
+  unfolding rulesFor rulesOf
+  linked-in c t = omega (arith, joined-in (planFor p marks) (from .cell) c t .1, cells-are p marks (asks .asks .ready))
+
+  -- the number of cells is no neighbour
+  pub no-neighbour : cell ≡ length marks → Only Choice.Nothing
+  no-neighbour q = ChosenAmong.nothing (λ c a s h t. omega (arith, linked-in c (goes-linked R m A from c a t)))
+
+  -- the load and the delay on arrival
+  module _ (inside : cell < length marks) (load delay : ℕ) (loads : load ≡ from .load + wireLoad wire) (delays : delay ≡ from .delay + wireDelay wire (from .load)) where
+    abbrev at : State
+    at = record { cell = cell; load = load; delay = delay; registers = k; steps = u }
+
+    load-named : loadAt R (from .cell) cell (from .load) ≡ load
+    unfolding loadAt
+    load-named = rw (asks .same inside, loads)
+
+    delay-named : delayAt R (from .cell) cell (from .load) (from .delay) ≡ delay
+    unfolding delayAt
+    delay-named = rw (asks .same inside, delays)
+
+    limit-named : R .limit ≡ e .limit .0
+    unfolding rulesFor rulesOf
+    limit-named = refl
+
+    -- the wire, and then the code
+    goes-split : (code : ℕ) → goesOn R m k u A (from .cell) (from .load) (from .delay) cell code ≡ (R .linked (from .cell) cell && leb load (e .limit .0) && goesAt R m A at code)
+    unfolding goesOn goesAt
+    goes-split code = simp (load-named, delay-named, limit-named)
+
+    heavy-refused : (c code : ℕ) → c ≡ cell → e .limit .0 < load → Goes R m A from c code → ⊥
+    heavy-refused c code q h t =
+        let u = snd (R .linked (from .cell) cell) (leb load (e .limit .0)) (fst (R .linked (from .cell) cell && leb load (e .limit .0)) (goesAt R m A at code) (rw (q, goes-split code) at t)) in
+        omega (arith, tests)
+
+    pub too-heavy : e .limit .0 < load → Only Choice.Nothing
+    too-heavy h = ChosenAmong.nothing (λ c a s k t. heavy-refused c a s h t)
+
+    module _ (light : load ≤ e .limit .0) where
+      pub at-asks : CodeAsks p marks words at
+      at-asks =
+          record {
+            ready = asks .asks .ready;
+            room = asks .asks .room;
+            inPlan = inside;
+            light = omega (arith, asks .asks .ready .valid .limit);
+            early = omega (arith, asks .asks .inRange .early, wire-delay-max wire (from .load) (asks .wireFits) (asks .asks .inRange .light));
+          }
+
+      goes-code : (c code : ℕ) → c ≡ cell → Goes R m A from c code → T (goesAt R m A at code)
+      goes-code c code q t = snd (R .linked (from .cell) cell && leb load (e .limit .0)) (goesAt R m A at code) (rw (q, goes-split code) at t)
+
+      code-goes : (c code : ℕ) → c ≡ cell → T (goesAt R m A at code) → Goes R m A from c code
+      code-goes c code q t =
+          rw (q, goes-split code)
+          (both (R .linked (from .cell) cell && leb load (e .limit .0)) (goesAt R m A at code)
+          (both (R .linked (from .cell) cell) (leb load (e .limit .0)) (asks .joined inside) (le→leb _ _ light)) t)
+
+      pub no-code : FirstCode R m A at (registerCode + 1) → Only Choice.Nothing
+      no-code first = ChosenAmong.nothing (λ c a s k t. first .isFirst a (omega arith) (goes-code c a s t))
+
+      module _ (code : ℕ) (to : State) (left : Left e at code to) where
+        load-after : to .load ≡ afterLoad R (from .cell) (to .cell) (from .load) code
+        unfolding leftLoad afterLoad loadOf bufferAt rulesFor rulesOf
+        load-after = left .load ∙ rw (left .cell, load-named)
+
+        delay-after : to .delay ≡ afterDelay R (from .cell) (to .cell) (from .load) (from .delay) code
+        unfolding leftDelay afterDelay bufferCost bufferAt rulesFor rulesOf
+        delay-after = left .delay ∙ rw (left .cell, load-named, delay-named)
+
+        cost : (n : ℕ) → bufferCost R code n ≡ gateDelay (bufferDriver (bufferAt e (code - 1))) n
+        unfolding bufferCost bufferAt rulesFor rulesOf
+        cost n = refl
+
+        pub first-visit : code ≤ registerCode → FirstCode R m A at code → Only (Choice.Visit code to)
+        first-visit small first =
+            ChosenAmong.visit
+            (record {
+              among = left .cell;
+              goes = code-goes (to .cell) code (left .cell) (first .goes small);
+              isFirst = λ c a s h b t. earlier c a s b (goes-code c a s t);
+              small = small;
+              load = load-after;
+              delay = delay-after;
+              registers = left .registers;
+              steps = left .steps;
+              inRange =
+                  record {
+                    inPlan = omega (arith, left .cell);
+                    light = rw (left .load) (left-light e (asks .asks .ready .valid) at code small (at-asks .light));
+                    early = rw (left .delay) (left-early e (asks .asks .ready .valid) at code small R m A cost (first .bounded) (first .goes small));
+                  };
+            })
+          where
+            earlier : (c a : ℕ) → c ≡ cell → Before c a (to .cell) code → T (goesAt R m A at a) → ⊥
+            earlier c a s (inl h) t = omega (arith, left .cell)
+            earlier c a s (inr h) t = first .isFirst a (h .1) t

@@ -1,0 +1,57 @@
+-- One step of emission: the next visit, in written order, from which the rest can still be done.
+-- R are the rules, m the labels, A the table of what can be reached, n the number of cells.
+use Prim.Native.Nat.{ℕ, _-_, _≤_, _<_}
+use mathlib.Core.Path.{_≡_}
+use mathlib.Core.List.{List}
+use lib.Dec.{T}
+use lib.ListN.{length}
+use Rattle.timing.specs.Ranges.{loadMax}
+use Rattle.rules.specs.Rules.{Rules, registerCode}
+use Rattle.budget.specs.Table.{Table}
+use Rattle.budget.specs.Done.{Labels}
+use Rattle.budget.specs.Emission.{goesOn, afterLoad, afterDelay, afterRegisters, Before}
+use Rattle.table.specs.declared.problem.Problem.{Problem}
+use Rattle.table.specs.Problem.{Ready, Room}
+use Rattle.choice.specs.declared.State.{State}
+use Rattle.choice.specs.declared.Choice.{Choice}
+
+-- the largest delay of a state, in half-ticks: that of a word of the table
+abbrev pub delayMost : ℕ
+delayMost = 65535
+
+-- a state in the plan, with a load and a delay that a span can have
+pub record InRange (n : ℕ) (s : State) : Type 0 where
+  pub inPlan : s .cell < n
+  pub light : s .load ≤ loadMax
+  pub early : s .delay ≤ delayMost
+
+pub record ChooseAsks (p : Problem) (marks words : List ℕ) (from : State) : Type 0 where
+  pub ready : Ready p marks
+  pub room : Room (length marks) words
+  pub inRange : InRange (length marks) from
+  pub more : 0 < from .steps
+
+-- a visit to the cell with this code goes on to the end, with one step fewer
+abbrev pub Goes : Rules → Labels → Table → State → ℕ → ℕ → Type 0
+Goes R m A from cell code =
+    T (goesOn R m (from .registers) (from .steps - 1) A (from .cell) (from .load) (from .delay) cell code)
+
+-- The visit goes on to the state `to`, and none before it to these cells does. After a last visit, `to` is as after any register.
+pub record FirstVisit (R : Rules) (n : ℕ) (m : Labels) (A : Table) (from : State) (cells : ℕ → Type 0) (code : ℕ) (to : State) : Type 0 where
+  pub among : cells (to .cell)
+  pub goes : Goes R m A from (to .cell) code
+  pub isFirst : (cell a : ℕ) → cells cell → a ≤ registerCode → Before cell a (to .cell) code → Goes R m A from cell a → ⊥
+  pub small : code ≤ registerCode
+  pub load : to .load ≡ afterLoad R (from .cell) (to .cell) (from .load) code
+  pub delay : to .delay ≡ afterDelay R (from .cell) (to .cell) (from .load) (from .delay) code
+  pub registers : to .registers ≡ afterRegisters (from .registers) code
+  pub steps : to .steps ≡ from .steps - 1
+  pub inRange : InRange n to
+
+pub data ChosenAmong (R : Rules) (n : ℕ) (m : Labels) (A : Table) (from : State) (cells : ℕ → Type 0) : Choice → Type 0 where
+  visit : {code : ℕ} {to : State} → FirstVisit R n m A from cells code to → ChosenAmong R n m A from cells (Choice.Visit code to)
+  nothing : ((cell a : ℕ) → cells cell → a ≤ registerCode → Goes R m A from cell a → ⊥) → ChosenAmong R n m A from cells Choice.Nothing
+
+-- among all cells that a wire joins to the state's
+abbrev pub Chosen : Rules → ℕ → Labels → Table → State → Choice → Type 0
+Chosen R n m A from choice = ChosenAmong R n m A from (λ cell. T (R .linked (from .cell) cell)) choice

@@ -1,0 +1,218 @@
+// One step of emission: from a state, the first visit in written order from which the rest can still be done.
+ghost use mathlib.Core.Path.{_≡_};
+ghost use Prim.Native.Nat.{_+_, _*_, _-_, _≤_, _<_};
+ghost use lib.Dec.{leb};
+ghost use lib.ListN.{length};
+ghost use Rattle.timing.specs.Ranges.{loadMax};
+ghost use Rattle.timing.specs.Elements.{DriverInRange};
+ghost use Rattle.timing.specs.Valid.{Valid};
+ghost use Rattle.timing.specs.Formulas.{gateDelay, registerDriver};
+ghost use Rattle.rules.specs.Rules.{registerCode};
+ghost use Rattle.budget.specs.Emission.{exactSeed};
+ghost use Rattle.labels.specs.Labels.{labelsOf};
+ghost use Rattle.table.specs.Problem.{rulesFor, budgetOf};
+ghost use Rattle.choice.specs.Choice.{ChooseAsks, ChosenAmong, Chosen};
+ghost use Rattle.choice.specs.Codes.{arrivalMost, RowAsks, CodeAsks, TryAsks, FirstCode, FirstBuffer, drives, Left};
+use labels::steps_of;
+use plan::neighbours_of;
+use table::Problem;
+use table::takes_buffers;
+use timing::Driver;
+use timing::Elements;
+use timing::Load;
+use timing::Wire;
+
+// After a visit's gate: the delay in half-ticks of the current span, and the registers and steps to go.
+pub struct State {
+    pub cell: usize,
+    pub load: u16,
+    pub delay: u32,
+    pub registers: u16,
+    pub steps: u32,
+}
+
+// The code of the visit, and the state after it.
+pub enum Choice {
+    Visit(u16, State),
+    Nothing,
+}
+
+// The delay after a gate with this driver.
+fn driven(driver: Driver, at: State) -> u32
+    requires { ⌜ DriverInRange driver × ((at .load ≤ loadMax) × (at .delay ≤ arrivalMost)) ⌝ }
+    ensures { λ r. ⌜ r ≡ at .delay + gateDelay driver (at .load) ⌝ }
+{
+    at.delay + driver.delay(Load(at.load)).0
+}
+
+// Whether the state after buffer i at the cell is in the table.
+fn buffer_drives(scratch: &[u16], elements: Elements, at: State, i: usize) -> bool
+    requires { ⌜ RowAsks elements (now scratch) at × (i < elements .count) ⌝ }
+    ensures { λ r. ⌜ r ≡ drives (now (scratch .entry)) elements at i ⌝ }
+{
+    let buffer = elements.buffers[i];
+    let own = buffer.load().0;
+    if elements.limit.0 < own {
+        return false;
+    }
+    driven(buffer.driver(), at) < scratch[at.cell * 64 + own as usize] as u32
+}
+
+// The first buffer whose state is in the table, or the number of buffers.
+fn first_buffer(scratch: &[u16], elements: Elements, at: State) -> usize
+    requires { ⌜ RowAsks elements (now scratch) at ⌝ }
+    ensures { λ r. ⌜ FirstBuffer (now (scratch .entry)) elements at r ⌝ }
+{
+    let count = elements.count;
+    let mut i = 0;
+    while i < count {
+        if buffer_drives(scratch, elements, at, i) {
+            return i;
+        }
+        i += 1;
+    }
+    i
+}
+
+// Whether the span may close at the cell, with these registers and steps to go: the source with none, else a label of one register fewer.
+fn is_seed(plan: &[u8], scratch: &[u16], p: Problem, at: State) -> bool
+    requires { ⌜ CodeAsks p (now plan) (now scratch) at ⌝ }
+    ensures { λ r. ⌜ r ≡ exactSeed (rulesFor p (now (plan .entry))) (labelsOf (length (now (plan .entry))) (now (scratch .entry))) (at .registers) (at .steps) (at .cell) ⌝ }
+{
+    if at.registers == 0 {
+        return at.cell == p.source;
+    }
+    let n = plan.len();
+    if scratch[n * 128 + at.cell] != at.registers {
+        return false;
+    }
+    steps_of(scratch, n, at.cell) <= at.steps
+}
+
+// Whether a register after this load and delay closes the span in time.
+fn in_time(elements: Elements, at: State) -> bool
+    requires { ⌜ Valid elements × ((at .load ≤ loadMax) × (at .delay ≤ arrivalMost)) ⌝ }
+    ensures { λ r. ⌜ r ≡ leb (at .delay + gateDelay (registerDriver (elements .register)) (at .load)) (2 * elements .period) ⌝ }
+{
+    let register = elements.register;
+    driven(register.driver(), at) <= 2 * (elements.period as u32)
+}
+
+// The first code with which a visit to the cell goes on, 8 for none.
+fn first_code(plan: &[u8], scratch: &[u16], p: Problem, at: State) -> u16
+    requires { ⌜ CodeAsks p (now plan) (now scratch) at ⌝ }
+    ensures { λ r. ⌜ FirstCode (rulesFor p (now (plan .entry))) (labelsOf (length (now (plan .entry))) (now (scratch .entry))) (budgetOf (length (now (plan .entry))) (now (scratch .entry))) at r ⌝ }
+{
+    let cell = at.cell;
+    if at.delay < scratch[cell * 64 + at.load as usize] as u32 {
+        return 0;
+    }
+    let elements = p.elements;
+    if takes_buffers(plan[cell], p, cell) {
+        let i = first_buffer(scratch, elements, at);
+        if i < elements.count {
+            return (i + 1) as u16;
+        }
+    }
+    if is_seed(plan, scratch, p, at) {
+        if in_time(elements, at) {
+            return 7;
+        }
+    }
+    8
+}
+
+// The state after the gate.
+fn leave(elements: Elements, at: State, code: u16) -> State
+    requires { ⌜ Valid elements × ((at .load ≤ loadMax) × ((at .delay ≤ arrivalMost) × (code ≤ registerCode))) ⌝ }
+    ensures { λ r. ⌜ Left elements at code r ⌝ }
+{
+    if code == 0 {
+        return at;
+    }
+    if code == 7 {
+        let register = elements.register;
+        return State {
+            cell: at.cell,
+            load: register.load().0,
+            delay: register.start_delay().0,
+            registers: fewer(at.registers),
+            steps: at.steps,
+        };
+    }
+    let i = (code - 1) as usize;
+    let buffer = elements.buffers[i];
+    State {
+        cell: at.cell,
+        load: buffer.load().0,
+        delay: driven(buffer.driver(), at),
+        registers: at.registers,
+        steps: at.steps,
+    }
+}
+
+// One fewer, from 0 none.
+fn fewer(registers: u16) -> u16
+    ensures { λ r. ⌜ r ≡ registers - 1 ⌝ }
+{
+    if registers == 0 {
+        return 0;
+    }
+    registers - 1
+}
+
+// The first visit to the neighbour that goes on. The number of cells is no neighbour.
+fn try_cell(
+    plan: &[u8],
+    scratch: &[u16],
+    p: Problem,
+    from: State,
+    cell: usize,
+    wire: Wire,
+) -> Choice
+    requires { ⌜ TryAsks p (now plan) (now scratch) from cell wire ⌝ }
+    ensures { λ r. ⌜ ChosenAmong (rulesFor p (now (plan .entry))) (length (now (plan .entry))) (labelsOf (length (now (plan .entry))) (now (scratch .entry))) (budgetOf (length (now (plan .entry))) (now (scratch .entry))) from (λ c. c ≡ cell) r ⌝ }
+{
+    if cell == plan.len() {
+        return Choice::Nothing;
+    }
+    let load = from.load + wire.load().0;
+    if p.elements.limit.0 < load {
+        return Choice::Nothing;
+    }
+    let at = State {
+        cell: cell,
+        load: load,
+        delay: from.delay + wire.delay(Load(from.load)).0,
+        registers: from.registers,
+        steps: from.steps - 1,
+    };
+    let code = first_code(plan, scratch, p, at);
+    if code == 8 {
+        return Choice::Nothing;
+    }
+    let elements = p.elements;
+    Choice::Visit(code, leave(elements, at, code))
+}
+
+// The first visit that goes on: the neighbours in ascending order.
+pub fn choose(plan: &[u8], scratch: &[u16], p: Problem, from: State) -> Choice
+    requires { ⌜ ChooseAsks p (now plan) (now scratch) from ⌝ }
+    ensures { λ r. ⌜ Chosen (rulesFor p (now (plan .entry))) (length (now (plan .entry))) (labelsOf (length (now (plan .entry))) (now (scratch .entry))) (budgetOf (length (now (plan .entry))) (now (scratch .entry))) from r ⌝ }
+{
+    let near = neighbours_of(plan, p.width, p.height, from.cell);
+    let elements = p.elements;
+    let up = try_cell(plan, scratch, p, from, near.up, elements.vertical);
+    if let Choice::Visit(code, to) = up {
+        return Choice::Visit(code, to);
+    }
+    let left = try_cell(plan, scratch, p, from, near.left, elements.horizontal);
+    if let Choice::Visit(code, to) = left {
+        return Choice::Visit(code, to);
+    }
+    let right = try_cell(plan, scratch, p, from, near.right, elements.horizontal);
+    if let Choice::Visit(code, to) = right {
+        return Choice::Visit(code, to);
+    }
+    try_cell(plan, scratch, p, from, near.down, elements.vertical)
+}

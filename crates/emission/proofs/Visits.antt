@@ -1,0 +1,210 @@
+-- Emission's loop: the start, one visit more, and the whole route.
+use Prim.Native.Nat.{ℕ, zero, suc, _+_, _-_, _*_, _≤_, _<_}
+use mathlib.Core.Path.{_≡_, refl, sym, ap, _∙_, subst}
+use mathlib.Core.Logic.{_⊎_, inl, inr}
+use mathlib.Core.List.{List, [], _∷_, _++_, append-assoc}
+use native.Mathlib.Omega.{arith}
+use native.Mathlib.Nat.{zero-add, add-zero}
+use lib.Dec.{T}
+use lib.ListN.{length, getD, set, length-append, List·getD-append}
+use lib.Seq.{getD-append-add}
+use Rattle.rules.specs.Rules.{Rules, registerCode}
+use Rattle.rules.specs.Legal.{Visit, Route}
+use Rattle.rules.specs.Ranking.{written, IsBest}
+use Rattle.plan.proofs.Truth.{split, equal}
+use Rattle.rules.proofs.Order.{best-unique}
+use Rattle.budget.specs.Table.{Table, Represents}
+use Rattle.budget.specs.Done.{Within, NotAfter, Done, Least, Labels, Labelled, Lawful}
+use Rattle.budget.specs.Emission.{FirstEnding, Reaches, FirstViable, visit, afterLoad, afterDelay, afterRegisters}
+use Rattle.budget.proofs.Done.{done-own, done-counts, done-steps}
+use Rattle.budget.proofs.Emission.{first-goes-on, first-last, least-after, first-more, least-goes-on, viable-goes-on}
+use Rattle.budget.proofs.Visit.{after-fewer}
+use Rattle.budget.proofs.Best.{best-found}
+use Rattle.rows.specs.Words.{Filled, Kept, KeptFrom}
+use Rattle.rows.proofs.Words.{filled-none, filled-more, filled-as}
+use Rattle.table.specs.Problem.{budgetOf}
+use Rattle.labels.specs.Labels.{labelsOf, Ordered}
+use Rattle.labels.proofs.Labels.{labelled-kept, ordered-kept}
+use Rattle.choice.specs.declared.State.{State}
+use Rattle.choice.specs.declared.Choice.{Choice}
+use Rattle.choice.specs.Choice.{InRange, Goes, FirstVisit, ChosenAmong, Chosen}
+use Rattle.reach.specs.Reach.{Loaded}
+use Rattle.emission.specs.Emission.{Onward, Emitting, Emitted}
+
+-- the words of visits
+
+pub written-append : (a b : Route) → written (a ++ b) ≡ written a ++ written b
+unfolding written
+written-append [] b = refl
+written-append (v ∷ a) b = ap (λ (xs : List ℕ). v .cell ∷ v .code ∷ xs) (written-append a b)
+
+pub written-length : (a : Route) → length (written a) ≡ 2 * length a
+unfolding written
+written-length [] = refl
+written-length (v ∷ a) = omega (arith, written-length a)
+
+-- a state with least figures has a step to go
+pub least-steps : {R : Rules} {k s c l d : ℕ} → Least R k s c l d → 0 < s
+least-steps {R} {k} {s} x = go (x .enough .within) (done-counts (x .enough)) (done-steps (x .enough)) (x .least _ _ (done-own (x .enough)))
+  where
+    go : {a b : ℕ} → Within k s a b → 0 < a → 0 < b → NotAfter k s (a - 1) b → 0 < s
+    go (inl h) p q (inl z) = absurd (omega arith)
+    go (inl h) p q (inr z) = absurd (omega arith)
+    go (inr h) p q z = omega arith
+
+-- what was chosen
+
+pub chosen-nothing : {R : Rules} {n : ℕ} {m : Labels} {A : Table} {from : State} {cells : ℕ → Type 0} {x : Choice} → ChosenAmong R n m A from cells x → x ≡ Choice.Nothing → (cell a : ℕ) → cells cell → a ≤ registerCode → Goes R m A from cell a → ⊥
+chosen-nothing (ChosenAmong.visit v) e = absurd (let z : _≡_ {A = ℕ} 0 1 = cc in omega arith)
+chosen-nothing (ChosenAmong.nothing f) e = f
+
+pub chosen-visit : {R : Rules} {n : ℕ} {m : Labels} {A : Table} {from : State} {cells : ℕ → Type 0} {x : Choice} → ChosenAmong R n m A from cells x → (code : ℕ) (to : State) → x ≡ Choice.Visit code to → FirstVisit R n m A from cells code to
+chosen-visit (ChosenAmong.visit {code = a} {to = t} v) code to e =
+    let p : a ≡ code = cc in
+    let q : t ≡ to = cc in
+    rw (p, q) at v
+chosen-visit (ChosenAmong.nothing f) code to e = absurd (let z : _≡_ {A = ℕ} 0 1 = cc in omega arith)
+
+-- one word more from the start
+filled-next : {F : ℕ → ℕ} {n : ℕ} {old new : List ℕ} → Filled F 0 n old new → (x : ℕ) → n < length old → x ≡ F n → Filled F 0 (n + 1) old (set new n x)
+filled-next {F} {n} {old} {new} f x h e = rw zero-add at (filled-more f x (omega arith) e)
+
+module _ (R : Rules) (law : Lawful R) (n k s count : ℕ) (words₀ visits₀ : List ℕ) (room : 2 * (s + 1) ≤ length visits₀) where
+  abbrev first : Visit
+  first = visit (R .sink) registerCode
+
+  -- the sink's visit is written
+  pub emit-start : (before : ℕ) (at : State) → at .cell ≡ R .sink → at .load ≡ R .start .load → at .delay ≡ R .start .delay → at .registers ≡ k → at .steps ≡ s → InRange n at → Least R k s (R .sink) (R .start .load) (R .start .delay) → Labelled R k before (labelsOf n words₀) → Ordered n words₀ count → Emitting R n k s count words₀ words₀ visits₀ (set (set visits₀ 0 (R .sink)) 1 registerCode) at 2
+  unfolding written
+  emit-start before at e₁ e₂ e₃ e₄ e₅ inRange least labels ordered =
+      record {
+        made = [];
+        onward = Onward.goes (rw (e₁, e₂, e₃, e₄, e₅) least) (λ vs h. rw (e₁, e₂, e₃, e₄, e₅) at h);
+        inRange = inRange;
+        fewer = omega arith;
+        whole = omega arith;
+        placed = refl;
+        filled = filled-more (filled-more (filled-none (λ i. getD (written (first ∷ [])) i 0) 0 visits₀) (R .sink) (omega arith) refl) registerCode (omega arith) refl;
+        before = before;
+        labels = labels;
+        ordered = ordered;
+        same = refl;
+        rest = λ i h. refl;
+      }
+
+  module _ (words visits : List ℕ) (at : State) (place : ℕ) (e : Emitting R n k s count words₀ words visits₀ visits at place) (more : 0 < at .steps) (new : List ℕ) (loaded : Loaded R n (at .registers) (at .steps - 1) words new) where
+    u : ℕ
+    u = at .steps - 1
+
+    again : at .steps ≡ suc (at .steps - 1)
+    again = omega arith
+
+    goes-least : Onward R k s at (e .made) → Least R (at .registers) (suc (at .steps - 1)) (at .cell) (at .load) (at .delay)
+    goes-least (Onward.goes h f) = rw again at h
+    goes-least (Onward.whole z f) = absurd (omega arith)
+
+    least : Least R (at .registers) (suc (at .steps - 1)) (at .cell) (at .load) (at .delay)
+    least = goes-least (e .onward)
+
+    goes-rest : Onward R k s at (e .made) → (vs : Route) → FirstEnding R (at .registers) (suc (at .steps - 1)) (at .cell) (at .load) (at .delay) vs → FirstEnding R k s (R .sink) (R .start .load) (R .start .delay) (e .made ++ vs)
+    goes-rest (Onward.goes h f) vs x = f vs (rw (← again) at x)
+    goes-rest (Onward.whole z f) vs x = absurd (omega arith)
+
+    labels : Labelled R k (e .before) (labelsOf n new)
+    labels = labelled-kept n words new (λ i lo hi. loaded .labels i lo (omega arith)) R k (e .before) (e .labels)
+
+    -- some visit goes on
+    pub emit-nothing : Chosen R n (labelsOf n new) (budgetOf n new) at Choice.Nothing → ⊥
+    emit-nothing chosen =
+        let c = least-goes-on R law (at .registers) (at .steps - 1) (at .cell) (at .load) (at .delay) least in
+        chosen-nothing chosen refl (c .cell) (c .code) (c .linked) (c .small)
+        (viable-goes-on R law labels (at .registers) (at .steps - 1) (budgetOf n new) (loaded .table) (at .cell) (at .load) (at .delay) least (c .cell) (c .code) (e .fewer) (c .viable))
+
+    module _ (code : ℕ) (to : State) (v : FirstVisit R n (labelsOf n new) (budgetOf n new) at (λ cell. T (R .linked (at .cell) cell)) code to) where
+      viable : FirstViable R (at .registers) (suc (at .steps - 1)) (at .cell) (at .load) (at .delay) (to .cell) code
+      viable =
+          first-goes-on R law labels (at .registers) (at .steps - 1) (e .fewer) (budgetOf n new) (loaded .table) (at .cell) (at .load) (at .delay) least (to .cell) code
+          (v .goes) (λ p a link small before. v .isFirst p a link small before)
+
+      to-last : code ≡ registerCode → at .registers ≡ 0 → Onward R k s to (e .made ++ (visit (to .cell) code ∷ []))
+      to-last c z =
+          let f = first-last R law (at .registers) (at .steps - 1) (at .cell) (at .load) (at .delay) (to .cell) code viable c z in
+          Onward.whole (v .steps ∙ f .0) (goes-rest (e .onward) (visit (to .cell) code ∷ []) (f .1))
+
+      to-next : (code ≡ registerCode → 0 < at .registers) → Onward R k s to (e .made ++ (visit (to .cell) code ∷ []))
+      to-next some =
+          Onward.goes
+          (rw (v .registers, v .steps, v .load, v .delay)
+          (least-after R law (at .registers) (at .steps - 1) (at .cell) (at .load) (at .delay) (to .cell) code some least (viable .viable)))
+          (λ vs h.
+          rw append-assoc
+          (goes-rest (e .onward) (visit (to .cell) code ∷ vs)
+          (first-more R law (at .registers) (at .steps - 1) (at .cell) (at .load) (at .delay) (to .cell) code some viable vs (rw (v .registers, v .steps, v .load, v .delay) at h))))
+
+      onward : Onward R k s to (e .made ++ (visit (to .cell) code ∷ []))
+      onward = go (equal code registerCode) (equal (at .registers) 0)
+        where
+          go : (code ≡ registerCode) ⊎ (code ≡ registerCode → ⊥) → (at .registers ≡ 0) ⊎ (at .registers ≡ 0 → ⊥) → Onward R k s to (e .made ++ (visit (to .cell) code ∷ []))
+          go (inl c) (inl z) = to-last c z
+          go (inl c) (inr z) = to-next (λ q. omega arith)
+          go (inr c) z = to-next (λ q. absurd (c q))
+
+      -- the words of one visit more
+      old-words : ℕ → ℕ
+      old-words i = getD (written (first ∷ e .made)) i 0
+
+      new-words : ℕ → ℕ
+      new-words i = getD (written (first ∷ (e .made ++ (visit (to .cell) code ∷ [])))) i 0
+
+      split-words : written (first ∷ (e .made ++ (visit (to .cell) code ∷ []))) ≡ written (first ∷ e .made) ++ (to .cell ∷ code ∷ [])
+      unfolding written
+      split-words = written-append (first ∷ e .made) (visit (to .cell) code ∷ []) ∙ last-words
+        where
+          last-words : written (first ∷ e .made) ++ written (visit (to .cell) code ∷ []) ≡ written (first ∷ e .made) ++ (to .cell ∷ code ∷ [])
+          last-words = refl
+
+      long : length (written (first ∷ e .made)) ≡ place
+      long = omega (arith, written-length (first ∷ e .made), e .placed)
+
+      filled : Filled (λ i. getD (written (first ∷ (e .made ++ (visit (to .cell) code ∷ [])))) i 0) 0 (place + 1 + 1) visits₀ (set (set visits place (to .cell)) (place + 1) code)
+      filled =
+          filled-next
+          (filled-next
+          (filled-as (e .filled) (λ i. getD (written (first ∷ (e .made ++ (visit (to .cell) code ∷ [])))) i 0)
+          (λ i h. rw split-words (sym (List·getD-append (written (first ∷ e .made)) (to .cell ∷ code ∷ []) 0 i (omega (arith, long))))))
+          (to .cell) (omega (arith, e .placed, e .whole)) cell-word)
+          code (omega (arith, e .placed, e .whole)) code-word
+        where
+          cell-word : to .cell ≡ getD (written (first ∷ (e .made ++ (visit (to .cell) code ∷ [])))) place 0
+          cell-word = rw (split-words, ← long) (sym (rw add-zero at (getD-append-add (written (first ∷ e .made)) (to .cell ∷ code ∷ []) 0 0)))
+
+          code-word : code ≡ getD (written (first ∷ (e .made ++ (visit (to .cell) code ∷ [])))) (place + 1) 0
+          code-word = rw (split-words, ← long) (sym (getD-append-add (written (first ∷ e .made)) (to .cell ∷ code ∷ []) 1 0))
+
+      pub emit-next : Emitting R n k s count words₀ new visits₀ (set (set visits place (to .cell)) (place + 1) code) to (place + 2)
+      emit-next =
+          record {
+            made = e .made ++ (visit (to .cell) code ∷ []);
+            onward = onward;
+            inRange = v .inRange;
+            fewer = omega (arith, v .registers, after-fewer (at .registers) code, e .fewer);
+            whole = omega (arith, v .steps, length-append (e .made) (visit (to .cell) code ∷ []), e .whole);
+            placed = omega (arith, e .placed, length-append (e .made) (visit (to .cell) code ∷ []));
+            filled = subst (λ (x : ℕ). Filled (λ i. getD (written (first ∷ (e .made ++ (visit (to .cell) code ∷ [])))) i 0) 0 x visits₀ (set (set visits place (to .cell)) (place + 1) code)) (omega arith) filled;
+            before = e .before;
+            labels = labels;
+            ordered = ordered-kept (e .ordered) new (loaded .labels);
+            same = loaded .same ∙ e .same;
+            rest = λ i h. loaded .rest i h ∙ e .rest i h;
+          }
+
+  -- no step is left: the words are the best route's
+  pub emit-done : (words visits : List ℕ) (at : State) (place : ℕ) → Emitting R n k s count words₀ words visits₀ visits at place → at .steps ≡ 0 → Least R k s (R .sink) (R .start .load) (R .start .delay) → R .sink < R .cellCount → Emitted R n s words₀ words visits₀ visits
+  emit-done words visits at place e z least inPlan = record { filled = λ r b. words-of r b (e .onward); same = e .same; rest = e .rest }
+    where
+      words-of : (r : Route) → IsBest R r → Onward R k s at (e .made) → Filled (λ i. getD (written r) i 0) 0 (2 * (s + 1)) visits₀ visits
+      words-of r b (Onward.goes h f) = absurd (omega (arith, least-steps h))
+      words-of r b (Onward.whole y f) =
+          let q : (first ∷ e .made) ≡ r = best-unique R (first ∷ e .made) r (best-found R k s least (e .made) f inPlan) b in
+          let p : place ≡ 2 * (s + 1) = omega (arith, e .placed, e .whole) in
+          rw q at (rw p at (e .filled))

@@ -1,0 +1,57 @@
+// Emission: the best route, written into the caller's visits from the sink on.
+ghost use mathlib.Core.Path.{_≡_};
+ghost use Prim.Native.Nat.{_+_, _*_, _≤_, _<_};
+ghost use lib.ListN.{length};
+ghost use Rattle.table.specs.Problem.{Ready, Room, rulesFor};
+ghost use Rattle.search.specs.Turn.{Reaching};
+ghost use Rattle.emission.specs.Emission.{Emitted, EmitAsks};
+use choice::Choice;
+use choice::State;
+use choice::choose;
+use reach::load_layer;
+use table::Problem;
+
+// The route of these registers and steps: cell and code of each visit, two words each.
+pub fn emit(
+    plan: &[u8],
+    scratch: &mut [u16],
+    p: Problem,
+    count: usize,
+    registers: u16,
+    steps: u32,
+    visits: &mut [u16],
+)
+    requires { ⌜ EmitAsks p (now plan) count registers steps (now scratch) (now visits) ⌝ }
+    ensures { λ _. ⌜ Emitted (rulesFor p (now (plan .entry))) (length (now (plan .entry))) steps (now (scratch .entry)) (now (scratch .exit)) (now (visits .entry)) (now (visits .exit)) ⌝ }
+{
+    let elements = p.elements;
+    let register = elements.register;
+    let sink = p.sink;
+    visits[0] = sink as u16;
+    visits[1] = 7;
+    let load = register.load();
+    let delay = register.start_delay();
+    let mut at = State {
+        cell: sink,
+        load: load.0,
+        delay: delay.0,
+        registers: registers,
+        steps: steps,
+    };
+    let mut i = 2;
+    while 0 < at.steps {
+        load_layer(plan, scratch, p, count, at.registers, at.steps - 1);
+        let choice = choose(plan, scratch, p, at);
+        match choice {
+            Choice::Visit(code, to) => {
+                visits[i] = to.cell as u16;
+                visits[i + 1] = code;
+                at = to;
+                i += 2;
+            }
+            Choice::Nothing => {
+                return;
+            }
+        }
+    }
+}

@@ -1,0 +1,75 @@
+-- Emission's table of the current span (blueprint, section 3): the budget rows hold the table of `Reaches R m k s`, m the labels in the words.
+-- The seeds of a span with k registers to go are the source for k = 0, else the labels with k - 1 registers. Those wait in the order and come in by their steps.
+use Prim.Native.Nat.{ℕ, suc, _*_, _≤_, _<_}
+use mathlib.Core.Path.{_≡_}
+use mathlib.Core.Logic.{_⊎_}
+use mathlib.Core.List.{List}
+use lib.Dec.{T}
+use lib.ListN.{length, getD}
+use Rattle.rules.specs.Rules.{Rules}
+use Rattle.budget.specs.Table.{Represents}
+use Rattle.budget.specs.Emission.{exactSeed, Reaches}
+use Rattle.rows.specs.Words.{Kept, KeptFrom}
+use Rattle.table.specs.Problem.{Ready, Room, budgetOf, seedOf}
+use Rattle.table.specs.Layer.{Active}
+use Rattle.table.specs.declared.problem.Problem.{Problem}
+use Rattle.labels.specs.Labels.{registersOf, stepsOf, labelsOf, orderOf, Ordered}
+
+-- r is the first place of the order, up to `count`, whose label has at least these registers to go
+pub record FirstWith (n : ℕ) (words : List ℕ) (count registers r : ℕ) : Type 0 where
+  pub within : r ≤ count
+  pub fewer : (i : ℕ) → i < r → registersOf n words (orderOf n words i) < registers
+  pub enough : (i : ℕ) → r ≤ i → i < count → registers ≤ registersOf n words (orderOf n words i)
+
+-- r is the steps of the label at `at`, where one waits before `end`, or else `steps`; the lesser of the two
+pub record NextSteps (n : ℕ) (words : List ℕ) (at end steps r : ℕ) : Type 0 where
+  pub within : r ≤ steps
+  pub early : at < end → r ≤ stepsOf n words (orderOf n words at)
+  pub met : (r ≡ steps) ⊎ ((at < end) × (r ≡ stepsOf n words (orderOf n words at)))
+
+-- After `clear_span`: no budget, no cell listed, no seed; the other words stay.
+pub record Cleared (n : ℕ) (old new : List ℕ) : Type 0 where
+  pub same : length new ≡ length old
+  pub rows : (i : ℕ) → i < n * 64 → getD new i 0 ≡ 0
+  pub flags : (i : ℕ) → n * 134 ≤ i → i < n * 136 → getD new i 0 ≡ 0
+  pub kept : Kept (n * 64) (n * 134) old new
+  pub rest : KeptFrom (n * 136) old new
+
+-- the cell waits in the order, from `at` up to `end`
+pub record Due (n : ℕ) (words : List ℕ) (at end c : ℕ) : Type 0 where
+  pub place : ℕ
+  pub from : at ≤ place
+  pub below : place < end
+  pub holds : orderOf n words place ≡ c
+
+-- The table is that of u steps. Each flagged seed is a seed at u steps, and each seed of the span is flagged or waits.
+-- `old` are the words from which the labels and the order are kept.
+pub record Reaching (R : Rules) (n k : ℕ) (old words : List ℕ) (u active at end count : ℕ) : Type 0 where
+  pub same : length words ≡ length old
+  pub labels : Kept (n * 128) (n * 132) old words
+  pub rest : KeptFrom (n * 136) old words
+  pub table : Represents (budgetOf n words) (Reaches R (labelsOf n old) k u)
+  pub list : Active R n words active
+  pub ordered : Ordered n old count
+  pub atEnd : at ≤ end
+  pub endCount : end ≤ count
+  pub waits : (i : ℕ) → at ≤ i → i < end → suc (registersOf n old (orderOf n old i)) ≡ k
+  pub sound : (c : ℕ) → c < n → T (seedOf n words c) → T (exactSeed R (labelsOf n old) k u c)
+  pub complete : (c t : ℕ) → c < n → T (exactSeed R (labelsOf n old) k t c) → T (seedOf n words c) ⊎ Due n old at end c
+
+-- and every label that waits has more steps than u
+pub record Current (R : Rules) (n k : ℕ) (old words : List ℕ) (u active at end count : ℕ) : Type 0 where
+  pub reaching : Reaching R n k old words u active at end count
+  pub late : at < end → u < stepsOf n old (orderOf n old at)
+
+pub record LoadAsks (p : Problem) (marks : List ℕ) (count : ℕ) (words : List ℕ) : Type 0 where
+  pub ready : Ready p marks
+  pub room : Room (length marks) words
+  pub ordered : Ordered (length marks) words count
+
+-- After `load_layer`: the table of the span; labels, order and the words past the seed flags stay.
+pub record Loaded (R : Rules) (n registers steps : ℕ) (old new : List ℕ) : Type 0 where
+  pub same : length new ≡ length old
+  pub table : Represents (budgetOf n new) (Reaches R (labelsOf n new) registers steps)
+  pub labels : Kept (n * 128) (n * 132) old new
+  pub rest : KeptFrom (n * 136) old new

@@ -1,0 +1,62 @@
+-- `router::checks::route_with` meets its contract: refusals 1, 2 and 3, or what follows them.
+use Prim.Native.Nat.{ℕ, _+_, _*_, _-_, _<_, _≤_}
+use mathlib.Core.Path.{_≡_, refl, sym, ap, _∙_}
+use native.Mathlib.Omega.{arith}
+use borrow.Author.Needs.{needs}
+use lib.ListN.{length}
+use Rattle.plan.specs.Plan.{planOf, cells}
+use Rattle.plan.proofs.Check.{valid-sized, cells-most}
+use Rattle.answers.specs.declared.tables.TablesCheck.{TablesCheck}
+use Rattle.answers.proofs.FirstFault.{tables-fault, tables-clean}
+use Rattle.router.specs.Route.{questionOf, cellsAsked}
+use Rattle.router.proofs.Refusals.{refused, refused-grid, refused-length, refused-mark, refused-element, refused-ends, refused-scratch, ready, passed-room, routed}
+use Rattle.router.proofs.checks.route_with.Statement.{statement}
+use Rattle.router.proofs.checks.route_with.Tie as tie
+
+check-plan-requires : tie.Need-check-plan-requires
+check-plan-requires c κs = search needs
+
+enum-told : tie.Need-enum-told
+enum-told c = search needs
+
+returns : tie.Need-returns
+returns c =
+    let a = c .before .before .before .before .before .before .args in
+    let q = questionOf (a .plan .now) (a .width) (a .height) (a .tables) (a .list) (a .source) (a .sink) in
+    refused q (a .scratch .now) (a .visits .now) _ (refused-grid q (a .scratch .now) (a .visits .now) (sym (c .before .before .check-plan .ensures) ∙ c .enum-told .given .1))
+
+enum-told-2 : tie.Need-enum-told-2
+enum-told-2 c = search needs
+
+returns-2 : tie.Need-returns-2
+returns-2 c =
+    let a = c .before .before .before .before .before .before .args in
+    let q = questionOf (a .plan .now) (a .width) (a .height) (a .tables) (a .list) (a .source) (a .sink) in
+    refused q (a .scratch .now) (a .visits .now) _ (refused-length q (a .scratch .now) (a .visits .now) (sym (c .before .before .check-plan .ensures) ∙ c .enum-told2 .given .1))
+
+enum-told-3 : tie.Need-enum-told-3
+enum-told-3 c = search needs
+
+returns-3 : tie.Need-returns-3
+returns-3 c =
+    let a = c .before .before .before .before .before .before .args in
+    let q = questionOf (a .plan .now) (a .width) (a .height) (a .tables) (a .list) (a .source) (a .sink) in
+    refused q (a .scratch .now) (a .visits .now) _ (refused-mark q (a .scratch .now) (a .visits .now) (sym (c .before .before .check-plan .ensures) ∙ c .enum-told3 .given .1))
+
+enum-told-4 : tie.Need-enum-told-4
+enum-told-4 c = search needs
+
+after-plan-requires : tie.Need-after-plan-requires
+after-plan-requires c κs = sym (c .before .before .before .before .check-plan .ensures) ∙ c .before .before .enum-told4 .given .1
+
+same-length : tie.Need-same-length
+same-length c = c .before .before .before .before .after-plan .kept .1 .1 .1 .1 .1 .1 .1 .0
+
+same-length-2 : tie.Need-same-length-2
+same-length-2 c = c .before .before .before .before .after-plan .kept .1 .1 .1 .1 .1 .1 .1 .1 .0
+
+returns-4 : tie.Need-returns-4
+returns-4 c = c .before .before .before .before .after-plan .ensures
+
+pub route-with-spec : {M : Type 1} → statement M
+route-with-spec = tie.close (tie.spec check-plan-requires enum-told returns enum-told-2 returns-2 enum-told-3 returns-3 enum-told-4 after-plan-requires same-length same-length-2 returns-4)

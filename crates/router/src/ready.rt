@@ -1,0 +1,64 @@
+// The best route of a problem that the checks have passed. The scratch words are zero afterwards.
+ghost use mathlib.Core.Path.{_≡_};
+ghost use Prim.Native.Nat.{_*_};
+ghost use lib.ListN.{length};
+ghost use Rattle.table.specs.Problem.{Ready, Room, rulesFor};
+ghost use Rattle.search.specs.Turn.{Reaching};
+ghost use Rattle.router.specs.Ready.{RouteDone};
+use answers::Answer;
+use answers::Figures;
+use answers::Refusal;
+use emission::emit;
+use rows::clear;
+use search::Reached;
+use search::search;
+use table::Problem;
+
+// The route of these figures is written, if there is room.
+fn write_route(
+    plan: &[u8],
+    scratch: &mut [u16],
+    p: Problem,
+    visits: &mut [u16],
+    registers: u16,
+    steps: u32,
+    count: usize,
+) -> Answer
+    requires { ⌜ Ready p (now plan) × (Room (length (now plan)) (now scratch) × Reaching (rulesFor p (now plan)) (length (now plan)) (now scratch) registers steps count) ⌝ }
+    ensures { λ r. ⌜ RouteDone p (now (plan .entry)) (now (scratch .entry)) (now (scratch .exit)) (now (visits .entry)) (now (visits .exit)) r ⌝ }
+{
+    let n = plan.len();
+    let elements = p.elements;
+    let latency = elements.period as u32 * (registers as u32 + 1);
+    let figures = Figures {
+        registers: registers,
+        steps: steps,
+        latency: latency,
+    };
+    if visits.len() < 2 * (steps as usize + 1) {
+        clear(scratch, 0, n * 256);
+        return Answer::NoRoom(figures);
+    }
+    emit(plan, scratch, p, count, registers, steps, visits);
+    clear(scratch, 0, n * 256);
+    Answer::Found(figures)
+}
+
+// The best route, 7 or 8.
+pub fn route_ready(plan: &[u8], scratch: &mut [u16], p: Problem, visits: &mut [u16]) -> Answer
+    requires { ⌜ Ready p (now plan) × Room (length (now plan)) (now scratch) ⌝ }
+    ensures { λ r. ⌜ RouteDone p (now (plan .entry)) (now (scratch .entry)) (now (scratch .exit)) (now (visits .entry)) (now (visits .exit)) r ⌝ }
+{
+    let n = plan.len();
+    clear(scratch, 0, n * 256);
+    let reached = search(plan, scratch, p);
+    match reached {
+        Reached::Sink(registers, steps, count) => {
+            return write_route(plan, scratch, p, visits, registers, steps, count);
+        }
+        Reached::Nothing => {
+            clear(scratch, 0, n * 256);
+            return Answer::Refused(Refusal::NoRoute);
+        }
+    }
+}
