@@ -1,18 +1,18 @@
 -- States that can be completed: with the right seeds, one step of `Done k s` is `Done k (s + 1)`; hence a layer takes the table of one to the table of the other.
 use Prim.Native.Nat.{ℕ, zero, suc, _+_, _-_, _≤_, _<_}
-use mathlib.Core.Path.{_≡_, refl, sym, ap, _∙_, subst}
-use mathlib.Core.Bool.{Bool, true, false, cond}
-use mathlib.Core.List.{List, [], _∷_}
-use mathlib.Core.Logic.{_⊎_, inl, inr}
+use mathlib.Core.Path.{_≡_, refl}
+use mathlib.Core.Bool.{Bool}
+use mathlib.Core.List.{[], _∷_}
+use mathlib.Core.Logic.{inl, inr}
 use native.Mathlib.Omega.{arith}
 use lib.Dec.{T}
 use lib.ListN.{length}
 use Rattle.rules.specs.Rules.{Stage, Rules, noGate, registerCode}
-use Rattle.rules.specs.Legal.{Visit, Route, arrive, buffered, closing, mayStand, legalFrom}
+use Rattle.rules.specs.Legal.{Visit, Route, arrive, buffered, closing, mayStand}
 use Rattle.rules.specs.Ranking.{codeSevens}
 use Rattle.rules.proofs.Figures.{sevens-more, sevens-kept, ending-sevens, ending-visits}
 use Rattle.rules.proofs.View.{Ending, Reached, ending-view, ending-test}
-use Rattle.budget.specs.Table.{Table, States, Represents, Step, loadAt, delayAt, bufferCost, loadOf, closeCost, layer}
+use Rattle.budget.specs.Table.{Table, Represents, Step, loadAt, delayAt, bufferCost, loadOf, closeCost, layer}
 use Rattle.budget.specs.Done.{stage, NotAfter, Within, Done, Fresh, Seed, Lawful}
 use Rattle.budget.proofs.Layer.{layer-represents}
 

@@ -1,20 +1,18 @@
 -- The search: labels give the seeds; a layer goes from (k, s) to (k, s + 1); after a layer that changes nothing, the next pending label or the next wave; without one, no route exists.
-use Prim.Native.Nat.{ℕ, zero, suc, _+_, _-_, _≤_, _<_}
-use mathlib.Core.Path.{_≡_, refl, sym, ap, _∙_, subst}
-use mathlib.Core.Bool.{Bool, true, false, _&&_, _||_}
-use mathlib.Core.List.{List, [], _∷_}
+use Prim.Native.Nat.{ℕ, zero, suc, _+_, _≤_, _<_}
+use mathlib.Core.Path.{_≡_, refl, sym}
+use mathlib.Core.Bool.{Bool, _&&_, _||_}
 use mathlib.Core.Logic.{_⊎_, inl, inr}
 use native.Mathlib.Omega.{arith}
 use lib.Dec.{T, eqb, leb, ltb, leb→le, le→leb, ltb→lt, lt→ltb, eqb→eq}
 use lib.ListN.{length}
 use Rattle.rules.specs.Rules.{Rules, registerCode}
-use Rattle.rules.specs.Legal.{Route, mayStand}
-use Rattle.rules.specs.Ranking.{codeSevens}
+use Rattle.rules.specs.Legal.{mayStand}
 use Rattle.plan.proofs.Truth.{both, fst, snd, or-left, or-right, or-cases, eq→eqb, split, equal, three-way, decided}
 use Rattle.budget.specs.Table.{Table, Represents, layer}
 use Rattle.budget.specs.Done.{NotAfter, Within, Done, Fresh, Least, Seed, Labels, Labelled, Lawful, seedAt}
-use Rattle.budget.specs.Search.{FromSink, Searching, Next, Relabelled, IdleUntil, NonePending}
-use Rattle.budget.proofs.Done.{done-more, done-own, done-counts, done-steps, layer-done, not-after-trans, not-after-refl}
+use Rattle.budget.specs.Search.{Next, Relabelled, IdleUntil, NonePending}
+use Rattle.budget.proofs.Done.{done-more, done-counts, done-steps, layer-done, not-after-trans, not-after-refl}
 
 -- what a seed by the labels is
 

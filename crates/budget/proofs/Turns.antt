@@ -1,13 +1,12 @@
 -- The turns of the search, each from one `Searching` to the next or to the end: the start; a layer; the next pending label; the next wave; no route.
-use Prim.Native.Nat.{ℕ, zero, suc, _+_, _-_, _≤_, _<_}
-use mathlib.Core.Path.{_≡_, refl, sym, subst}
-use mathlib.Core.Bool.{Bool, false}
-use mathlib.Core.Logic.{_⊎_, inl, inr}
+use Prim.Native.Nat.{ℕ, suc, _-_, _≤_, _<_}
+use mathlib.Core.Path.{_≡_, refl, subst}
+use mathlib.Core.Logic.{inl, inr}
 use native.Mathlib.Omega.{arith}
 use lib.Dec.{T}
-use Rattle.rules.specs.Rules.{Rules, registerCode}
+use Rattle.rules.specs.Rules.{Rules}
 use Rattle.budget.specs.Table.{Table, Represents}
-use Rattle.budget.specs.Done.{NotAfter, Done, Least, Labels, Labelled, Lawful}
+use Rattle.budget.specs.Done.{NotAfter, Done, Least, Labels, Lawful}
 use Rattle.budget.specs.Search.{FromSink, Searching, Next, Relabelled, IdleUntil, NonePending}
 use Rattle.budget.proofs.Done.{none-without-steps, not-after-trans}
 use Rattle.budget.proofs.Search.{across, least-new, next-table, next-labels, until, next-wave, everything}

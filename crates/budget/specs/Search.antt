@@ -1,5 +1,5 @@
 -- The search, wave by wave: k registers to go in a wave, one layer a step. The table is never cleared.
-use Prim.Native.Nat.{ℕ, zero, suc, _+_, _≤_, _<_}
+use Prim.Native.Nat.{ℕ, suc, _≤_, _<_}
 use mathlib.Core.Path.{_≡_}
 use mathlib.Core.Logic.{_⊎_}
 use lib.Dec.{T}

@@ -1,11 +1,10 @@
 -- The delay-budget table. For a cell and a load it holds one more than the largest delay with which a state (cell, load, delay), after the gate, lies in a set of states; 0 for none.
 -- One layer takes the table of a set X to the table of `Step X`: in X already, or one visit leads into X, or one visit closes the span at a seed.
-use Prim.Native.Nat.{ℕ, zero, suc, _+_, _*_, _-_, _≤_, _<_, max}
-use mathlib.Core.Path.{_≡_}
-use mathlib.Core.Bool.{Bool, true, false, _&&_, cond}
+use Prim.Native.Nat.{ℕ, zero, suc, _+_, _-_, _≤_, _<_, max}
+use mathlib.Core.Bool.{Bool, _&&_, cond}
 use lib.Dec.{T, leb}
 use Rattle.timing.specs.Formulas.{wireDelay, wireLoad, gateDelay, bufferDriver, bufferLoad}
-use Rattle.rules.specs.Rules.{Stage, Rules, noGate, registerCode}
+use Rattle.rules.specs.Rules.{Rules, noGate}
 use Rattle.rules.specs.Legal.{mayStand}
 
 abbrev pub Table : Type 0

@@ -1,5 +1,5 @@
 -- The tables of the worked cases are within their ranges.
-use Prim.Native.Nat.{ℕ, zero, suc, _-_, _+_, _≤_}
+use Prim.Native.Nat.{ℕ, zero, suc, _-_, _≤_}
 use mathlib.Core.List.{List, [], _++_}
 use native.Mathlib.Omega.{arith}
 use lib.ListN.{length, getD, replicate, length-append, length-replicate}

@@ -1,5 +1,5 @@
 -- Emission's loop: the start, one visit more, and the whole route.
-use Prim.Native.Nat.{ℕ, zero, suc, _+_, _-_, _*_, _≤_, _<_}
+use Prim.Native.Nat.{ℕ, suc, _+_, _-_, _*_, _≤_, _<_}
 use mathlib.Core.Path.{_≡_, refl, sym, ap, _∙_, subst}
 use mathlib.Core.Logic.{_⊎_, inl, inr}
 use mathlib.Core.List.{List, [], _∷_, _++_, append-assoc}
@@ -11,16 +11,16 @@ use lib.Seq.{getD-append-add}
 use Rattle.rules.specs.Rules.{Rules, registerCode}
 use Rattle.rules.specs.Legal.{Visit, Route}
 use Rattle.rules.specs.Ranking.{written, IsBest}
-use Rattle.plan.proofs.Truth.{split, equal}
+use Rattle.plan.proofs.Truth.{equal}
 use Rattle.rules.proofs.Order.{best-unique}
-use Rattle.budget.specs.Table.{Table, Represents}
-use Rattle.budget.specs.Done.{Within, NotAfter, Done, Least, Labels, Labelled, Lawful}
-use Rattle.budget.specs.Emission.{FirstEnding, Reaches, FirstViable, visit, afterLoad, afterDelay, afterRegisters}
+use Rattle.budget.specs.Table.{Table}
+use Rattle.budget.specs.Done.{Within, NotAfter, Least, Labels, Labelled, Lawful}
+use Rattle.budget.specs.Emission.{FirstEnding, FirstViable, visit}
 use Rattle.budget.proofs.Done.{done-own, done-counts, done-steps}
 use Rattle.budget.proofs.Emission.{first-goes-on, first-last, least-after, first-more, least-goes-on, viable-goes-on}
 use Rattle.budget.proofs.Visit.{after-fewer}
 use Rattle.budget.proofs.Best.{best-found}
-use Rattle.rows.specs.Words.{Filled, Kept, KeptFrom}
+use Rattle.rows.specs.Words.{Filled}
 use Rattle.rows.proofs.Words.{filled-none, filled-more, filled-as}
 use Rattle.table.specs.Problem.{budgetOf}
 use Rattle.labels.specs.Labels.{labelsOf, Ordered}

@@ -1,21 +1,18 @@
 -- What the search found is the best route's figures; what it did not find is no route.
-use Prim.Native.Nat.{ℕ, zero, suc, _+_, _*_, _≤_, _<_}
-use mathlib.Core.Path.{_≡_, refl, sym, ap, _∙_}
-use mathlib.Core.List.{List, [], _∷_}
+use Prim.Native.Nat.{ℕ, _+_, _*_, _≤_, _<_}
+use mathlib.Core.Path.{_≡_}
+use mathlib.Core.List.{List, _∷_}
 use native.Mathlib.Omega.{arith}
-use lib.Dec.{T}
 use lib.ListN.{length}
-use Rattle.timing.specs.Valid.{Valid}
 use Rattle.rules.specs.Rules.{Rules, registerCode, rulesOf}
-use Rattle.rules.specs.Legal.{Route, legal}
+use Rattle.rules.specs.Legal.{Route}
 use Rattle.rules.specs.Ranking.{registers, steps, latency, IsBest}
-use Rattle.budget.specs.Done.{Least, Labelled, Lawful}
 use Rattle.budget.specs.Search.{FromSink}
 use Rattle.budget.specs.Emission.{visit, emit, reachTable}
 use Rattle.budget.proofs.Reaches.{table-reaches}
 use Rattle.budget.proofs.Emit.{emit-first}
 use Rattle.budget.proofs.Best as figures
-use Rattle.best.specs.Best.{Outcome, found, none, best}
+use Rattle.best.specs.Best.{found, none, best}
 use Rattle.best.proofs.Document01.{rules-best, rules-none, registers-fit, steps-fit, latency-fits}
 use Rattle.table.specs.declared.problem.Problem.{Problem}
 use Rattle.table.specs.Problem.{planFor, rulesFor, Ready}

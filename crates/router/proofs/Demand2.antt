@@ -1,17 +1,15 @@
 -- Demand 2 of document 01, read off the route call's contract (specs/Route.antt).
 -- Where checks 1 to 6 pass: the answer is Found or 8 exactly with the best route's figures, and the route is legal with no legal route ranked before it; it is 7 exactly if no legal route exists. After Found the visits start with that route.
-use Prim.Native.Nat.{ℕ, zero, suc, _+_, _*_, _≤_, _<_}
-use mathlib.Core.Path.{_≡_, refl, sym, ap, _∙_}
-use mathlib.Core.Bool.{Bool, true, false, not, cond}
+use Prim.Native.Nat.{ℕ, _+_, _*_, _≤_, _<_}
+use mathlib.Core.Path.{_≡_, refl}
+use mathlib.Core.Bool.{not, cond}
 use mathlib.Core.List.{List, _++_}
 use mathlib.Core.Logic.{_⊎_, inl, inr}
-use native.Mathlib.Omega.{arith}
 use lib.Dec.{T, leb}
 use lib.ListN.{length, drop}
 use Rattle.plan.specs.Plan.{planOf}
-use Rattle.rules.specs.Rules.{Rules, rulesOf}
 use Rattle.rules.specs.Legal.{Route, legal}
-use Rattle.rules.specs.Ranking.{registers, steps, latency, written, ranksBefore, IsBest}
+use Rattle.rules.specs.Ranking.{steps, written, IsBest}
 use Rattle.plan.proofs.Truth.{decided}
 use Rattle.timing.specs.Valid.{Valid}
 use Rattle.answers.specs.Tables.{elementsOf}

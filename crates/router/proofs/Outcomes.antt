@@ -1,24 +1,22 @@
 -- The three outcomes of routing: no route, no room for the visits, the route written.
-use Prim.Native.Nat.{ℕ, zero, suc, _+_, _-_, _*_, _≤_, _<_}
-use mathlib.Core.Path.{_≡_, refl, sym, ap, _∙_}
+use Prim.Native.Nat.{ℕ, _+_, _*_, _≤_, _<_}
+use mathlib.Core.Path.{_≡_}
 use mathlib.Core.List.{List, _++_}
 use native.Mathlib.Omega.{arith}
 use borrow.Author.Tests.{le-leb, lt-leb}
 use lib.ListN.{length, getD, drop}
 use Rattle.rules.specs.Rules.{Rules}
-use Rattle.rules.specs.Legal.{Route}
-use Rattle.rules.specs.Ranking.{registers, steps, latency, written, IsBest}
-use Rattle.best.specs.Best.{Outcome, found, none, best}
+use Rattle.rules.specs.Ranking.{registers, steps, latency, written}
+use Rattle.best.specs.Best.{none, best}
 use Rattle.answers.specs.declared.answer.Answer.{Answer}
 use Rattle.answers.specs.declared.answer.Refusal.{Refusal}
-use Rattle.rows.specs.Words.{Filled, KeptFrom}
-use Rattle.emission.specs.Emission.{Emitted}
+use Rattle.rows.specs.Words.{Filled}
 use Rattle.emission.proofs.Visits.{written-length}
 use Rattle.table.specs.declared.problem.Problem.{Problem}
 use Rattle.table.specs.Problem.{rulesFor}
 use Rattle.router.specs.Route.{cellWords, figuresOf, answerFor, visitsFor, zeroed}
 use Rattle.router.specs.Ready.{RouteDone}
-use Rattle.router.proofs.Splice.{splice-is, zeroed-is}
+use Rattle.router.proofs.Splice.{splice-is}
 use Rattle.router.proofs.BestRoute.{BestIs}
 
 module _ (p : Problem) (marks scratch scratch′ visits : List ℕ) (zeros : scratch′ ≡ zeroed (length marks * cellWords) scratch) where

@@ -1,20 +1,17 @@
 -- What passed checks say.
-use Prim.Native.Nat.{ℕ, _*_}
-use mathlib.Core.Path.{_≡_, refl, sym, _∙_}
-use mathlib.Core.Bool.{Bool, true, false, cond}
+use Prim.Native.Nat.{ℕ}
+use mathlib.Core.Path.{_≡_, refl}
 use native.Mathlib.Omega.{arith}
-use lib.Dec.{ltb}
 use Rattle.plan.specs.Plan.{planOf}
 use Rattle.plan.specs.Check.{checkedPlan}
 use Rattle.plan.specs.declared.PlanCheck.{PlanCheck}
 use Rattle.plan.specs.declared.PlanCheck.the-variants.{Valid, Grid, Length, Mark}
 use Rattle.timing.specs.Valid as timing
 use Rattle.answers.specs.Tables.{tablesFault, elementsOf}
-use Rattle.answers.specs.Ends.{endsFault}
 use Rattle.answers.specs.declared.tables.ElementFault.{ElementFault}
 use Rattle.answers.specs.declared.tables.ElementFault.the-variants.{Nothing, At}
 use Rattle.answers.proofs.FirstFault.{tables-valid}
-use Rattle.router.specs.Route.{Question, Check, passes, fails, cellsAsked, cellWords, afterPlan, afterTables, checks}
+use Rattle.router.specs.Route.{Question, Check, passes, afterPlan, afterTables, checks}
 
 -- a test of the chain passes only if the rest does
 plan-passes : (k : PlanCheck) (rest : Check) → afterPlan k rest ≡ passes → rest ≡ passes

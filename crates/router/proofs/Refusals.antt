@@ -1,18 +1,15 @@
 -- The checks of the route call, and its effect once they are known.
-use Prim.Native.Nat.{ℕ, zero, suc, _+_, _-_, _*_, _≤_, _<_}
-use mathlib.Core.Path.{_≡_, refl, sym, ap, _∙_}
-use mathlib.Core.Bool.{Bool, true, false}
+use Prim.Native.Nat.{ℕ, _*_, _≤_, _<_}
+use mathlib.Core.Path.{_≡_}
+use mathlib.Core.Bool.{true, false}
 use mathlib.Core.List.{List}
 use native.Mathlib.Omega.{arith}
 use borrow.Author.Tests.{le-ltb, lt-ltb}
 use lib.ListN.{length}
-use Rattle.plan.specs.Plan.{planOf, cells, Sized}
+use Rattle.plan.specs.Plan.{planOf, cells}
 use Rattle.plan.specs.Check.{checkedPlan}
 use Rattle.plan.specs.declared.PlanCheck.{PlanCheck}
 use Rattle.plan.proofs.Check.{valid-sized}
-use Rattle.timing.specs.declared.elements.Elements.{Elements}
-use Rattle.rules.specs.Rules.{Rules, rulesOf}
-use Rattle.best.specs.Best.{best}
 use Rattle.answers.specs.Tables.{tablesFault, elementsOf}
 use Rattle.answers.specs.Ends.{endsFault}
 use Rattle.answers.specs.declared.tables.ElementFault.{ElementFault}
@@ -24,7 +21,7 @@ use Rattle.answers.proofs.FirstFault.{tables-valid}
 use Rattle.table.specs.declared.problem.Problem.{Problem}
 use Rattle.table.specs.Problem.{planFor, rulesFor, Ready}
 use Rattle.table.proofs.Spreads.{cells-product}
-use Rattle.router.specs.Route.{Question, rulesAsked, cellsAsked, cellWords, Check, passes, fails, afterPlan, afterTables, checks, answerAfter, answerOf, scratchAfter, scratchOf, visitsAfter, visitsOf}
+use Rattle.router.specs.Route.{Question, rulesAsked, cellsAsked, cellWords, passes, fails, afterPlan, afterTables, checks, answerAfter, answerOf, scratchAfter, scratchOf, visitsAfter, visitsOf}
 use Rattle.router.specs.Ready.{RouteDone}
 
 -- the three parts of the effect

@@ -5,7 +5,7 @@ use mathlib.Core.Bool.{cond}
 use mathlib.Core.List.{List, _++_}
 use lib.Dec.{leb, ltb}
 use lib.ListN.{length, drop, replicate}
-use Rattle.plan.specs.Plan.{planOf, cells}
+use Rattle.plan.specs.Plan.{planOf}
 use Rattle.plan.specs.Check.{checkedPlan}
 use Rattle.plan.specs.declared.PlanCheck.{PlanCheck}
 use Rattle.plan.specs.declared.PlanCheck.the-variants.{Valid, Grid, Length, Mark}

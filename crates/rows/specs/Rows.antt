@@ -1,10 +1,10 @@
 -- The row operations of the delay-budget table, as functions of the words at entry. A row is 64 words, one a load.
-use Prim.Native.Nat.{ℕ, _+_, _-_, _≤_, _<_, max}
+use Prim.Native.Nat.{ℕ, _+_, _-_, _<_, max}
 use mathlib.Core.Path.{_≡_}
 use mathlib.Core.Bool.{Bool, true, false, cond}
 use mathlib.Core.List.{List}
 use lib.Dec.{leb}
-use lib.ListN.{length, getD}
+use lib.ListN.{getD}
 use Rattle.timing.specs.declared.elements.Wire.{Wire}
 use Rattle.timing.specs.declared.elements.Driver.{Driver}
 use Rattle.timing.specs.Formulas.{wireDelay, wireLoad, gateDelay}

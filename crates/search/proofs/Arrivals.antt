@@ -1,18 +1,17 @@
 -- New seeds are listed, so the active list stays right.
-use Prim.Native.Nat.{ℕ, zero, suc, _+_, _-_, _*_, _≤_, _<_}
-use mathlib.Core.Path.{_≡_, refl, sym, ap, _∙_}
-use mathlib.Core.Bool.{Bool, true, false}
+use Prim.Native.Nat.{ℕ, _+_, _*_, _≤_, _<_}
+use mathlib.Core.Path.{_≡_, sym, _∙_}
+use mathlib.Core.Bool.{false}
 use mathlib.Core.Logic.{_⊎_, inl, inr}
 use mathlib.Core.List.{List}
 use native.Mathlib.Omega.{arith}
-use lib.Dec.{T, eqb}
-use lib.ListN.{length, getD}
+use lib.ListN.{getD}
 use Rattle.rules.specs.Rules.{Rules}
 use Rattle.plan.proofs.Truth.{equal}
-use Rattle.budget.specs.Table.{Table, arrival, given}
+use Rattle.budget.specs.Table.{Table, arrival}
 use Rattle.budget.proofs.Active.{arrival-row, arrival-none, given-row, given-none}
-use Rattle.lists.specs.Lists.{flagOf, Listed}
-use Rattle.lists.proofs.Lists.{bit-cases, listed-none}
+use Rattle.lists.specs.Lists.{flagOf}
+use Rattle.lists.proofs.Lists.{listed-none}
 use Rattle.rows.specs.Rows.{rowWords}
 use Rattle.table.specs.Problem.{budgetOf, seedOf}
 use Rattle.table.specs.Layer.{Settled, Active}

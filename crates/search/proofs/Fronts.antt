@@ -1,34 +1,32 @@
 -- The turns of the search on the scratch words: from one front to the next, or to the end.
-use Prim.Native.Nat.{ℕ, zero, suc, _+_, _-_, _*_, _≤_, _<_}
+use Prim.Native.Nat.{ℕ, suc, _+_, _-_, _*_, _≤_, _<_}
 use mathlib.Core.Path.{_≡_, refl, sym, ap, _∙_}
 use mathlib.Core.Bool.{Bool, true, false}
 use mathlib.Core.Logic.{_⊎_, inl, inr}
 use mathlib.Core.List.{List}
 use native.Mathlib.Omega.{arith}
-use lib.Dec.{T, eqb}
-use lib.ListN.{length, getD}
-use Rattle.rules.specs.Rules.{Rules, registerCode}
-use Rattle.rules.specs.Legal.{mayStand}
-use Rattle.plan.proofs.Truth.{split, equal, is-true, of-true, decided}
-use Rattle.budget.specs.Table.{Table, arrival, given, layer, maxBelow}
-use Rattle.budget.specs.Done.{NotAfter, Done, Least, Labels, Labelled, Lawful, seedAt}
-use Rattle.budget.specs.Search.{FromSink, Searching, Next, Relabelled, IdleUntil, NonePending}
+use lib.Dec.{T}
+use lib.ListN.{getD}
+use Rattle.rules.specs.Rules.{Rules}
+use Rattle.plan.proofs.Truth.{split}
+use Rattle.budget.specs.Table.{Table, arrival, given, layer}
+use Rattle.budget.specs.Done.{NotAfter, Done, Least, Lawful, seedAt}
+use Rattle.budget.specs.Search.{FromSink, Next, IdleUntil, NonePending}
 use Rattle.budget.proofs.Done.{not-after-trans}
 use Rattle.budget.proofs.Active.{max-same, arrival-row, given-row, layer-least}
 use Rattle.budget.proofs.Search.{Arrived, seed-cases, seed-source, seed-arrived, same-table}
-use Rattle.budget.proofs.Turns.{layer-found, layer-turn, pending-turn, wave-turn, none-turn}
-use Rattle.lists.specs.Lists.{flagOf, Place, Listed}
-use Rattle.lists.proofs.Lists.{bit-cases, empty-flags}
-use Rattle.rows.specs.Words.{Kept, KeptFrom}
+use Rattle.budget.proofs.Turns.{layer-found, pending-turn, wave-turn, none-turn}
+use Rattle.lists.specs.Lists.{Place}
+use Rattle.lists.proofs.Lists.{empty-flags}
+use Rattle.rows.specs.Words.{Kept}
 use Rattle.table.specs.Problem.{budgetOf, seedOf}
-use Rattle.table.specs.Layer.{Active, Grew, SameRow, Layered}
+use Rattle.table.specs.Layer.{Layered}
 use Rattle.table.proofs.Views.{seeds-kept}
 use Rattle.labels.specs.Labels as labels
-use Rattle.labels.specs.Labels.{knownOf, registersOf, stepsOf, labelsOf, orderOf, Ordered, ArrivedAll}
+use Rattle.labels.specs.Labels.{knownOf, registersOf, stepsOf, labelsOf, orderOf, Ordered}
 use Rattle.labels.proofs.Labels.{known-below, known-kept, label-kept, labelled-kept, ordered-count, ordered-kept, late-all}
 use Rattle.search.specs.Front.{total, Waiting, Front}
-use Rattle.search.proofs.Total.{total-kept, total-least, total-grows}
-use Rattle.search.proofs.Arrivals.{active-arrived}
+use Rattle.search.proofs.Total.{total-least, total-grows}
 
 pub bool-same : (a b : Bool) → (T a → T b) → (T b → T a) → a ≡ b
 bool-same true true f g = refl

@@ -1,29 +1,29 @@
 -- A layer that grew, with its new labels; arrivals; the start.
-use Prim.Native.Nat.{ℕ, zero, suc, _+_, _-_, _*_, _≤_, _<_}
-use mathlib.Core.Path.{_≡_, refl, sym, ap, _∙_}
-use mathlib.Core.Bool.{Bool, true, false, not}
+use Prim.Native.Nat.{ℕ, zero, suc, _+_, _*_, _≤_, _<_}
+use mathlib.Core.Path.{_≡_, refl, sym, _∙_}
+use mathlib.Core.Bool.{not}
 use mathlib.Core.Logic.{_⊎_, inl, inr}
 use mathlib.Core.List.{List}
 use native.Mathlib.Omega.{arith}
-use lib.Dec.{T, eqb, eqb→eq, T-not}
-use lib.ListN.{length, getD}
+use lib.Dec.{T, eqb→eq, T-not}
+use lib.ListN.{getD}
 use Rattle.rules.specs.Rules.{Rules, registerCode}
 use Rattle.rules.specs.Legal.{mayStand}
-use Rattle.plan.proofs.Truth.{split, equal, decided, eq→eqb, is-true, of-true}
-use Rattle.budget.specs.Done.{NotAfter, Done, Least, Labels, Labelled, Lawful}
-use Rattle.budget.specs.Search.{Searching, Next, Relabelled}
+use Rattle.plan.proofs.Truth.{split, equal, decided, eq→eqb}
+use Rattle.budget.specs.Done.{NotAfter, Done, Lawful}
+use Rattle.budget.specs.Search.{Relabelled}
 use Rattle.budget.proofs.Done.{not-after-trans}
 use Rattle.budget.proofs.Search.{same-table}
 use Rattle.budget.proofs.Turns.{search-start, layer-turn}
-use Rattle.lists.specs.Lists.{flagOf, Place, Listed}
-use Rattle.lists.proofs.Lists.{bit-cases, listed-kept, listed-count}
-use Rattle.rows.specs.Words.{Kept, KeptFrom}
+use Rattle.lists.specs.Lists.{flagOf, Place}
+use Rattle.lists.proofs.Lists.{bit-cases, listed-kept}
+use Rattle.rows.specs.Words.{Kept}
 use Rattle.table.specs.Problem.{budgetOf, seedOf}
 use Rattle.table.specs.Layer.{Active, Layered}
 use Rattle.table.proofs.Views.{budget-kept, budget-outside, seeds-kept}
-use Rattle.labels.specs.Labels.{knownOf, registersOf, stepsOf, labelsOf, orderOf, Ordered, Planted, ArrivedAll}
+use Rattle.labels.specs.Labels.{knownOf, registersOf, stepsOf, labelsOf, orderOf, Planted, ArrivedAll}
 use Rattle.labels.specs.Additions.{LabelsAdded}
-use Rattle.labels.proofs.Labels.{known-below, known-kept, label-kept, labelled-kept, ordered-count, ordered-kept, ordered-none, word-unknown, unknown-not}
+use Rattle.labels.proofs.Labels.{known-below, known-kept, label-kept, labelled-kept, ordered-kept, ordered-none, word-unknown, unknown-not}
 use Rattle.search.specs.Front.{total, Waiting, Front}
 use Rattle.search.proofs.Total.{total-kept}
 use Rattle.search.proofs.Arrivals.{settled-kept, active-planted, active-arrived, cleared-table, cleared-active}

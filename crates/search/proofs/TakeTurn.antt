@@ -1,15 +1,13 @@
 -- One turn: a quiet layer, a layer that reaches the sink, a layer that grew.
-use Prim.Native.Nat.{ℕ, zero, suc, _+_, _-_, _*_, _≤_, _<_}
-use mathlib.Core.Path.{_≡_, refl, sym, ap, _∙_}
+use Prim.Native.Nat.{ℕ, _+_, _*_, _<_}
+use mathlib.Core.Path.{_≡_, refl, _∙_}
 use mathlib.Core.Logic.{_⊎_, inl, inr}
 use mathlib.Core.List.{List}
 use native.Mathlib.Omega.{arith}
 use native.Mathlib.Numerals.{add-one}
 use lib.Dec.{T}
-use lib.ListN.{length, getD}
 use Rattle.rules.specs.Rules.{Rules}
 use Rattle.plan.proofs.Truth.{equal}
-use Rattle.budget.specs.Table.{Table, arrival, given, layer}
 use Rattle.budget.specs.Done.{NotAfter, Lawful, seedAt}
 use Rattle.budget.specs.Search.{Next}
 use Rattle.budget.proofs.Done.{not-after-trans}
@@ -18,15 +16,15 @@ use Rattle.lists.proofs.Lists.{empty-flags}
 use Rattle.rows.specs.Words.{KeptFrom}
 use Rattle.table.specs.Problem.{budgetOf, seedOf}
 use Rattle.table.specs.Layer.{Layered}
-use Rattle.labels.specs.Labels.{knownOf, registersOf, stepsOf, labelsOf, orderOf, Ordered}
+use Rattle.labels.specs.Labels.{knownOf, registersOf, stepsOf, labelsOf}
 use Rattle.labels.specs.Additions.{LabelsAdded}
 use Rattle.labels.proofs.Labels.{known-below, known-kept, label-kept, labelled-kept, ordered-kept}
 use Rattle.search.specs.declared.turns.Progress.{Progress}
 use Rattle.search.specs.declared.turns.Turn.{Turn}
-use Rattle.search.specs.Front.{total, Waiting, Front}
-use Rattle.search.specs.Turn.{FrontOf, WaitingOf, quietTurn, Advance, Reaching, TurnDone, TurnEffect}
+use Rattle.search.specs.Front.{total, Front}
+use Rattle.search.specs.Turn.{FrontOf, WaitingOf, quietTurn, Advance, TurnDone, TurnEffect}
 use Rattle.search.proofs.Total.{total-least, total-kept}
-use Rattle.search.proofs.Fronts.{layer-seeds, front-seeds, front-next, front-least, front-grows, front-sink, still, quiet-front, pending-front, wave-front, none-front}
+use Rattle.search.proofs.Fronts.{layer-seeds, front-seeds, front-grows, front-sink, still, quiet-front, pending-front, wave-front, none-front}
 use Rattle.search.proofs.NextFront.{grown-front}
 use Rattle.search.proofs.Quiet.{quiet-nothing, quiet-wave, quiet-pending}
 

@@ -1,10 +1,10 @@
 -- Where the search stands: k registers and s steps to go, and what the scratch words hold.
-use Prim.Native.Nat.{ℕ, suc, _+_, _*_, _≤_, _<_}
+use Prim.Native.Nat.{ℕ, suc, _*_, _≤_, _<_}
 use mathlib.Core.Path.{_≡_}
 use mathlib.Core.Logic.{_⊎_}
 use mathlib.Core.List.{List}
 use lib.Dec.{T}
-use lib.ListN.{length, getD}
+use lib.ListN.{getD}
 use Rattle.rules.specs.Rules.{Rules}
 use Rattle.budget.specs.Done.{NotAfter}
 use Rattle.budget.specs.Search.{Searching}

@@ -1,6 +1,6 @@
 -- The arrival rows of the active list, one after another; and what the pushes ask, from them.
-use Prim.Native.Nat.{ℕ, zero, suc, _+_, _-_, _*_, _≤_, _<_, max}
-use mathlib.Core.Path.{_≡_, refl, sym, ap, _∙_}
+use Prim.Native.Nat.{ℕ, _+_, _*_, _≤_, _<_}
+use mathlib.Core.Path.{_≡_, refl, sym, _∙_}
 use mathlib.Core.Logic.{_⊎_, inl, inr}
 use mathlib.Core.List.{List}
 use native.Mathlib.Omega.{arith}
@@ -8,15 +8,15 @@ use lib.ListN.{length, getD, set, length-set}
 use lib.Seq.{getD-set-same, getD-set-other}
 use Rattle.rules.specs.Rules.{Rules, rulesOf}
 use Rattle.plan.proofs.Truth.{split, equal}
-use Rattle.budget.specs.Table.{Table, arrival}
+use Rattle.budget.specs.Table.{arrival}
 use Rattle.budget.proofs.Active.{arrival-row, arrival-past}
 use Rattle.rows.specs.Words.{Filled, Kept, KeptFrom}
 use Rattle.rows.specs.Rows.{rowWords}
 use Rattle.lists.specs.Lists.{flagOf, Place, Listed}
 use Rattle.lists.proofs.Lists.{bit-cases, listed-count}
 use Rattle.table.specs.declared.problem.Problem.{Problem}
-use Rattle.table.specs.Problem.{planFor, rulesFor, Ready, budgetOf, seedOf}
-use Rattle.table.specs.Layer.{arrivalsOf, Active, ArrivalsFilled, SpreadAllAsks}
+use Rattle.table.specs.Problem.{rulesFor, Ready, budgetOf, seedOf}
+use Rattle.table.specs.Layer.{arrivalsOf, ArrivalsFilled, SpreadAllAsks}
 use Rattle.table.proofs.Views.{budget-kept, seeds-kept, arrivals-at, arrivals-outside}
 
 -- the first i cells of the list have their rows

@@ -1,25 +1,23 @@
 -- One push, the four pushes of a cell, and the pushes of the active list, as tables.
-use Prim.Native.Nat.{ℕ, zero, suc, _+_, _-_, _*_, _≤_, _<_, max}
-use mathlib.Core.Path.{_≡_, refl, sym, ap, _∙_}
+use Prim.Native.Nat.{ℕ, _+_, _-_, _*_, _≤_, _<_, max}
+use mathlib.Core.Path.{_≡_, refl, _∙_}
 use mathlib.Core.Bool.{Bool, true, false, not, _&&_}
 use mathlib.Core.Logic.{_⊎_, inl, inr}
 use mathlib.Core.List.{List}
 use native.Mathlib.Omega.{arith}
 use lib.Dec.{T, eqb, leb, ltb, leb→le, ltb→lt, lt→ltb, eqb→eq, T-not}
-use lib.ListN.{length, getD}
+use lib.ListN.{getD}
 use Rattle.timing.specs.declared.elements.Wire.{Wire}
 use Rattle.timing.specs.Formulas.{wireDelay, wireLoad}
-use Rattle.timing.specs.Ranges.{loadMax}
 use Rattle.plan.proofs.Truth.{both, fst, snd, decided, split, equal, eq→eqb}
-use Rattle.budget.specs.Table.{Table, only}
+use Rattle.budget.specs.Table.{only}
 use Rattle.budget.specs.Sides.{gift, isSide}
 use Rattle.budget.proofs.Max.{only-true, only-false, only-bound}
-use Rattle.rows.specs.Words.{Filled, Kept, KeptFrom}
 use Rattle.rows.specs.Rows.{rowWords, pushed, RowGrew, Pushed}
-use Rattle.lists.specs.Lists.{flagOf, Listed, Enlisted}
-use Rattle.lists.proofs.Lists.{listed-kept, listed-count, bit-cases}
+use Rattle.lists.specs.Lists.{flagOf, Enlisted}
+use Rattle.lists.proofs.Lists.{listed-kept}
 use Rattle.table.specs.Problem.{budgetOf}
-use Rattle.table.specs.Layer.{arrivalsOf, Grew, SameRow, Raised, Offered, OfferAsks}
+use Rattle.table.specs.Layer.{arrivalsOf, Grew, SameRow, Offered, OfferAsks}
 use Rattle.table.proofs.Views.{budget-at, budget-outside, budget-kept, arrivals-at, inside}
 
 -- no side

@@ -1,27 +1,25 @@
 -- The four pushes of a cell are what the rules give its neighbours; the pushes of the active list together.
-use Prim.Native.Nat.{ℕ, zero, suc, _+_, _-_, _*_, _≤_, _<_, max}
-use mathlib.Core.Path.{_≡_, refl, sym, ap, _∙_}
+use Prim.Native.Nat.{ℕ, _+_, _*_, _≤_, _<_, max}
+use mathlib.Core.Path.{_≡_, refl, _∙_}
 use mathlib.Core.Logic.{_⊎_, inl, inr}
 use mathlib.Core.List.{List}
 use native.Mathlib.Omega.{arith}
 use lib.ListN.{length, getD}
-use Rattle.plan.specs.Plan.{Plan, planOf, cells, Sized}
+use Rattle.plan.specs.Plan.{Plan, cells}
 use Rattle.plan.specs.Joined.{neighboursOf}
 use Rattle.plan.proofs.Check.{cells-most}
-use Rattle.plan.proofs.Sides.{ascending}
 use Rattle.timing.specs.declared.elements.Wire.{Wire}
 use Rattle.timing.specs.Elements.{WireInRange}
-use Rattle.rules.specs.Rules.{Rules, rulesOf}
 use Rattle.plan.proofs.Truth.{split}
 use Rattle.budget.specs.Table.{Table, only, given}
 use Rattle.budget.specs.Sides.{gift, isSide}
 use Rattle.budget.proofs.Sides.{four-sides}
 use Rattle.budget.proofs.Active.{given-row}
-use Rattle.lists.specs.Lists.{flagOf, Listed}
+use Rattle.lists.specs.Lists.{Listed}
 use Rattle.lists.proofs.Lists.{listed-none}
 use Rattle.table.specs.declared.problem.Problem.{Problem}
 use Rattle.table.specs.Problem.{planFor, rulesFor, Ready, budgetOf}
-use Rattle.table.specs.Layer.{arrivalsOf, Raised, Offered, OfferAsks, Spread, SpreadAsks, SpreadAll, SpreadAllAsks}
+use Rattle.table.specs.Layer.{arrivalsOf, Offered, OfferAsks, Spread, SpreadAsks, SpreadAll, SpreadAllAsks}
 use Rattle.table.proofs.Views.{arrivals-kept}
 use Rattle.table.proofs.WholeLayer.{raised-more}
 

@@ -1,14 +1,13 @@
 -- Reading the tables in the scratch words, and keeping them.
-use Prim.Native.Nat.{ℕ, zero, suc, _+_, _-_, _*_, _≤_, _<_, max}
-use mathlib.Core.Path.{_≡_, refl, sym, ap, _∙_}
-use mathlib.Core.Bool.{Bool, true, false, _&&_}
+use Prim.Native.Nat.{ℕ, _+_, _*_, _≤_, _<_}
+use mathlib.Core.Path.{_≡_, sym, _∙_}
+use mathlib.Core.Bool.{_&&_}
 use mathlib.Core.Logic.{_⊎_, inl, inr}
 use mathlib.Core.List.{List}
 use native.Mathlib.Omega.{arith}
-use lib.Dec.{T, eqb, ltb, ltb→lt, lt→ltb}
-use lib.ListN.{length, getD}
-use Rattle.plan.proofs.Truth.{both, fst, snd, decided}
-use Rattle.budget.specs.Table.{Table, only}
+use lib.Dec.{T, ltb, ltb→lt, lt→ltb}
+use lib.ListN.{getD}
+use Rattle.plan.proofs.Truth.{both, fst, snd}
 use Rattle.budget.proofs.Max.{only-true, only-false}
 use Rattle.rows.specs.Words.{Kept, KeptFrom}
 use Rattle.rows.specs.Rows.{rowWords}

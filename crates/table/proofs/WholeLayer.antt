@@ -1,16 +1,16 @@
 -- The parts of a layer put together.
-use Prim.Native.Nat.{ℕ, zero, suc, _+_, _-_, _*_, _≤_, _<_, max}
-use mathlib.Core.Path.{_≡_, refl, sym, ap, _∙_}
+use Prim.Native.Nat.{ℕ, _+_, _*_, _≤_, _<_}
+use mathlib.Core.Path.{_≡_, sym, _∙_}
 use mathlib.Core.Logic.{_⊎_, inl, inr}
 use mathlib.Core.List.{List}
 use native.Mathlib.Omega.{arith}
-use lib.ListN.{length, getD}
+use lib.ListN.{getD}
 use Rattle.rules.specs.Rules.{Rules}
 use Rattle.budget.specs.Table.{Table, arrival, given, layer}
 use Rattle.budget.proofs.Active.{pushes-layer, given-most, layer-least, arrival-row, given-row}
-use Rattle.rows.specs.Words.{Kept, KeptFrom}
+use Rattle.rows.specs.Words.{KeptFrom}
 use Rattle.rows.specs.Rows.{rowWords}
-use Rattle.lists.specs.Lists.{flagOf, Place, Listed, Taken}
+use Rattle.lists.specs.Lists.{flagOf, Place, Taken}
 use Rattle.lists.proofs.Lists.{bit-cases, listed-count}
 use Rattle.table.specs.Problem.{budgetOf, seedOf}
 use Rattle.table.specs.Layer.{arrivalsOf, Settled, Active, Grew, SameRow, ArrivalsFilled, Raised, SpreadAll, Layered}

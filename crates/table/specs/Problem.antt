@@ -1,12 +1,11 @@
 -- A routing problem as the rules see it, what its parts must meet, and how the scratch words (document 01: the bench) are laid out.
 -- Words of the scratch, n cells: budget rows from 0, arrival rows from 64n, registers to go plus one from 128n, steps low 129n, steps high 130n, order 131n, active list 132n, next list 133n, listed flags 134n, seed flags 135n.
 use Prim.Native.Nat.{ℕ, _+_, _*_, _≤_, _<_}
-use mathlib.Core.Path.{_≡_}
 use mathlib.Core.Bool.{Bool, _&&_}
 use mathlib.Core.List.{List}
 use lib.Dec.{eqb, ltb}
 use lib.ListN.{length, getD}
-use Rattle.plan.specs.Plan.{Plan, planOf, cells, Sized}
+use Rattle.plan.specs.Plan.{Plan, planOf, Sized}
 use Rattle.timing.specs.Valid.{Valid}
 use Rattle.rules.specs.Rules.{Rules, rulesOf}
 use Rattle.budget.specs.Table.{Table, only}

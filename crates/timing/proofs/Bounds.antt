@@ -1,5 +1,5 @@
 -- The largest delay of each formula: both fit 16 bits.
-use Prim.Native.Nat.{ℕ, _+_, _*_, _≤_}
+use Prim.Native.Nat.{ℕ, _*_, _≤_}
 use native.Mathlib.Nat.{mul-le-mul}
 use native.Mathlib.Omega.{arith}
 use Rattle.timing.specs.declared.elements.Wire.{Wire}

@@ -1,6 +1,6 @@
 -- When an element is within its ranges, and what each checking constructor answers (document 01, "Elements").
 use Prim.Native.Nat.{ℕ, _≤_}
-use mathlib.Core.Bool.{Bool, true, false, _&&_, cond}
+use mathlib.Core.Bool.{Bool, _&&_, cond}
 use lib.Dec.{leb}
 use Rattle.timing.specs.Ranges.{resistanceMax, delayMax, loadMax, setupMax}
 use Rattle.timing.specs.declared.elements.Wire.{Wire}

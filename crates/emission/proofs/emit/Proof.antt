@@ -1,17 +1,17 @@
 -- `emission::emit` meets its contract: the loop keeps `Emitting`, by proofs/Visits.
-use Prim.Native.Nat.{ℕ, _+_, _*_, _-_, _<_, _≤_}
-use mathlib.Core.Path.{_≡_, refl, sym, ap, _∙_}
+use Prim.Native.Nat.{ℕ, _+_, _*_, _≤_}
+use mathlib.Core.Path.{_≡_, refl, _∙_}
 use mathlib.Core.List.{List}
 use native.Mathlib.Omega.{arith}
 use borrow.Author.Needs.{needs}
-use lib.ListN.{length, getD, set, length-set}
+use lib.ListN.{length, set, length-set}
 use Rattle.rules.specs.Rules.{registerCode, rulesOf}
 use Rattle.timing.specs.Formulas.{registerLoad, setupDelay}
 use Rattle.table.specs.Problem.{rulesFor}
 use Rattle.table.proofs.Spreads.{few-cells}
 use Rattle.search.proofs.Ready.{ready-lawful, ready-cells}
 use Rattle.emission.specs.Emission.{Emitting}
-use Rattle.emission.proofs.Visits.{emit-start, emit-next, emit-nothing, emit-done, chosen-visit, chosen-nothing}
+use Rattle.emission.proofs.Visits.{emit-start, emit-next, emit-nothing, emit-done, chosen-visit}
 use Rattle.emission.proofs.emit.Statement.{statement}
 use Rattle.emission.proofs.emit.Tie as tie
 

@@ -1,15 +1,13 @@
 -- `router::checks::after_plan` meets its contract: refusals 4, 5 and 6, or the route.
-use Prim.Native.Nat.{ℕ, _+_, _*_, _-_, _<_, _≤_}
-use mathlib.Core.Path.{_≡_, refl, sym, ap, _∙_}
+use mathlib.Core.Path.{sym, ap, _∙_}
 use native.Mathlib.Omega.{arith}
 use borrow.Author.Needs.{needs}
-use lib.ListN.{length}
 use Rattle.plan.specs.Plan.{planOf, cells}
 use Rattle.plan.proofs.Check.{valid-sized, cells-most}
 use Rattle.answers.specs.declared.tables.TablesCheck.{TablesCheck}
 use Rattle.answers.proofs.FirstFault.{tables-fault, tables-clean}
 use Rattle.router.specs.Route.{questionOf, cellsAsked}
-use Rattle.router.proofs.Refusals.{refused, refused-grid, refused-length, refused-mark, refused-element, refused-ends, refused-scratch, ready, passed-room, routed}
+use Rattle.router.proofs.Refusals.{refused, refused-element, refused-ends, refused-scratch, ready, passed-room, routed}
 use Rattle.router.proofs.checks.after_plan.Statement.{statement}
 use Rattle.router.proofs.checks.after_plan.Tie as tie
 

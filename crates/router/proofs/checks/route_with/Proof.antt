@@ -1,15 +1,8 @@
 -- `router::checks::route_with` meets its contract: refusals 1, 2 and 3, or what follows them.
-use Prim.Native.Nat.{ℕ, _+_, _*_, _-_, _<_, _≤_}
-use mathlib.Core.Path.{_≡_, refl, sym, ap, _∙_}
-use native.Mathlib.Omega.{arith}
+use mathlib.Core.Path.{sym, _∙_}
 use borrow.Author.Needs.{needs}
-use lib.ListN.{length}
-use Rattle.plan.specs.Plan.{planOf, cells}
-use Rattle.plan.proofs.Check.{valid-sized, cells-most}
-use Rattle.answers.specs.declared.tables.TablesCheck.{TablesCheck}
-use Rattle.answers.proofs.FirstFault.{tables-fault, tables-clean}
-use Rattle.router.specs.Route.{questionOf, cellsAsked}
-use Rattle.router.proofs.Refusals.{refused, refused-grid, refused-length, refused-mark, refused-element, refused-ends, refused-scratch, ready, passed-room, routed}
+use Rattle.router.specs.Route.{questionOf}
+use Rattle.router.proofs.Refusals.{refused, refused-grid, refused-length, refused-mark}
 use Rattle.router.proofs.checks.route_with.Statement.{statement}
 use Rattle.router.proofs.checks.route_with.Tie as tie
 

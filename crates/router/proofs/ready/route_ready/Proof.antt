@@ -1,13 +1,13 @@
 -- `router::ready::route_ready` meets its contract: the search, then the route, 7 or 8.
-use Prim.Native.Nat.{ℕ, _+_, _*_, _-_, _<_, _≤_}
-use mathlib.Core.Path.{_≡_, refl, sym, ap, _∙_}
+use Prim.Native.Nat.{_+_, _*_}
+use mathlib.Core.Path.{_≡_, _∙_}
 use native.Mathlib.Omega.{arith}
 use borrow.Author.Needs.{needs}
-use lib.ListN.{length, getD}
+use lib.ListN.{length}
 use Rattle.table.proofs.Spreads.{few-cells}
 use Rattle.router.proofs.Splice.{zeroed-is, zeroed-kept}
-use Rattle.router.proofs.BestRoute.{BestIs, best-is, best-is-none}
-use Rattle.router.proofs.Outcomes.{done-none, done-no-room, done-found}
+use Rattle.router.proofs.BestRoute.{best-is-none}
+use Rattle.router.proofs.Outcomes.{done-none}
 use Rattle.router.proofs.Searched.{reached-sink, reached-nothing}
 use Rattle.router.proofs.ready.route_ready.Statement.{statement}
 use Rattle.router.proofs.ready.route_ready.Tie as tie

@@ -1,14 +1,11 @@
 -- `router::ready::write_route` meets its contract: the figures are those of the best route.
-use Prim.Native.Nat.{ℕ, _+_, _*_, _-_, _<_, _≤_}
-use mathlib.Core.Path.{_≡_, refl, sym, ap, _∙_}
+use mathlib.Core.Path.{refl, _∙_}
 use native.Mathlib.Omega.{arith}
 use borrow.Author.Needs.{needs}
-use lib.ListN.{length, getD}
 use Rattle.table.proofs.Spreads.{few-cells}
-use Rattle.router.proofs.Splice.{zeroed-is, zeroed-kept}
-use Rattle.router.proofs.BestRoute.{BestIs, best-is, best-is-none}
-use Rattle.router.proofs.Outcomes.{done-none, done-no-room, done-found}
-use Rattle.router.proofs.Searched.{reached-sink, reached-nothing}
+use Rattle.router.proofs.Splice.{zeroed-is}
+use Rattle.router.proofs.BestRoute.{best-is}
+use Rattle.router.proofs.Outcomes.{done-no-room, done-found}
 use Rattle.router.proofs.ready.write_route.Statement.{statement}
 use Rattle.router.proofs.ready.write_route.Tie as tie
 

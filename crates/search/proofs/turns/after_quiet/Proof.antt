@@ -1,9 +1,7 @@
 -- `search::turns::after_quiet` meets its contract, by the cases of proofs/Quiet.
-use Prim.Native.Nat.{ℕ, _+_, _*_, _-_, _<_, _≤_}
-use mathlib.Core.Path.{_≡_, refl, sym, ap, _∙_}
+use Prim.Native.Nat.{_+_, _*_}
+use mathlib.Core.Path.{sym}
 use native.Mathlib.Omega.{arith}
-use borrow.Author.Needs.{needs}
-use lib.ListN.{length, getD}
 use Rattle.labels.proofs.Labels.{ordered-count}
 use Rattle.search.proofs.Quiet.{quiet-nothing, quiet-wave, quiet-pending}
 use Rattle.search.proofs.turns.after_quiet.Statement.{statement}

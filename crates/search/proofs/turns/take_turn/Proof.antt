@@ -1,10 +1,8 @@
 -- `search::turns::take_turn` meets its contract, by the cases of proofs/TakeTurn.
-use Prim.Native.Nat.{ℕ, _+_, _*_, _-_, _<_, _≤_}
-use mathlib.Core.Path.{_≡_, refl, sym, ap, _∙_}
+use mathlib.Core.Path.{sym, _∙_}
 use native.Mathlib.Omega.{arith}
-use borrow.Author.Needs.{needs}
 use borrow.Author.Tests.{ltb-true, ltb-false}
-use lib.ListN.{length, getD}
+use lib.ListN.{length}
 use Rattle.rules.specs.Rules.{rulesOf}
 use Rattle.table.specs.Problem.{rulesFor, budgetOf}
 use Rattle.table.proofs.Spreads.{few-cells}

@@ -1,9 +1,9 @@
 -- `search::waves::search` meets its contract: every turn of the loop starts at a front; the sum of the table plus the place in the order grows.
-use Prim.Native.Nat.{ℕ, _+_, _*_, _-_, _<_, _≤_}
-use mathlib.Core.Path.{_≡_, refl, sym, ap, _∙_}
+use Prim.Native.Nat.{_+_, _*_, _-_}
+use mathlib.Core.Path.{_≡_, refl, _∙_}
 use native.Mathlib.Omega.{arith}
 use borrow.Author.Needs.{needs}
-use lib.ListN.{length, getD}
+use lib.ListN.{length}
 use Rattle.rules.specs.Rules.{rulesOf}
 use Rattle.table.specs.Problem.{rulesFor}
 use Rattle.table.proofs.Spreads.{few-cells}
@@ -13,7 +13,7 @@ use Rattle.lists.proofs.Lists.{listed-none}
 use Rattle.search.specs.Front.{total}
 use Rattle.search.specs.Turn.{FrontOf}
 use Rattle.search.proofs.Total.{total-fits}
-use Rattle.search.proofs.Ready.{ready-lawful, ready-cells, ready-source}
+use Rattle.search.proofs.Ready.{ready-source}
 use Rattle.search.proofs.NextFront.{start-front, arrive-front}
 use Rattle.search.specs.Search.{SearchDone}
 use Rattle.search.proofs.Ends.{ends-sink, ends-nothing, goes-on, advances}

@@ -1,9 +1,8 @@
 -- `table::layer::fill_arrivals` meets its contract: after i turns the first i cells of the list have their rows.
-use Prim.Native.Nat.{ℕ, _+_, _*_, _-_, _<_, _≤_}
-use mathlib.Core.Path.{_≡_, refl, sym, _∙_}
+use Prim.Native.Nat.{_+_, _*_, _-_, _≤_}
+use mathlib.Core.Path.{_≡_}
 use native.Mathlib.Omega.{arith}
-use borrow.Author.Needs.{needs}
-use lib.ListN.{length, getD, length-set}
+use lib.ListN.{length, length-set}
 use Rattle.lists.proofs.Lists.{listed-count}
 use Rattle.table.specs.Problem.{rulesFor}
 use Rattle.table.proofs.Spreads.{few-cells}

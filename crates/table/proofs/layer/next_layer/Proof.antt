@@ -1,8 +1,6 @@
 -- `table::layer::next_layer` meets its contract: rows, pushes and the new list, by proofs/WholeLayer.
-use Prim.Native.Nat.{ℕ, _+_, _*_, _-_, _<_, _≤_}
-use mathlib.Core.Path.{_≡_, refl, sym, _∙_}
+use mathlib.Core.Path.{sym, _∙_}
 use native.Mathlib.Omega.{arith}
-use borrow.Author.Needs.{needs}
 use Rattle.rules.specs.Rules.{rulesOf}
 use Rattle.table.specs.Problem.{rulesFor}
 use Rattle.table.proofs.Spreads.{few-cells, cells-are}

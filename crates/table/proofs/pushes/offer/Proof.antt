@@ -1,9 +1,7 @@
 -- `table::pushes::offer` meets its contract: the laws of proofs/Offers, one for each way out.
-use Prim.Native.Nat.{ℕ, _+_, _*_, _<_, _≤_}
-use mathlib.Core.Path.{_≡_}
+use Prim.Native.Nat.{_+_, _*_, _<_}
 use native.Mathlib.Omega.{arith}
 use borrow.Author.Needs.{needs}
-use lib.ListN.{getD}
 use Rattle.lists.proofs.Lists.{listed-kept, listed-count}
 use Rattle.table.proofs.Offers.{offer-none, offer-quiet, offer-grew}
 use Rattle.table.proofs.pushes.offer.Statement.{statement}

@@ -1,9 +1,8 @@
 -- `table::pushes::spread_all` meets its contract: after i turns the first i cells of the list have given.
-use Prim.Native.Nat.{ℕ, _+_, _*_, _-_, _<_, _≤_}
-use mathlib.Core.Path.{_≡_, refl, sym, _∙_}
+use Prim.Native.Nat.{_+_, _*_, _-_, _≤_}
+use mathlib.Core.Path.{_≡_}
 use native.Mathlib.Omega.{arith}
-use borrow.Author.Needs.{needs}
-use lib.ListN.{length, getD}
+use lib.ListN.{length}
 use Rattle.table.specs.Problem.{rulesFor}
 use Rattle.table.specs.Layer.{SpreadAll}
 use Rattle.table.proofs.Spreads.{few-cells, spread-none, spread-next-asks, spread-more}
