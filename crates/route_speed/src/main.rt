@@ -1,4 +1,4 @@
-// Routes two plans of the largest size, 32 by 32, and prints number, registers and steps of each. tests/speed times it.
+// Routes on plans of the largest size, 32 by 32, and prints number, registers and steps of each. tests/speed times it.
 ghost use mathlib.Core.Path.{_≡_};
 ghost use lib.ListN.{length};
 use answers::BufferList;
@@ -117,10 +117,11 @@ fn winding() -> [u8; CELLS]
     plan
 }
 
-// From the path's first cell to its last.
+// From the path's first cell to its last: many short spans, then one long one.
 fn serpentine() {
     let plan = winding();
     time(b"serpentine", &plan, 100, 992);
+    time(b"serpentine in one span", &plan, 30000, 992);
 }
 
 fn main() {
