@@ -1,4 +1,3 @@
 pub mod Codes
 pub mod Visits
 pub mod Sides
-pub mod Chosen

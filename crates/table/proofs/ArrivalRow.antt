@@ -16,17 +16,13 @@ use Rattle.rules.specs.Legal.{mayStand}
 use Rattle.plan.proofs.Truth.{split, both, parts, is-true, is-false, of-true, of-false, neqb→ne, ne→neqb}
 use Rattle.rules.proofs.Document01.{BufferSite, no-gate-stands, buffer-site, buffer-stands}
 use Rattle.budget.specs.Table.{Table, only, maxBelow, viaBuffer, arrival, loadOf, bufferCost, closeCost}
+use Rattle.budget.proofs.Active.{max-same}
 use Rattle.rows.specs.Rows.{rowWords, copied, raised}
 use Rattle.table.specs.declared.problem.Problem.{Problem}
 use Rattle.table.specs.Problem.{planFor, rulesFor, Ready, budgetOf, seedOf}
 use Rattle.table.specs.ArrivalRow.{takesBuffers, bufferAt, behind, buffered}
 
 -- The maximum
-
-max-same : (n : ℕ) (f g : ℕ → ℕ) → ((i : ℕ) → i < n → f i ≡ g i) → maxBelow n f ≡ maxBelow n g
-unfolding maxBelow
-max-same zero f g e = refl
-max-same (suc n) f g e = cc (max-same n f g (λ i h. e i (omega arith)), e n (omega arith))
 
 -- candidates of 0 from `count` on add nothing
 max-longer : (n count : ℕ) (f : ℕ → ℕ) → count ≤ n → ((i : ℕ) → count ≤ i → i < n → f i ≡ 0) → maxBelow n f ≡ maxBelow count f
