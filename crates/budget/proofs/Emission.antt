@@ -14,7 +14,7 @@ use Rattle.rules.specs.Ranking.{codeSevens, written, precedes}
 use Rattle.plan.proofs.Truth.{both, snd, parts, equal}
 use Rattle.rules.proofs.Order.{Earlier, earlier-view}
 use Rattle.rules.proofs.View.{ending-view}
-use Rattle.budget.specs.Table.{Table, Represents, loadAt, delayAt, bufferCost, loadOf, closeCost}
+use Rattle.budget.specs.Table.{Table, States, Represents, RepresentsRow, loadAt, delayAt, bufferCost, loadOf, closeCost}
 use Rattle.budget.specs.Done.{stage, NotAfter, Within, Done, Least, Labels, Labelled, Lawful}
 use Rattle.budget.specs.Emission.{exactSeed, Reaches, goesOn, afterLoad, afterDelay, afterRegisters, visit, Viable, Before, FirstViable, Candidate, FirstEnding}
 use Rattle.budget.proofs.Done.{sevens-none, done-more, done-own, done-counts, some-span, light}
@@ -76,10 +76,8 @@ module _ (R : Rules) (m : Labels) (k u : ℕ) (A : Table) (c l d n code : ℕ) w
           let t = lt→ltb _ _ time in
           simp (ne-eqb code noGate (omega arith), eq-eqb code registerCode q) (search both)
 
--- the test reads one row of the table
-pub goes-on-row : (R : Rules) (m : Labels) (k u : ℕ) (A B : Table) (c l d n code : ℕ) → ((x : ℕ) → A n x ≡ B n x) → goesOn R m k u A c l d n code ≡ goesOn R m k u B c l d n code
-unfolding goesOn
-goes-on-row R m k u A B c l d n code e = simp (e (loadAt R c n l), e (loadOf R code))
+pub row-of : {A : Table} {X : States} → Represents A X → (c : ℕ) → RepresentsRow A X c
+row-of rep c = record { sound = rep .sound c; complete = rep .complete c }
 
 -- an ending within the least figures has just these
 pub least-exact : {R : Rules} {k s c l d : ℕ} → Least R k s c l d → (vs : Route) → T (legalFrom R c 0 (stage l d) vs) → Within k s (codeSevens vs) (length vs) → (codeSevens vs ≡ suc k) × (length vs ≡ s)
@@ -137,8 +135,8 @@ module _ (R : Rules) (law : Lawful R) {k s c l d n code : ℕ} (v : Viable R k s
   pub viable-code : code ≤ registerCode
   viable-code = way-of (code ≤ registerCode) (λ f p q. omega (arith, f .isRegister)) (λ rest o r p q. law .codes n code (o .stands))
 
--- With the least figures to go, the visits that go on are the viable ones.
-module _ (R : Rules) (law : Lawful R) {k₀ s₀ : ℕ} {m : Labels} (labels : Labelled R k₀ s₀ m) (k u : ℕ) (A : Table) (rep : Represents A (Reaches R m k u)) (c l d : ℕ) (least : Least R k (suc u) c l d) (n code : ℕ) where
+-- With the least figures to go, the visits that go on are the viable ones. Only the rows of the cells near by are read.
+module _ (R : Rules) (law : Lawful R) {k₀ s₀ : ℕ} {m : Labels} (labels : Labelled R k₀ s₀ m) (k u : ℕ) (A : Table) (c l d : ℕ) (near : (i : ℕ) → T (R .linked c i) → RepresentsRow A (Reaches R m k u) i) (least : Least R k (suc u) c l d) (n code : ℕ) where
   pub goes-on-viable : T (goesOn R m k u A c l d n code) → Viable R k (suc u) c l d n code
   goes-on-viable t = go (goes-on-view R m k u A c l d n code t)
     where
@@ -155,7 +153,7 @@ module _ (R : Rules) (law : Lawful R) {k₀ s₀ : ℕ} {m : Labels} (labels : L
 
       go : GoesOn R m k u A c l d n code → Viable R k (suc u) c l d n code
       go (through f o light h) =
-          viable-cons R law k u c l d n code k least o (omega (arith, spans-other code f)) (reaches-done R law labels k u n _ _ (rep .sound n _ _ h))
+          viable-cons R law k u c l d n code k least o (omega (arith, spans-other code f)) (reaches-done R law labels k u n _ _ (near n (o .arrives .link) .sound _ _ h))
       go (closes q arrives seed time) = close q arrives time k least seed
 
   pub viable-goes-on : k ≤ k₀ → Viable R k (suc u) c l d n code → T (goesOn R m k u A c l d n code)
@@ -170,7 +168,7 @@ module _ (R : Rules) (law : Lawful R) {k₀ s₀ : ℕ} {m : Labels} (labels : L
           by (inl q) = closes q (o .arrives) (register-seed R law labels k u rest h o r q spans (omega arith) (least-fewest least)) (o .inTime q)
           by (inr f) =
               through f o (light (ending-view R n 0 _ rest r))
-              (rep .complete n _ _
+              (near n (o .arrives .link) .complete _ _
               (done-reaches R law labels u k n _ _ rest h r (omega (arith, sevens-cons (visit n code) rest, spans-other code f)) (omega arith)
               (fewer-after R law c l d n code k k o (omega (arith, spans-other code f)) (least-fewest least))))
 
@@ -187,11 +185,11 @@ least-goes-on R law k u c l d least = go (least .enough .route) (least .enough .
         record { cell = v .cell; code = v .code; linked = viable-linked R law x; small = viable-code R law x; viable = x }
 
 -- the first visit that goes on is the first viable one
-pub first-goes-on : (R : Rules) (law : Lawful R) {k₀ s₀ : ℕ} {m : Labels} → Labelled R k₀ s₀ m → (k u : ℕ) → k ≤ k₀ → (A : Table) → Represents A (Reaches R m k u) → (c l d : ℕ) → Least R k (suc u) c l d → (n code : ℕ) → T (goesOn R m k u A c l d n code) → ((p a : ℕ) → T (R .linked c p) → a ≤ registerCode → Before p a n code → T (goesOn R m k u A c l d p a) → ⊥) → FirstViable R k (suc u) c l d n code
-first-goes-on R law labels k u h A rep c l d least n code t first =
+pub first-goes-on : (R : Rules) (law : Lawful R) {k₀ s₀ : ℕ} {m : Labels} → Labelled R k₀ s₀ m → (k u : ℕ) → k ≤ k₀ → (A : Table) (c l d : ℕ) → ((i : ℕ) → T (R .linked c i) → RepresentsRow A (Reaches R m k u) i) → Least R k (suc u) c l d → (n code : ℕ) → T (goesOn R m k u A c l d n code) → ((p a : ℕ) → T (R .linked c p) → a ≤ registerCode → Before p a n code → T (goesOn R m k u A c l d p a) → ⊥) → FirstViable R k (suc u) c l d n code
+first-goes-on R law labels k u h A c l d near least n code t first =
     record {
-      viable = goes-on-viable R law labels k u A rep c l d least n code t;
-      isFirst = λ p a b v. first p a (viable-linked R law v) (viable-code R law v) b (viable-goes-on R law labels k u A rep c l d least p a h v);
+      viable = goes-on-viable R law labels k u A c l d near least n code t;
+      isFirst = λ p a b v. first p a (viable-linked R law v) (viable-code R law v) b (viable-goes-on R law labels k u A c l d near least p a h v);
     }
 
 -- an ending before one that starts with the first viable visit starts with it too

@@ -14,7 +14,7 @@ use Rattle.budget.specs.Done.{Least, Labels, Labelled, Lawful}
 use Rattle.budget.specs.Emission.{Reaches, goesOn, afterLoad, afterDelay, afterRegisters, visit, Before, FirstViable, Candidate, FirstEnding, firstFrom, nextCode, nextCell, emit}
 use Rattle.budget.proofs.Done.{done-steps}
 use Rattle.budget.proofs.Visit.{after-fewer}
-use Rattle.budget.proofs.Emission.{least-exact, viable-goes-on, least-goes-on, first-goes-on, first-last, least-after, first-more}
+use Rattle.budget.proofs.Emission.{row-of, least-exact, viable-goes-on, least-goes-on, first-goes-on, first-last, least-after, first-more}
 use Rattle.budget.proofs.Best.{best-found}
 
 -- x is the first of `count` numbers from `from` that passes, or the number after them
@@ -66,7 +66,7 @@ module _ (R : Rules) (law : Lawful R) {k₀ s₀ : ℕ} {m : Labels} (labels : L
         go (inr q) (inr x) = absurd (first-code p .before a (omega arith) (omega arith) t)
 
     pub next-first : FirstViable R k (suc u) c l d (nextCell R m k u A c l d) (nextCode R m k u A c l d (nextCell R m k u A c l d))
-    next-first = first-goes-on R law labels k u h A rep c l d least cell (code cell) taken first
+    next-first = first-goes-on R law labels k u h A c l d (λ i link. row-of rep i) least cell (code cell) taken first
       where
         some : Candidate R k (suc u) c l d
         some = least-goes-on R law k u c l d least
@@ -76,7 +76,7 @@ module _ (R : Rules) (law : Lawful R) {k₀ s₀ : ℕ} {m : Labels} (labels : L
             omega (
               arith,
               law .inPlan c (some .cell) (some .linked),
-              not-before (some .cell) (some .code) (some .small) (viable-goes-on R law labels k u A rep c l d least (some .cell) (some .code) h (some .viable)),
+              not-before (some .cell) (some .code) (some .small) (viable-goes-on R law labels k u A c l d (λ i link. row-of rep i) least (some .cell) (some .code) h (some .viable)),
             )
 
         taken : T (goesOn R m k u A c l d cell (code cell))

@@ -4,7 +4,7 @@ use mathlib.Core.Path.{_≡_}
 use mathlib.Core.Bool.{Bool, _&&_, cond}
 use mathlib.Core.List.{List}
 use lib.Dec.{T, eqb, leb, ltb}
-use lib.ListN.{length, getD}
+use lib.ListN.{length}
 use Rattle.timing.specs.declared.elements.Wire.{Wire}
 use Rattle.timing.specs.declared.elements.Elements.{Elements}
 use Rattle.timing.specs.Ranges.{loadMax}
@@ -16,7 +16,7 @@ use Rattle.rules.specs.Legal.{mayStand}
 use Rattle.budget.specs.Table.{Table, bufferCost, loadOf, closeCost}
 use Rattle.budget.specs.Done.{Labels}
 use Rattle.budget.specs.Emission.{exactSeed, afterRegisters}
-use Rattle.rows.specs.Rows.{rowWords}
+use Rattle.rows.specs.Rows.{rowWords, viewOf}
 use Rattle.table.specs.declared.problem.Problem.{Problem}
 use Rattle.table.specs.Problem.{rulesFor, Ready, Room}
 use Rattle.table.specs.ArrivalRow.{bufferAt}
@@ -70,7 +70,7 @@ pub record FirstCode (R : Rules) (m : Labels) (A : Table) (at : State) (r : ℕ)
 unfoldable pub drives : List ℕ → Elements → State → ℕ → Bool
 drives words e at i =
     leb (bufferLoad (bufferAt e i)) (e .limit .0)
-    && ltb (at .delay + gateDelay (bufferDriver (bufferAt e i)) (at .load)) (getD words (at .cell * 64 + bufferLoad (bufferAt e i)) 0)
+    && ltb (at .delay + gateDelay (bufferDriver (bufferAt e i)) (at .load)) (viewOf words (at .cell) (bufferLoad (bufferAt e i)))
 
 -- r is the first buffer that does; the number of buffers for none
 pub record FirstBuffer (words : List ℕ) (e : Elements) (at : State) (r : ℕ) : Type 0 where

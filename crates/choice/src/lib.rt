@@ -15,6 +15,7 @@ ghost use Rattle.choice.specs.Choice.{ChooseAsks, ChosenAmong, Chosen};
 ghost use Rattle.choice.specs.Codes.{arrivalMost, RowAsks, CodeAsks, TryAsks, FirstCode, FirstBuffer, drives, Left};
 use labels::steps_of;
 use plan::neighbours_of;
+use rows::view;
 use table::Problem;
 use table::takes_buffers;
 use timing::Driver;
@@ -55,7 +56,7 @@ fn buffer_drives(scratch: &[u16], elements: Elements, at: State, i: usize) -> bo
     if elements.limit.0 < own {
         return false;
     }
-    driven(buffer.driver(), at) < scratch[at.cell * 64 + own as usize] as u32
+    driven(buffer.driver(), at) < view(scratch, at.cell, own as usize) as u32
 }
 
 // The first buffer whose state is in the table, or the number of buffers.
@@ -104,7 +105,7 @@ fn first_code(plan: &[u8], scratch: &[u16], p: Problem, at: State) -> u16
     ensures { λ r. ⌜ FirstCode (rulesFor p (now (plan .entry))) (labelsOf (length (now (plan .entry))) (now (scratch .entry))) (budgetOf (length (now (plan .entry))) (now (scratch .entry))) at r ⌝ }
 {
     let cell = at.cell;
-    if at.delay < scratch[cell * 64 + at.load as usize] as u32 {
+    if at.delay < view(scratch, cell, at.load as usize) as u32 {
         return 0;
     }
     let elements = p.elements;

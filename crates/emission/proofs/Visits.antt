@@ -24,11 +24,13 @@ use Rattle.rows.specs.Words.{Filled}
 use Rattle.rows.proofs.Words.{filled-none, filled-more, filled-as}
 use Rattle.table.specs.Problem.{budgetOf}
 use Rattle.labels.specs.Labels.{labelsOf, Ordered}
-use Rattle.labels.proofs.Labels.{labelled-kept, ordered-kept}
+use Rattle.labels.proofs.Labels.{labelled-kept}
 use Rattle.choice.specs.declared.State.{State}
 use Rattle.choice.specs.declared.Choice.{Choice}
 use Rattle.choice.specs.Choice.{InRange, Goes, FirstVisit, ChosenAmong, Chosen}
-use Rattle.reach.specs.Reach.{Loaded}
+use Rattle.reach.specs.declared.Layers.{Layers}
+use Rattle.reach.specs.Reach.{noLayers, Loaded}
+use Rattle.reach.proofs.Start.{held-start}
 use Rattle.emission.specs.Emission.{Onward, Emitting, Emitted}
 
 -- the words of visits
@@ -74,7 +76,7 @@ module _ (R : Rules) (law : Lawful R) (n k s count : ℕ) (words₀ visits₀ : 
   first = visit (R .sink) registerCode
 
   -- the sink's visit is written
-  pub emit-start : (before : ℕ) (at : State) → at .cell ≡ R .sink → at .load ≡ R .start .load → at .delay ≡ R .start .delay → at .registers ≡ k → at .steps ≡ s → InRange n at → Least R k s (R .sink) (R .start .load) (R .start .delay) → Labelled R k before (labelsOf n words₀) → Ordered n words₀ count → Emitting R n k s count words₀ words₀ visits₀ (set (set visits₀ 0 (R .sink)) 1 registerCode) at 2
+  pub emit-start : (before : ℕ) (at : State) → at .cell ≡ R .sink → at .load ≡ R .start .load → at .delay ≡ R .start .delay → at .registers ≡ k → at .steps ≡ s → InRange n at → Least R k s (R .sink) (R .start .load) (R .start .delay) → Labelled R k before (labelsOf n words₀) → Ordered n words₀ count → Emitting R n k s count words₀ words₀ visits₀ (set (set visits₀ 0 (R .sink)) 1 registerCode) at noLayers 2
   unfolding written
   emit-start before at e₁ e₂ e₃ e₄ e₅ inRange least labels ordered =
       record {
@@ -87,12 +89,12 @@ module _ (R : Rules) (law : Lawful R) (n k s count : ℕ) (words₀ visits₀ : 
         filled = filled-more (filled-more (filled-none (λ i. getD (written (first ∷ [])) i 0) 0 visits₀) (R .sink) (omega arith) refl) registerCode (omega arith) refl;
         before = before;
         labels = labels;
-        ordered = ordered;
+        held = held-start ordered;
         same = refl;
         rest = λ i h. refl;
       }
 
-  module _ (words visits : List ℕ) (at : State) (place : ℕ) (e : Emitting R n k s count words₀ words visits₀ visits at place) (more : 0 < at .steps) (new : List ℕ) (loaded : Loaded R n (at .registers) (at .steps - 1) words new) where
+  module _ (words visits : List ℕ) (at : State) (layers : Layers) (place : ℕ) (e : Emitting R n k s count words₀ words visits₀ visits at layers place) (more : 0 < at .steps) (new : List ℕ) (next : Layers) (loaded : Loaded R n count (at .cell) (at .registers) (at .steps - 1) words new next) where
     u : ℕ
     u = at .steps - 1
 
@@ -118,12 +120,12 @@ module _ (R : Rules) (law : Lawful R) (n k s count : ℕ) (words₀ visits₀ : 
     emit-nothing chosen =
         let c = least-goes-on R law (at .registers) (at .steps - 1) (at .cell) (at .load) (at .delay) least in
         chosen-nothing chosen refl (c .cell) (c .code) (c .linked) (c .small)
-        (viable-goes-on R law labels (at .registers) (at .steps - 1) (budgetOf n new) (loaded .table) (at .cell) (at .load) (at .delay) least (c .cell) (c .code) (e .fewer) (c .viable))
+        (viable-goes-on R law labels (at .registers) (at .steps - 1) (budgetOf n new) (at .cell) (at .load) (at .delay) (loaded .near) least (c .cell) (c .code) (e .fewer) (c .viable))
 
     module _ (code : ℕ) (to : State) (v : FirstVisit R n (labelsOf n new) (budgetOf n new) at (λ cell. T (R .linked (at .cell) cell)) code to) where
       viable : FirstViable R (at .registers) (suc (at .steps - 1)) (at .cell) (at .load) (at .delay) (to .cell) code
       viable =
-          first-goes-on R law labels (at .registers) (at .steps - 1) (e .fewer) (budgetOf n new) (loaded .table) (at .cell) (at .load) (at .delay) least (to .cell) code
+          first-goes-on R law labels (at .registers) (at .steps - 1) (e .fewer) (budgetOf n new) (at .cell) (at .load) (at .delay) (loaded .near) least (to .cell) code
           (v .goes) (λ p a link small before. v .isFirst p a link small before)
 
       to-last : code ≡ registerCode → at .registers ≡ 0 → Onward R k s to (e .made ++ (visit (to .cell) code ∷ []))
@@ -181,7 +183,7 @@ module _ (R : Rules) (law : Lawful R) (n k s count : ℕ) (words₀ visits₀ : 
           code-word : code ≡ getD (written (first ∷ (e .made ++ (visit (to .cell) code ∷ [])))) (place + 1) 0
           code-word = rw (split-words, ← long) (sym (getD-append-add (written (first ∷ e .made)) (to .cell ∷ code ∷ []) 1 0))
 
-      pub emit-next : Emitting R n k s count words₀ new visits₀ (set (set visits place (to .cell)) (place + 1) code) to (place + 2)
+      pub emit-next : Emitting R n k s count words₀ new visits₀ (set (set visits place (to .cell)) (place + 1) code) to next (place + 2)
       emit-next =
           record {
             made = e .made ++ (visit (to .cell) code ∷ []);
@@ -193,14 +195,14 @@ module _ (R : Rules) (law : Lawful R) (n k s count : ℕ) (words₀ visits₀ : 
             filled = subst (λ (x : ℕ). Filled (λ i. getD (written (first ∷ (e .made ++ (visit (to .cell) code ∷ [])))) i 0) 0 x visits₀ (set (set visits place (to .cell)) (place + 1) code)) (omega arith) filled;
             before = e .before;
             labels = labels;
-            ordered = ordered-kept (e .ordered) new (loaded .labels);
+            held = loaded .held;
             same = loaded .same ∙ e .same;
             rest = λ i h. loaded .rest i h ∙ e .rest i h;
           }
 
   -- no step is left: the words are the best route's
-  pub emit-done : (words visits : List ℕ) (at : State) (place : ℕ) → Emitting R n k s count words₀ words visits₀ visits at place → at .steps ≡ 0 → Least R k s (R .sink) (R .start .load) (R .start .delay) → R .sink < R .cellCount → Emitted R n s words₀ words visits₀ visits
-  emit-done words visits at place e z least inPlan = record { filled = λ r b. words-of r b (e .onward); same = e .same; rest = e .rest }
+  pub emit-done : (words visits : List ℕ) (at : State) (layers : Layers) (place : ℕ) → Emitting R n k s count words₀ words visits₀ visits at layers place → at .steps ≡ 0 → Least R k s (R .sink) (R .start .load) (R .start .delay) → R .sink < R .cellCount → Emitted R n s words₀ words visits₀ visits
+  emit-done words visits at layers place e z least inPlan = record { filled = λ r b. words-of r b (e .onward); same = e .same; rest = e .rest }
     where
       words-of : (r : Route) → IsBest R r → Onward R k s at (e .made) → Filled (λ i. getD (written r) i 0) 0 (2 * (s + 1)) visits₀ visits
       words-of r b (Onward.goes h f) = absurd (omega (arith, least-steps h))

@@ -1,15 +1,24 @@
 // Emission: the best route, written into the caller's visits from the sink on.
 ghost use mathlib.Core.Path.{_≡_};
-ghost use Prim.Native.Nat.{_+_, _*_, _≤_, _<_};
-ghost use lib.ListN.{length};
-ghost use Rattle.table.specs.Problem.{Ready, Room, rulesFor};
-ghost use Rattle.search.specs.Turn.{Reaching};
+ghost use Prim.Native.Nat.{_+_, _≤_, _<_};
+ghost use lib.ListN.{length, set};
+ghost use Rattle.table.specs.Problem.{rulesFor};
 ghost use Rattle.emission.specs.Emission.{Emitted, EmitAsks};
 use choice::Choice;
 use choice::State;
 use choice::choose;
 use reach::load_layer;
+use reach::no_layers;
 use table::Problem;
+
+// A visit's two words.
+fn put_visit(visits: &mut [u16], i: usize, cell: usize, code: u16)
+    requires { ⌜ (cell < 65536) × (i + 2 ≤ length (now visits)) ⌝ }
+    ensures { λ _. ⌜ now (visits .exit) ≡ set (set (now (visits .entry)) i cell) (i + 1) code ⌝ }
+{
+    visits[i] = cell as u16;
+    visits[i + 1] = code;
+}
 
 // The route of these registers and steps: cell and code of each visit, two words each.
 pub fn emit(
@@ -27,8 +36,7 @@ pub fn emit(
     let elements = p.elements;
     let register = elements.register;
     let sink = p.sink;
-    visits[0] = sink as u16;
-    visits[1] = 7;
+    put_visit(visits, 0, sink, 7);
     let load = register.load();
     let delay = register.start_delay();
     let mut at = State {
@@ -38,14 +46,23 @@ pub fn emit(
         registers: registers,
         steps: steps,
     };
+    let mut layers = no_layers();
     let mut i = 2;
     while 0 < at.steps {
-        load_layer(plan, scratch, p, count, at.registers, at.steps - 1);
+        layers = load_layer(
+            plan,
+            scratch,
+            p,
+            count,
+            at.cell,
+            at.registers,
+            at.steps - 1,
+            layers,
+        );
         let choice = choose(plan, scratch, p, at);
         match choice {
             Choice::Visit(code, to) => {
-                visits[i] = to.cell as u16;
-                visits[i + 1] = code;
+                put_visit(visits, i, to.cell, code);
                 at = to;
                 i += 2;
             }

@@ -10,6 +10,7 @@ ghost use Rattle.table.specs.Problem.{Ready, rulesFor};
 ghost use Rattle.labels.specs.Additions.{FreshIn, LabelAsks, LabelsAddedAmong, LabelsAdded};
 use crate::label;
 use plan::is_tap;
+use rows::view;
 use table::Problem;
 
 // A register may stand on the cell, between the ends.
@@ -35,7 +36,7 @@ pub fn fresh_in(scratch: &[u16], p: Problem, cell: usize) -> bool
     let register = elements.register;
     let load = register.load().0 as usize;
     let start = register.start_delay().0 as u16;
-    start < scratch[cell * 64 + load]
+    start < view(scratch, cell, load)
 }
 
 // The cell is labelled, if it is a site without a label and its fresh state is in the table. The new count of labels.

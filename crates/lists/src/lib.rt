@@ -1,5 +1,4 @@
 // Lists of cells in the scratch words, with a flag a cell that says whether it is listed (word 134n + cell).
-ghost use mathlib.Core.Path.{_≡_};
 ghost use Prim.Native.Nat.{_+_, _*_, _≤_, _<_};
 ghost use lib.ListN.{length};
 ghost use Rattle.lists.specs.Lists.{Listed, Enlisted, Taken};

@@ -9,6 +9,7 @@ use Rattle.rules.specs.Rules.{Rules}
 use Rattle.plan.proofs.Truth.{split, equal}
 use Rattle.budget.specs.Done.{Labels}
 use Rattle.budget.specs.Emission.{exactSeed}
+use Rattle.budget.proofs.Emission.{row-of}
 use Rattle.budget.proofs.Reaches.{source-seed, seed-at-source, exact-view, reaches-start}
 use Rattle.lists.specs.Lists.{Place}
 use Rattle.rows.specs.Words.{Kept}
@@ -16,11 +17,12 @@ use Rattle.table.specs.Problem.{seedOf}
 use Rattle.table.specs.Layer.{Active}
 use Rattle.table.proofs.Views.{budget-kept}
 use Rattle.labels.specs.Labels.{registersOf, labelsOf, orderOf, Ordered, Planted}
-use Rattle.labels.proofs.Labels.{unknown-not}
+use Rattle.labels.proofs.Labels.{unknown-not, ordered-kept}
 use Rattle.search.proofs.Arrivals.{active-planted, cleared-table, cleared-seed, cleared-active}
 use Rattle.search.proofs.Fronts.{order-registers}
 use Rattle.search.proofs.NextFront.{seed-word, word-seed}
-use Rattle.reach.specs.Reach.{FirstWith, Cleared, Due, Reaching, Current, Loaded}
+use Rattle.reach.specs.Reach.{FirstWith, Cleared, Due, Reaching, Current, noLayers, Held, Loaded}
+use Rattle.reach.specs.declared.Layers.{Layers}
 use Rattle.reach.proofs.Kept.{table-kept}
 
 exact-label : (R : Rules) (m : Labels) (k t c : ℕ) → 0 < k → T (exactSeed R m k t c) → T (m .known c) × (suc (m .registers c) ≡ k)
@@ -99,13 +101,19 @@ module _ (R : Rules) (n : ℕ) (old mid : List ℕ) (z : Cleared n old mid) wher
             go (inr lo) q = absurd (omega (arith, f .fewer (p .at) lo, are))
             go (inl lo) (inl hi) = absurd (omega (arith, g .enough (p .at) hi (p .below), are))
 
+-- before the first call
+pub held-start : {n count : ℕ} {words : List ℕ} → Ordered n words count → Held n count words noLayers
+held-start o = record { ordered = o }
+
 -- once u is at `steps`
-pub loaded : (R : Rules) (n k : ℕ) (old new : List ℕ) (u active at end count steps : ℕ) → Current R n k old new u active at end count → u ≡ steps → Loaded R n k steps old new
-loaded R n k old new u active at end count steps g e =
+pub loaded : (R : Rules) (n k : ℕ) (old new : List ℕ) (u active at end count steps : ℕ) → Current R n k old new u active at end count → u ≡ steps → (cell : ℕ) (layers : Layers) → Loaded R n count cell k steps old new layers
+loaded R n k old new u active at end count steps g e cell layers =
     let f = g .reaching in
+    let table = rw e at (table-kept R n old new (λ i lo hi. f .labels i lo (omega arith)) k u (f .table)) in
     record {
       same = f .same;
-      table = rw e at (table-kept R n old new (λ i lo hi. f .labels i lo (omega arith)) k u (f .table));
+      near = λ c link. row-of table c;
       labels = f .labels;
-      rest = f .rest;
+      rest = λ i h. f .rest i (omega arith);
+      held = record { ordered = ordered-kept (f .ordered) new (f .labels) };
     }

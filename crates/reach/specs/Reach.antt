@@ -7,12 +7,13 @@ use mathlib.Core.List.{List}
 use lib.Dec.{T}
 use lib.ListN.{length, getD}
 use Rattle.rules.specs.Rules.{Rules}
-use Rattle.budget.specs.Table.{Represents}
+use Rattle.budget.specs.Table.{Represents, RepresentsRow}
 use Rattle.budget.specs.Emission.{exactSeed, Reaches}
 use Rattle.rows.specs.Words.{Kept, KeptFrom}
 use Rattle.table.specs.Problem.{Ready, Room, budgetOf, seedOf}
 use Rattle.table.specs.Layer.{Active}
 use Rattle.table.specs.declared.problem.Problem.{Problem}
+use Rattle.reach.specs.declared.Layers.{Layers}
 use Rattle.labels.specs.Labels.{registersOf, stepsOf, labelsOf, orderOf, Ordered}
 
 -- r is the first place of the order, up to `count`, whose label has at least these registers to go
@@ -62,14 +63,28 @@ pub record Current (R : Rules) (n k : ℕ) (old words : List ℕ) (u active at e
   pub reaching : Reaching R n k old words u active at end count
   pub late : at < end → u < stepsOf n old (orderOf n old at)
 
-pub record LoadAsks (p : Problem) (marks : List ℕ) (count : ℕ) (words : List ℕ) : Type 0 where
+pub record SpanAsks (p : Problem) (marks : List ℕ) (count : ℕ) (words : List ℕ) : Type 0 where
   pub ready : Ready p marks
   pub room : Room (length marks) words
   pub ordered : Ordered (length marks) words count
 
--- After `load_layer`: the table of the span; labels, order and the words past the seed flags stay.
-pub record Loaded (R : Rules) (n registers steps : ℕ) (old new : List ℕ) : Type 0 where
+-- before the first call of `load_layer`
+abbrev pub noLayers : Layers
+noLayers = record {}
+
+-- What holds of the words and of `layers` from one call of `load_layer` to the next: the search's labels stand in their order.
+pub record Held (n count : ℕ) (words : List ℕ) (layers : Layers) : Type 0 where
+  pub ordered : Ordered n words count
+
+pub record LoadAsks (p : Problem) (marks : List ℕ) (count : ℕ) (words : List ℕ) (layers : Layers) : Type 0 where
+  pub ready : Ready p marks
+  pub room : Room (length marks) words
+  pub held : Held (length marks) count words layers
+
+-- After `load_layer`: the rows of the cells that a wire joins to `cell` are those of the span's table; the labels and the words past the scratch stay.
+pub record Loaded (R : Rules) (n count cell registers steps : ℕ) (old new : List ℕ) (layers : Layers) : Type 0 where
   pub same : length new ≡ length old
-  pub table : Represents (budgetOf n new) (Reaches R (labelsOf n new) registers steps)
+  pub near : (c : ℕ) → T (R .linked cell c) → RepresentsRow (budgetOf n new) (Reaches R (labelsOf n new) registers steps) c
   pub labels : Kept (n * 128) (n * 132) old new
-  pub rest : KeptFrom (n * 136) old new
+  pub rest : KeptFrom (n * 256) old new
+  pub held : Held n count new layers

@@ -1,9 +1,10 @@
 // Emission's table of the current span, on the scratch words: from which states the span closes at a seed with few enough steps.
+ghost use mathlib.Core.Path.{_≡_};
 ghost use Prim.Native.Nat.{_*_, _≤_, _<_};
 ghost use lib.ListN.{length};
 ghost use Rattle.table.specs.Problem.{rulesFor};
 ghost use Rattle.labels.specs.Labels.{orderOf, Ordered};
-ghost use Rattle.reach.specs.Reach.{FirstWith, NextSteps, Cleared, Current, LoadAsks, Loaded};
+ghost use Rattle.reach.specs.Reach.{FirstWith, NextSteps, Cleared, Current, SpanAsks, noLayers, LoadAsks, Loaded};
 use labels::arrive;
 use labels::plant;
 use labels::steps_of;
@@ -60,7 +61,7 @@ struct Span {
 
 // The table of no steps, and the seeds that need none after the close.
 fn start_span(plan: &[u8], scratch: &mut [u16], p: Problem, count: usize, registers: u16) -> Span
-    requires { ⌜ LoadAsks p (now plan) count (now scratch) ⌝ }
+    requires { ⌜ SpanAsks p (now plan) count (now scratch) ⌝ }
     ensures { λ r. ⌜ Current (rulesFor p (now (plan .entry))) (length (now (plan .entry))) registers (now (scratch .entry)) (now (scratch .exit)) 0 (r .active) (r .at) (r .end) count ⌝ }
 {
     let n = plan.len();
@@ -83,17 +84,30 @@ fn start_span(plan: &[u8], scratch: &mut [u16], p: Problem, count: usize, regist
     }
 }
 
-// The table of this span with `steps` steps to go. With no active cell a layer changes nothing, so u goes on to the next label.
+// What one call of `load_layer` leaves for the next, beside the words. Nothing: each call starts from no steps.
+pub struct Layers {}
+
+// Before the first call.
+pub fn no_layers() -> Layers
+    ensures { λ r. ⌜ r ≡ noLayers ⌝ }
+{
+    Layers {}
+}
+
+// The table of this span with `steps` steps to go, in the rows next to the cell.
+// With no active cell a layer changes nothing, so u goes on to the next label.
 pub fn load_layer(
     plan: &[u8],
     scratch: &mut [u16],
     p: Problem,
     count: usize,
+    cell: usize,
     registers: u16,
     steps: u32,
-)
-    requires { ⌜ LoadAsks p (now plan) count (now scratch) ⌝ }
-    ensures { λ _. ⌜ Loaded (rulesFor p (now (plan .entry))) (length (now (plan .entry))) registers steps (now (scratch .entry)) (now (scratch .exit)) ⌝ }
+    layers: Layers,
+) -> Layers
+    requires { ⌜ LoadAsks p (now plan) count (now scratch) layers ⌝ }
+    ensures { λ r. ⌜ Loaded (rulesFor p (now (plan .entry))) (length (now (plan .entry))) count cell registers steps (now (scratch .entry)) (now (scratch .exit)) r ⌝ }
 {
     let n = plan.len();
     let span = start_span(plan, scratch, p, count, registers);
@@ -111,4 +125,5 @@ pub fn load_layer(
         at = next.at;
         active = next.active;
     }
+    layers
 }

@@ -1,5 +1,4 @@
 // The best route of a problem that the checks have passed. The scratch words are zero afterwards.
-ghost use mathlib.Core.Path.{_≡_};
 ghost use Prim.Native.Nat.{_*_};
 ghost use lib.ListN.{length};
 ghost use Rattle.table.specs.Problem.{Ready, Room, rulesFor};

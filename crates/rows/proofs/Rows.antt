@@ -1,26 +1,17 @@
--- The laws of `pushed`: no word falls, none past the limit changes, and what the largest growth says of the row.
+-- The laws of `pushed`: no word falls, and what the largest growth says of the row.
 use Prim.Native.Nat.{ℕ, _+_, _-_, _≤_, _<_}
-use mathlib.Core.Path.{_≡_, sym, _∙_}
+use mathlib.Core.Path.{_≡_, _∙_}
 use mathlib.Core.List.{List}
 use mathlib.Core.Logic.{_⊎_, inl, inr}
 use native.Mathlib.Omega.{arith}
-use borrow.Author.Tests.{lt-leb}
 use lib.ListN.{getD}
 use Rattle.timing.specs.declared.elements.Wire.{Wire}
-use Rattle.timing.specs.Formulas.{wireLoad}
 use Rattle.plan.proofs.Truth.{split}
-use Rattle.budget.specs.Table.{only, maxBelow}
-use Rattle.budget.proofs.Max.{below-max, max-below}
+use Rattle.budget.specs.Table.{maxBelow}
+use Rattle.budget.proofs.Max.{below-max, max-none}
 use Rattle.rows.specs.Words.{Filled}
 use Rattle.rows.specs.Rows.{rowWords, pushed, RowGrew}
-use Rattle.rows.proofs.Words.{filled-longer, filled-at}
-
-max-none : (n : ℕ) (f : ℕ → ℕ) → maxBelow n f ≡ 0 → (i : ℕ) → i < n → f i ≡ 0
-max-none n f e i h = go (split (f i) 0)
-  where
-    go : (f i ≤ 0) ⊎ (0 < f i) → f i ≡ 0
-    go (inl k) = omega arith
-    go (inr k) = absurd (omega (arith, max-below n f 0 i h k))
+use Rattle.rows.proofs.Words.{filled-at}
 
 -- by how much the word at load l grows
 unfoldable pub growth : List ℕ → ℕ → ℕ → Wire → ℕ → ℕ → ℕ
@@ -31,16 +22,7 @@ module _ (words : List ℕ) (from to : ℕ) (wire : Wire) (limit l : ℕ) where
   unfolding pushed
   pushed-least = omega arith
 
-  pub pushed-past : limit < l + wireLoad wire → pushed words from to wire limit l ≡ getD words (to + l) 0
-  unfolding pushed only
-  pushed-past h = simp (lt-leb _ _ h) (omega arith)
-
 module _ (from to : ℕ) (wire : Wire) (limit : ℕ) {n : ℕ} {old new : List ℕ} (f : Filled (pushed old from to wire limit) to n old new) where
-  -- the loop ends where the limit is passed: the whole row is right
-  pub pushed-row : n ≤ rowWords → limit < n + wireLoad wire → Filled (pushed old from to wire limit) to rowWords old new
-  pushed-row h k =
-      filled-longer f rowWords h (λ l a b. sym (pushed-past old from to wire limit l (omega arith)))
-
   pub row-grew : n ≤ rowWords → 0 < maxBelow n (growth old from to wire limit) → RowGrew to old new
   unfolding growth
   row-grew h k =

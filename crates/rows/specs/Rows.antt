@@ -1,5 +1,5 @@
 -- The row operations of the delay-budget table, as functions of the words at entry. A row is 64 words, one a load.
-use Prim.Native.Nat.{ℕ, _+_, _-_, _<_, max}
+use Prim.Native.Nat.{ℕ, _+_, _*_, _-_, _<_, max}
 use mathlib.Core.Path.{_≡_}
 use mathlib.Core.Bool.{Bool, true, false, cond}
 use mathlib.Core.List.{List}
@@ -14,9 +14,13 @@ use Rattle.rows.specs.Words.{Filled}
 abbrev pub rowWords : ℕ
 rowWords = 64
 
--- the row at `from`, with 0 past the limit
+-- the table's word for a cell and a load
+abbrev pub viewOf : List ℕ → ℕ → ℕ → ℕ
+viewOf words cell load = getD words (cell * 64 + load) 0
+
+-- the cell's row, with 0 past the limit
 unfoldable pub copied : List ℕ → ℕ → ℕ → ℕ → ℕ
-copied words from limit l = only (leb l limit) (getD words (from + l) 0)
+copied words cell limit l = only (leb l limit) (viewOf words cell l)
 
 -- the row at `at`, raised within the limit to what `top` leaves after the driver's delay
 unfoldable pub raised : List ℕ → ℕ → ℕ → Driver → ℕ → ℕ → ℕ

@@ -1,16 +1,19 @@
 // Row operations on the scratch words. A row is 64 words, one a load; a word is one more than the largest delay, 0 for none.
 ghost use mathlib.Core.Path.{_≡_};
-ghost use Prim.Native.Nat.{_+_, _-_, _≤_, _<_, max};
+ghost use Prim.Native.Nat.{_+_, _*_, _-_, _≤_, _<_, max};
 ghost use lib.ListN.{length};
 ghost use Rattle.timing.specs.Ranges.{loadMax};
 ghost use Rattle.timing.specs.Elements.{WireInRange, DriverInRange};
 ghost use Rattle.rows.specs.Words.{Filled};
-ghost use Rattle.rows.specs.Rows.{rowWords, copied, raised, Pushed};
+ghost use Rattle.rows.specs.Rows.{rowWords, viewOf, copied, raised, Pushed};
 use timing::Driver;
 use timing::Load;
 use timing::Wire;
 
 pub const ROW: usize = 64;
+
+// No word is above it.
+const ALL: u16 = 65535;
 
 // The larger of two numbers.
 pub fn larger(a: u16, b: u16) -> u16
@@ -38,14 +41,22 @@ pub fn clear(scratch: &mut [u16], at: usize, end: usize)
     }
 }
 
-// The row at `to` becomes the row at `from`, with 0 past the limit.
-pub fn copy_row(scratch: &mut [u16], from: usize, to: usize, limit: usize)
-    requires { ⌜ (from + rowWords ≤ to) × (to + rowWords ≤ length (now scratch)) ⌝ }
-    ensures { λ _. ⌜ Filled (copied (now (scratch .entry)) from limit) to rowWords (now (scratch .entry)) (now (scratch .exit)) ⌝ }
+// The table's word for a cell and a load.
+pub fn view(scratch: &[u16], cell: usize, load: usize) -> u16
+    requires { ⌜ (load < rowWords) × (cell * 64 + rowWords ≤ length (now scratch)) ⌝ }
+    ensures { λ r. ⌜ r ≡ viewOf (now (scratch .entry)) cell load ⌝ }
+{
+    scratch[cell * 64 + load]
+}
+
+// The row at `to` becomes the cell's row of the table, with 0 past the limit.
+pub fn copy_row(scratch: &mut [u16], cell: usize, to: usize, limit: usize)
+    requires { ⌜ (cell * 64 + rowWords ≤ to) × (to + rowWords ≤ length (now scratch)) ⌝ }
+    ensures { λ _. ⌜ Filled (copied (now (scratch .entry)) cell limit) to rowWords (now (scratch .entry)) (now (scratch .exit)) ⌝ }
 {
     let mut l = 0;
     while l < ROW {
-        let old = scratch[from + l];
+        let old = view(scratch, cell, l);
         scratch[to + l] = if l <= limit { old } else { 0 };
         l += 1;
     }
@@ -66,19 +77,19 @@ pub fn raise_row(scratch: &mut [u16], at: usize, top: u16, driver: Driver, limit
 }
 
 // The row at `to` is raised to what the arrival row at `from` leaves after one step of the wire. Whether it grew.
+// Past the limit the step costs all; there the load may lie past the row, but not past the words.
 pub fn push_row(scratch: &mut [u16], from: usize, to: usize, wire: Wire, limit: usize) -> bool
-    requires { ⌜ WireInRange wire × ((limit ≤ loadMax) × ((to + rowWords ≤ from) × (from + rowWords ≤ length (now scratch)))) ⌝ }
+    requires { ⌜ WireInRange wire × ((limit ≤ loadMax) × ((to + rowWords ≤ from) × (from + 2 * rowWords ≤ length (now scratch)))) ⌝ }
     ensures { λ r. ⌜ Pushed from to wire limit (now (scratch .entry)) (now (scratch .exit)) r ⌝ }
 {
     let step = wire.load().0 as usize;
     let mut grown: u16 = 0;
     let mut l = 0;
-    while l + step <= limit {
+    while l < ROW {
         let old = scratch[to + l];
-        let rest = above(
-            scratch[from + (l + step)],
-            wire.delay(Load(l as u16)).0 as u16,
-        );
+        let delay = wire.delay(Load(l as u16)).0 as u16;
+        let cost = if l + step <= limit { delay } else { ALL };
+        let rest = above(scratch[from + (l + step)], cost);
         let new = larger(old, rest);
         grown = larger(grown, new - old);
         scratch[to + l] = new;

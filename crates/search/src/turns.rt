@@ -1,6 +1,6 @@
 // One turn of the search: a layer, then the new labels, or the next label or wave.
 ghost use mathlib.Core.Path.{_≡_};
-ghost use Prim.Native.Nat.{ℕ, _+_, _*_, _≤_, _<_};
+ghost use Prim.Native.Nat.{_+_, _*_, _≤_};
 ghost use lib.ListN.{length};
 ghost use Rattle.table.specs.Problem.{Ready, Room, rulesFor};
 ghost use Rattle.labels.specs.Labels.{Ordered};

@@ -1,9 +1,8 @@
 -- The arrival row of one cell, as the words give it: buffer by buffer, and then `arrival` out of its three parts.
-use Prim.Native.Nat.{ℕ, zero, suc, _+_, _*_, _-_, _≤_, _<_, max}
+use Prim.Native.Nat.{ℕ, suc, _+_, _*_, _-_, _≤_, _<_, max}
 use mathlib.Core.Path.{_≡_, refl, ap, _∙_}
 use mathlib.Core.Bool.{Bool, true, false, cond}
 use mathlib.Core.List.{List}
-use mathlib.Core.Logic.{_⊎_, inl, inr}
 use native.Mathlib.Omega.{arith}
 use borrow.Author.Tests.{lt-ltb, le-leb, lt-leb}
 use lib.Dec.{T, T-not, not-T, leb}
@@ -13,33 +12,15 @@ use Rattle.timing.specs.declared.elements.Elements.{Elements}
 use Rattle.timing.specs.Formulas.{gateDelay, bufferDriver, bufferLoad, registerDriver}
 use Rattle.rules.specs.Rules.{Rules, rulesOf, noGate}
 use Rattle.rules.specs.Legal.{mayStand}
-use Rattle.plan.proofs.Truth.{split, both, parts, is-true, is-false, of-true, of-false, neqb→ne, ne→neqb}
+use Rattle.plan.proofs.Truth.{both, parts, is-true, is-false, of-true, of-false, neqb→ne, ne→neqb}
 use Rattle.rules.proofs.Document01.{BufferSite, no-gate-stands, buffer-site, buffer-stands}
 use Rattle.budget.specs.Table.{Table, only, maxBelow, viaBuffer, arrival, loadOf, bufferCost, closeCost}
+use Rattle.budget.proofs.Max.{max-longer}
 use Rattle.budget.proofs.Active.{max-same}
 use Rattle.rows.specs.Rows.{rowWords, copied, raised}
 use Rattle.table.specs.declared.problem.Problem.{Problem}
 use Rattle.table.specs.Problem.{planFor, rulesFor, Ready, budgetOf, seedOf}
 use Rattle.table.specs.ArrivalRow.{takesBuffers, bufferAt, behind, buffered}
-
--- The maximum
-
--- candidates of 0 from `count` on add nothing
-max-longer : (n count : ℕ) (f : ℕ → ℕ) → count ≤ n → ((i : ℕ) → count ≤ i → i < n → f i ≡ 0) → maxBelow n f ≡ maxBelow count f
-unfolding maxBelow
-max-longer zero count f h e =
-    let z : count ≡ 0 = omega arith in
-    rw z
-max-longer (suc n) count f h e = go (max-longer n count f) (split count n)
-  where
-    go : (count ≤ n → ((i : ℕ) → count ≤ i → i < n → f i ≡ 0) → maxBelow n f ≡ maxBelow count f) → (count ≤ n) ⊎ (n < count) → max (maxBelow n f) (f n) ≡ maxBelow count f
-    go r (inl k) =
-        let q : maxBelow n f ≡ maxBelow count f = r k (λ i a b. e i a (omega arith)) in
-        let z : f n ≡ 0 = e n k (omega arith) in
-        omega arith
-    go r (inr k) =
-        let z : count ≡ suc n = omega arith in
-        rw z
 
 -- A word that is raised within the limit: x within it, z past it
 
@@ -53,8 +34,8 @@ raised-twice false word x y z d h = h
 
 -- Buffer by buffer
 
-module _ (words : List ℕ) (from to : ℕ) (e : Elements) where
-  pub buffered-none : (l : ℕ) → buffered words from to e 0 l ≡ getD words (to + l) 0
+module _ (words : List ℕ) (cell to : ℕ) (e : Elements) where
+  pub buffered-none : (l : ℕ) → buffered words cell to e 0 l ≡ getD words (to + l) 0
   unfolding buffered maxBelow
   buffered-none l = go (leb l (e .limit .0))
     where
@@ -64,13 +45,13 @@ module _ (words : List ℕ) (from to : ℕ) (e : Elements) where
 
   module _ (i l : ℕ) where
     -- a buffer whose load is past the limit adds nothing
-    pub buffered-past : e .limit .0 < bufferLoad (bufferAt e i) → buffered words from to e i l ≡ buffered words from to e (suc i) l
+    pub buffered-past : e .limit .0 < bufferLoad (bufferAt e i) → buffered words cell to e i l ≡ buffered words cell to e (suc i) l
     unfolding buffered maxBelow behind only
     buffered-past h =
         simp (lt-leb _ _ h) (ap (λ (x : ℕ). cond (leb l (e .limit .0)) x (getD words (to + l) 0)) (omega arith))
 
     -- any other raises the row so far
-    pub buffered-more : (so-far : List ℕ) → getD so-far (to + l) 0 ≡ buffered words from to e i l → getD so-far (from + bufferLoad (bufferAt e i)) 0 ≡ getD words (from + bufferLoad (bufferAt e i)) 0 → bufferLoad (bufferAt e i) ≤ e .limit .0 → raised so-far to (getD so-far (from + bufferLoad (bufferAt e i)) 0) (bufferDriver (bufferAt e i)) (e .limit .0) l ≡ buffered words from to e (suc i) l
+    pub buffered-more : (so-far : List ℕ) → getD so-far (to + l) 0 ≡ buffered words cell to e i l → getD so-far (cell * 64 + bufferLoad (bufferAt e i)) 0 ≡ getD words (cell * 64 + bufferLoad (bufferAt e i)) 0 → bufferLoad (bufferAt e i) ≤ e .limit .0 → raised so-far to (getD so-far (cell * 64 + bufferLoad (bufferAt e i)) 0) (bufferDriver (bufferAt e i)) (e .limit .0) l ≡ buffered words cell to e (suc i) l
     unfolding buffered maxBelow behind only raised
     buffered-more so-far here top h =
         rw top (simp (le-leb _ _ h) (raised-twice (leb l (e .limit .0)) _ _ _ _ _ here))
@@ -128,7 +109,7 @@ module _ (p : Problem) (marks words : List ℕ) (cell : ℕ) (ready : Ready p ma
   unfolding rulesFor rulesOf
   limit-named = refl
 
-  via-standing : (i l : ℕ) → i < e .count → T (mayStand R cell (suc i)) → viaBuffer R A cell l (suc i) ≡ behind words (cell * 64) e l i
+  via-standing : (i l : ℕ) → i < e .count → T (mayStand R cell (suc i)) → viaBuffer R A cell l (suc i) ≡ behind words cell e l i
   unfolding viaBuffer behind loadOf bufferCost only
   via-standing i l h t =
       simp
@@ -139,11 +120,11 @@ module _ (p : Problem) (marks words : List ℕ) (cell : ℕ) (ready : Ready p ma
   via-refused i l t = simp (is-false (mayStand R cell (suc i)) (not-T (mayStand R cell (suc i)) t))
 
   -- the buffers give the maximum over those that are listed, where a buffer may stand at all
-  buffers-listed : site p marks cell ≡ true → (l : ℕ) → maxBelow 6 (λ i. viaBuffer R A cell l (suc i)) ≡ maxBelow (e .count) (behind words (cell * 64) e l)
+  buffers-listed : site p marks cell ≡ true → (l : ℕ) → maxBelow 6 (λ i. viaBuffer R A cell l (suc i)) ≡ maxBelow (e .count) (behind words cell e l)
   unfolding rulesFor
   buffers-listed s l =
       max-longer 6 (e .count) (λ i. viaBuffer R A cell l (suc i)) (ready .valid .count) (λ i h k. via-refused i l (λ t. omega (arith, buffer-site (planFor p marks) e (p .source) (p .sink) cell (suc i) (λ z. omega arith) (λ z. omega arith) t .listed)))
-      ∙ max-same (e .count) (λ i. viaBuffer R A cell l (suc i)) (behind words (cell * 64) e l) (λ i h. via-standing i l h (buffer-stands (planFor p marks) e (p .source) (p .sink) cell (suc i) (ready .valid .count) (takes-site p marks cell s (suc i) (omega arith) (omega arith))))
+      ∙ max-same (e .count) (λ i. viaBuffer R A cell l (suc i)) (behind words cell e l) (λ i h. via-standing i l h (buffer-stands (planFor p marks) e (p .source) (p .sink) cell (suc i) (ready .valid .count) (takes-site p marks cell s (suc i) (omega arith) (omega arith))))
 
   buffers-none : site p marks cell ≡ false → (l : ℕ) → maxBelow 6 (λ i. viaBuffer R A cell l (suc i)) ≡ 0
   unfolding rulesFor maxBelow
@@ -161,7 +142,7 @@ module _ (p : Problem) (marks words : List ℕ) (cell : ℕ) (ready : Ready p ma
       simp
       (is-true (mayStand R cell noGate) (no-gate-stands (planFor p marks) e (p .source) (p .sink) cell), budget-word l h)
 
-  pub copied-through : site p marks cell ≡ false → (l : ℕ) → copied words (cell * 64) (e .limit .0) l ≡ through l
+  pub copied-through : site p marks cell ≡ false → (l : ℕ) → copied words cell (e .limit .0) l ≡ through l
   unfolding copied through
   copied-through s l = rw (buffers-none s l) (ap (only (leb l (e .limit .0))) (omega arith))
 
@@ -170,14 +151,14 @@ module _ (p : Problem) (marks words : List ℕ) (cell : ℕ) (ready : Ready p ma
   through-arrival s l h = rw (whole l h) (simp s (ap (only (leb l (e .limit .0))) (omega arith)))
 
   module _ (mid : List ℕ) (to l : ℕ) where
-    pub buffered-through : site p marks cell ≡ true → ((k : ℕ) → k < rowWords → getD mid (cell * 64 + k) 0 ≡ getD words (cell * 64 + k) 0) → getD mid (to + l) 0 ≡ copied words (cell * 64) (e .limit .0) l → buffered mid (cell * 64) to e (e .count) l ≡ through l
+    pub buffered-through : site p marks cell ≡ true → ((k : ℕ) → k < rowWords → getD mid (cell * 64 + k) 0 ≡ getD words (cell * 64 + k) 0) → getD mid (to + l) 0 ≡ copied words cell (e .limit .0) l → buffered mid cell to e (e .count) l ≡ through l
     unfolding copied through buffered only behind
     buffered-through s row here =
         rw (buffers-listed s l, ← same) (raised-once (leb l (e .limit .0)) _ _ _ _ here)
       where
-        same : maxBelow (e .count) (behind mid (cell * 64) e l) ≡ maxBelow (e .count) (behind words (cell * 64) e l)
+        same : maxBelow (e .count) (behind mid cell e l) ≡ maxBelow (e .count) (behind words cell e l)
         same =
-            max-same (e .count) (behind mid (cell * 64) e l) (behind words (cell * 64) e l) (λ i h. simp (row (bufferLoad (bufferAt e i)) (buffer-load i h)))
+            max-same (e .count) (behind mid cell e l) (behind words cell e l) (λ i h. simp (row (bufferLoad (bufferAt e i)) (buffer-load i h)))
 
     pub raised-arrival : seedOf (length marks) words cell ≡ true → l < rowWords → getD mid (to + l) 0 ≡ through l → raised mid to (2 * e .period + 1) (registerDriver (e .register)) (e .limit .0) l ≡ arrival R (seedOf (length marks) words) (R .bound 0) A cell l
     unfolding raised through only

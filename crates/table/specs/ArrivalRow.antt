@@ -1,5 +1,5 @@
 -- The arrival row of one cell, step by step: where a buffer may stand, and the row that the first buffers have raised.
-use Prim.Native.Nat.{ℕ, _+_, _-_, _≤_, _<_, max}
+use Prim.Native.Nat.{ℕ, _+_, _*_, _-_, _≤_, _<_, max}
 use mathlib.Core.Bool.{Bool, _&&_, not, cond}
 use mathlib.Core.List.{List}
 use lib.Dec.{eqb, leb}
@@ -11,7 +11,7 @@ use Rattle.timing.specs.Formulas.{gateDelay, bufferDriver, bufferLoad}
 use Rattle.timing.specs.Elements.{bufferOf}
 use Rattle.timing.specs.Valid.{Valid}
 use Rattle.budget.specs.Table.{only, maxBelow}
-use Rattle.rows.specs.Rows.{rowWords}
+use Rattle.rows.specs.Rows.{rowWords, viewOf}
 use Rattle.table.specs.declared.problem.Problem.{Problem}
 use Rattle.table.specs.Problem.{Ready, Room}
 
@@ -21,10 +21,10 @@ pub record CellReady (p : Problem) (marks words : List ℕ) (cell : ℕ) : Type 
   pub inside : cell < length marks
   pub room : Room (length marks) words
 
--- checked tables, and two rows in the words, the one at `from` before the one at `to`
-pub record RowsReady (e : Elements) (from to : ℕ) (words : List ℕ) : Type 0 where
+-- checked tables, and two rows in the words, the cell's row of the table before the one at `to`
+pub record RowsReady (e : Elements) (cell to : ℕ) (words : List ℕ) : Type 0 where
   pub valid : Valid e
-  pub before : from + rowWords ≤ to
+  pub before : cell * 64 + rowWords ≤ to
   pub inside : to + rowWords ≤ length words
 
 -- a buffer may stand on a cell with these marks: the cell is no end and not blocked
@@ -34,12 +34,12 @@ takesBuffers marks p cell = not (eqb cell (p .source)) && not (eqb cell (p .sink
 unfoldable pub bufferAt : Elements → ℕ → Buffer
 bufferAt e i = getD (e .buffers) i (bufferOf 0 0 0)
 
--- what the budget row at `from` leaves before buffer i, under load l
+-- what the cell's row of the table leaves before buffer i, under load l
 unfoldable pub behind : List ℕ → ℕ → Elements → ℕ → ℕ → ℕ
-behind words from e l i =
-    only (leb (bufferLoad (bufferAt e i)) (e .limit .0)) (getD words (from + bufferLoad (bufferAt e i)) 0 - gateDelay (bufferDriver (bufferAt e i)) l)
+behind words cell e l i =
+    only (leb (bufferLoad (bufferAt e i)) (e .limit .0)) (viewOf words cell (bufferLoad (bufferAt e i)) - gateDelay (bufferDriver (bufferAt e i)) l)
 
 -- the row at `to`, raised within the limit by the first `count` buffers
 unfoldable pub buffered : List ℕ → ℕ → ℕ → Elements → ℕ → ℕ → ℕ
-buffered words from to e count l =
-    cond (leb l (e .limit .0)) (max (getD words (to + l) 0) (maxBelow count (behind words from e l))) (getD words (to + l) 0)
+buffered words cell to e count l =
+    cond (leb l (e .limit .0)) (max (getD words (to + l) 0) (maxBelow count (behind words cell e l))) (getD words (to + l) 0)

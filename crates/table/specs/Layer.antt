@@ -15,7 +15,7 @@ use Rattle.rows.specs.Rows.{rowWords}
 use Rattle.lists.specs.Lists.{flagOf, Listed}
 use Rattle.timing.specs.Ranges.{loadMax}
 use Rattle.timing.specs.Elements.{WireInRange}
-use Rattle.table.specs.Problem.{Ready, budgetOf, seedOf}
+use Rattle.table.specs.Problem.{Ready, Room, budgetOf, seedOf}
 use Rattle.table.specs.declared.problem.Problem.{Problem}
 
 -- the arrival table in the words; 0 outside cells and loads
@@ -64,7 +64,7 @@ pub record OfferAsks (n cell to : ℕ) (wire : Wire) (limit next : ℕ) (words :
   pub few : n ≤ 1024
   pub wireFits : WireInRange wire
   pub light : limit ≤ loadMax
-  pub room : n * 135 ≤ length words
+  pub room : Room n words
   pub listed : Listed n words (n * 133) next
 
 -- After `offer`: one neighbour's row is raised.
@@ -76,7 +76,7 @@ pub record Offered (n cell to : ℕ) (wire : Wire) (limit : ℕ) (old new : List
 pub record SpreadAsks (p : Problem) (marks : List ℕ) (cell next : ℕ) (words : List ℕ) : Type 0 where
   pub ready : Ready p marks
   pub cellIn : cell < length marks
-  pub room : length marks * 135 ≤ length words
+  pub room : Room (length marks) words
   pub listed : Listed (length marks) words (length marks * 133) next
   pub past : (l : ℕ) → p .elements .limit .0 < l → arrivalsOf (length marks) words cell l ≡ 0
 
@@ -88,7 +88,7 @@ pub record Spread (R : Rules) (n cell : ℕ) (old new : List ℕ) (next : ℕ) :
 -- no cell is flagged; the cells of the active list have arrival rows that are 0 past the limit
 pub record SpreadAllAsks (p : Problem) (marks : List ℕ) (active : ℕ) (words : List ℕ) : Type 0 where
   pub ready : Ready p marks
-  pub room : length marks * 135 ≤ length words
+  pub room : Room (length marks) words
   pub unflagged : (c : ℕ) → c < length marks → flagOf (length marks) words c ≡ 0
   pub short : active ≤ length marks
   pub cells : (i : ℕ) → i < active → getD words (length marks * 132 + i) 0 < length marks

@@ -9,7 +9,7 @@ use Rattle.plan.specs.Plan.{Plan, planOf, Sized}
 use Rattle.timing.specs.Valid.{Valid}
 use Rattle.rules.specs.Rules.{Rules, rulesOf}
 use Rattle.budget.specs.Table.{Table, only}
-use Rattle.rows.specs.Rows.{rowWords}
+use Rattle.rows.specs.Rows.{rowWords, viewOf}
 use Rattle.table.specs.declared.problem.Problem.{Problem}
 
 unfoldable pub planFor : Problem → List ℕ → Plan
@@ -31,7 +31,7 @@ Room n words = n * 256 ≤ length words
 
 -- the budget table in the words; 0 outside cells and loads
 unfoldable pub budgetOf : ℕ → List ℕ → Table
-budgetOf n words c l = only (ltb c n && ltb l rowWords) (getD words (c * 64 + l) 0)
+budgetOf n words c l = only (ltb c n && ltb l rowWords) (viewOf words c l)
 
 unfoldable pub seedOf : ℕ → List ℕ → ℕ → Bool
 seedOf n words c = eqb (getD words (n * 135 + c) 0) 1

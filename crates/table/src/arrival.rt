@@ -11,6 +11,7 @@ use crate::problem::Problem;
 use plan::is_blocked;
 use rows::copy_row;
 use rows::raise_row;
+use rows::view;
 use timing::Elements;
 
 // A buffer may stand on the cell, which has these marks.
@@ -26,10 +27,10 @@ pub fn takes_buffers(marks: u8, p: Problem, cell: usize) -> bool
     !is_blocked(marks)
 }
 
-// Each buffer raises the arrival row at `to`, from the budget row at `from`.
-fn raise_buffers(scratch: &mut [u16], from: usize, to: usize, elements: Elements)
-    requires { ⌜ RowsReady elements from to (now scratch) ⌝ }
-    ensures { λ _. ⌜ Filled (buffered (now (scratch .entry)) from to elements (elements .count)) to rowWords (now (scratch .entry)) (now (scratch .exit)) ⌝ }
+// Each buffer raises the arrival row at `to`, from the cell's row of the table.
+fn raise_buffers(scratch: &mut [u16], cell: usize, to: usize, elements: Elements)
+    requires { ⌜ RowsReady elements cell to (now scratch) ⌝ }
+    ensures { λ _. ⌜ Filled (buffered (now (scratch .entry)) cell to elements (elements .count)) to rowWords (now (scratch .entry)) (now (scratch .exit)) ⌝ }
 {
     let limit = elements.limit.0 as usize;
     let count = elements.count;
@@ -38,7 +39,7 @@ fn raise_buffers(scratch: &mut [u16], from: usize, to: usize, elements: Elements
         let buffer = elements.buffers[i];
         let load = buffer.load().0 as usize;
         if load <= limit {
-            let top = scratch[from + load];
+            let top = view(scratch, cell, load);
             raise_row(scratch, to, top, buffer.driver(), limit);
         }
         i += 1;
@@ -51,13 +52,12 @@ pub fn fill_arrival(plan: &[u8], scratch: &mut [u16], p: Problem, cell: usize)
     ensures { λ _. ⌜ Filled (arrival (rulesFor p (now (plan .entry))) (seedOf (length (now (plan .entry))) (now (scratch .entry))) (rulesFor p (now (plan .entry)) .bound 0) (budgetOf (length (now (plan .entry))) (now (scratch .entry))) cell) (length (now (plan .entry)) * 64 + cell * 64) rowWords (now (scratch .entry)) (now (scratch .exit)) ⌝ }
 {
     let n = plan.len();
-    let from = cell * 64;
     let to = n * 64 + cell * 64;
     let elements = p.elements;
     let limit = elements.limit.0 as usize;
-    copy_row(scratch, from, to, limit);
+    copy_row(scratch, cell, to, limit);
     if takes_buffers(plan[cell], p, cell) {
-        raise_buffers(scratch, from, to, elements);
+        raise_buffers(scratch, cell, to, elements);
     }
     if scratch[n * 135 + cell] == 1 {
         let register = elements.register;

@@ -1,6 +1,5 @@
 // One layer: the arrival rows of the active cells, then what these give to their neighbours.
-ghost use mathlib.Core.Path.{_≡_};
-ghost use Prim.Native.Nat.{ℕ, _+_, _*_, _≤_, _<_};
+ghost use Prim.Native.Nat.{_+_, _*_, _<_};
 ghost use lib.ListN.{length};
 ghost use Rattle.lists.specs.Lists.{Listed};
 ghost use Rattle.table.specs.Problem.{Ready, Room, rulesFor};

@@ -1,11 +1,7 @@
 // What the active cells give to their neighbours.
-ghost use mathlib.Core.Path.{_≡_};
-ghost use Prim.Native.Nat.{ℕ, _+_, _*_, _≤_, _<_};
-ghost use lib.ListN.{length, getD};
-ghost use Rattle.timing.specs.Ranges.{loadMax};
-ghost use Rattle.timing.specs.Elements.{WireInRange};
-ghost use Rattle.lists.specs.Lists.{Listed};
-ghost use Rattle.table.specs.Problem.{Ready, Room, rulesFor};
+ghost use Prim.Native.Nat.{_+_, _*_, _<_};
+ghost use lib.ListN.{length};
+ghost use Rattle.table.specs.Problem.{rulesFor};
 ghost use Rattle.table.specs.Layer.{Offered, OfferAsks, Spread, SpreadAsks, SpreadAll, SpreadAllAsks};
 use crate::problem::Problem;
 use lists::enlist;

@@ -38,33 +38,24 @@ driven-requires c κs =
     let driver : c .driver .result ≡ bufferDriver (bufferAt (start .args .t2) (start .args .i)) = c .driver .ensures in
     (rw driver (buffer-driver-fits (start .pre .0 .valid) (start .args .i) (omega arith)), (start .pre .0 .light, start .pre .0 .early))
 
-mul-result : tie.Need-mul-result
-mul-result c = search needs
+cast-view : tie.Need-cast-view
+cast-view c = search needs
+
+view-requires : tie.Need-view-requires
+view-requires c κs = search needs
 
 cast-result : tie.Need-cast-result
-cast-result c = search needs
-
-add-result : tie.Need-add-result
-add-result c = search needs
-
-mul-result-2 : tie.Need-mul-result-2
-mul-result-2 c = search needs
-
-shared-slice-read-result : tie.Need-shared-slice-read-result
-shared-slice-read-result c = search needs
-
-cast-result-2 : tie.Need-cast-result-2
-cast-result-2 c = omega (arith, c .shared-slice-known2 .given (c .before .before .before .before .before .before .before .before .args .at .cell * 64 + c .before .before .before .before .before .load .result .0))
+cast-result c = omega (arith, c .view .ensures, c .before .before .before .before .before .before .shared-slice-known .given (c .before .before .before .before .before .before .before .args .at .cell * 64 + c .before .before .before .before .load .result .0))
 
 returns-2 : tie.Need-returns-2
 unfolding drives bufferAt bufferOf driverOf
 returns-2 c =
-    let start = c .before .before .before .before .before .before .before .before in
+    let start = c .before .before .before .before .before .before .before in
     let b = bufferAt (start .args .t2) (start .args .i) in
-    let load : c .before .before .before .before .before .load .result .0 ≡ bufferLoad b = c .before .before .before .before .before .load .ensures in
-    let driver : c .before .before .before .driver .result ≡ bufferDriver b = c .before .before .before .driver .ensures in
-    let driven : c .before .before .driven .result ≡ start .args .at .delay + gateDelay (bufferDriver b) (start .args .at .load) = rw driver at (c .before .before .driven .ensures) in
-    simp (le-leb (bufferLoad b) (start .args .t2 .limit .0) (omega (arith, load)), load, driven)
+    let load : c .before .before .before .before .load .result .0 ≡ bufferLoad b = c .before .before .before .before .load .ensures in
+    let driver : c .before .before .driver .result ≡ bufferDriver b = c .before .before .driver .ensures in
+    let driven : c .before .driven .result ≡ start .args .at .delay + gateDelay (bufferDriver b) (start .args .at .load) = rw driver at (c .before .driven .ensures) in
+    rw (c .view .ensures) (simp (le-leb (bufferLoad b) (start .args .t2 .limit .0) (omega (arith, load)), load, driven))
 
 pub buffer-drives-spec : {M : Type 1} → statement M
 buffer-drives-spec =
@@ -76,10 +67,7 @@ buffer-drives-spec =
     returns
     driver-requires
     driven-requires
-    mul-result
+    cast-view
+    view-requires
     cast-result
-    add-result
-    mul-result-2
-    shared-slice-read-result
-    cast-result-2
     returns-2)

@@ -16,40 +16,31 @@ use Rattle.choice.proofs.first_code.Statement.{statement}
 use Rattle.choice.proofs.first_code.Tie as tie
 
 -- all words have 16 bits
-bits : (c : tie.After-shared-slice-known3) → (k : ℕ) → getD (c .before .before .before .before .args .scratch .now) k 0 ≤ delayMost
-bits c k = omega (arith, c .shared-slice-known3 .given k)
+bits : (c : tie.After-shared-slice-known2) → (k : ℕ) → getD (c .before .before .args .scratch .now) k 0 ≤ delayMost
+bits c k = omega (arith, c .shared-slice-known2 .given k)
 
 -- past the buffers, no code below the register's goes on
 low : (c : tie.Joined2) → let a = c .before .before .before .before .before .before .before .before .before .before .args in (code : ℕ) → code < registerCode → T (goesAt (rulesFor (a .p) (a .plan .now)) (labelsOf (length (a .plan .now)) (a .scratch .now)) (budgetOf (length (a .plan .now)) (a .scratch .now)) (a .at) code) → ⊥
 low c =
     let start = c .before .before .before .before .before .before .before .before .before .before in
     ⊎-elim
-    (λ w. no-buffer (start .args .p) (start .args .plan .now) (start .args .scratch .now) (start .args .at) (start .pre) (c .before .before .before .before .if1 .left) (sym (c .before .takes-buffers .ensures) ∙ w .0 .taken) _ (w .1 .ensures) (w .3 .left))
-    (λ w. no-site (start .args .p) (start .args .plan .now) (start .args .scratch .now) (start .args .at) (start .pre) (c .before .before .before .before .if1 .left) (sym (c .before .takes-buffers .ensures) ∙ w .left))
+    (λ w. no-buffer (start .args .p) (start .args .plan .now) (start .args .scratch .now) (start .args .at) (start .pre) (omega (arith, c .before .before .before .before .before .before .view .ensures, c .before .before .before .before .if1 .left)) (sym (c .before .takes-buffers .ensures) ∙ w .0 .taken) _ (w .1 .ensures) (w .3 .left))
+    (λ w. no-site (start .args .p) (start .args .plan .now) (start .args .scratch .now) (start .args .at) (start .pre) (omega (arith, c .before .before .before .before .before .before .view .ensures, c .before .before .before .before .if1 .left)) (sym (c .before .takes-buffers .ensures) ∙ w .left))
     (c .if2 .came)
 
-mul-if1 : tie.Need-mul-if1
-mul-if1 c = search needs
+cast-view : tie.Need-cast-view
+cast-view c = search needs
+
+view-requires : tie.Need-view-requires
+view-requires c κs = search needs
 
 cast-if1 : tie.Need-cast-if1
-cast-if1 c = search needs
-
-add-if1 : tie.Need-add-if1
-add-if1 c = search needs
-
-mul-if1-2 : tie.Need-mul-if1-2
-mul-if1-2 c = search needs
-
-shared-slice-read-if1 : tie.Need-shared-slice-read-if1
-shared-slice-read-if1 c = search needs
-
-cast-if1-2 : tie.Need-cast-if1-2
-cast-if1-2 c = omega (arith, c .shared-slice-known3 .given (c .before .before .before .before .args .at .cell * 64 + c .before .before .before .before .args .at .load))
+cast-if1 c = omega (arith, c .view .ensures, bits (c .before .before) (c .before .before .before .before .args .at .cell * 64 + c .before .before .before .before .args .at .load))
 
 returns : tie.Need-returns
 returns c =
     let start = c .before .before .before .before .before .before in
-    code-none (start .args .p) (start .args .plan .now) (start .args .scratch .now) (start .args .at) (start .pre) (bits (c .before .before)) (c .if1 .taken)
+    code-none (start .args .p) (start .args .plan .now) (start .args .scratch .now) (start .args .at) (start .pre) (bits (c .before .before .before .before)) (omega (arith, c .before .before .view .ensures, c .if1 .taken))
 
 shared-slice-read-takes-buffers : tie.Need-shared-slice-read-takes-buffers
 shared-slice-read-takes-buffers c = search needs
@@ -69,7 +60,7 @@ cast-result c = search needs
 returns-2 : tie.Need-returns-2
 returns-2 c =
     let start = c .before .before .before .before .before .before .before .before .before .before .before .before .before in
-    code-buffer (start .args .p) (start .args .plan .now) (start .args .scratch .now) (start .args .at) (start .pre) (bits (c .before .before .before .before .before .before .before .before .before)) (c .before .before .before .before .before .before .before .if1 .left) (sym (c .before .before .before .before .takes-buffers .ensures) ∙ c .before .before .before .if2 .taken) _ (c .before .before .first-buffer .ensures) (c .if3 .taken)
+    code-buffer (start .args .p) (start .args .plan .now) (start .args .scratch .now) (start .args .at) (start .pre) (bits (c .before .before .before .before .before .before .before .before .before .before .before)) (omega (arith, c .before .before .before .before .before .before .before .before .before .view .ensures, c .before .before .before .before .before .before .before .if1 .left)) (sym (c .before .before .before .before .takes-buffers .ensures) ∙ c .before .before .before .if2 .taken) _ (c .before .before .first-buffer .ensures) (c .if3 .taken)
 
 is-seed-requires : tie.Need-is-seed-requires
 is-seed-requires c κs = search needs
@@ -81,30 +72,27 @@ returns-3 : tie.Need-returns-3
 returns-3 c =
     let joined = c .before .before .before .before in
     let start = joined .before .before .before .before .before .before .before .before .before .before in
-    code-register (start .args .p) (start .args .plan .now) (start .args .scratch .now) (start .args .at) (start .pre) (bits (joined .before .before .before .before .before .before)) (low joined) (sym (c .before .before .before .is-seed .ensures) ∙ c .before .before .if4 .taken) (sym (c .before .in-time .ensures) ∙ c .if5 .taken)
+    code-register (start .args .p) (start .args .plan .now) (start .args .scratch .now) (start .args .at) (start .pre) (bits (joined .before .before .before .before .before .before .before .before)) (low joined) (sym (c .before .before .before .is-seed .ensures) ∙ c .before .before .if4 .taken) (sym (c .before .in-time .ensures) ∙ c .if5 .taken)
 
 returns-4 : tie.Need-returns-4
 returns-4 c =
     let joined = c .before .before .before .before in
     let start = joined .before .before .before .before .before .before .before .before .before .before in
-    code-late (start .args .p) (start .args .plan .now) (start .args .scratch .now) (start .args .at) (start .pre) (bits (joined .before .before .before .before .before .before)) (low joined) (sym (c .before .in-time .ensures) ∙ c .if5 .left)
+    code-late (start .args .p) (start .args .plan .now) (start .args .scratch .now) (start .args .at) (start .pre) (bits (joined .before .before .before .before .before .before .before .before)) (low joined) (sym (c .before .in-time .ensures) ∙ c .if5 .left)
 
 returns-5 : tie.Need-returns-5
 returns-5 c =
     let joined = c .before .before in
     let start = joined .before .before .before .before .before .before .before .before .before .before in
-    code-unseeded (start .args .p) (start .args .plan .now) (start .args .scratch .now) (start .args .at) (start .pre) (bits (joined .before .before .before .before .before .before)) (low joined) (sym (c .before .is-seed .ensures) ∙ c .if4 .left)
+    code-unseeded (start .args .p) (start .args .plan .now) (start .args .scratch .now) (start .args .at) (start .pre) (bits (joined .before .before .before .before .before .before .before .before)) (low joined) (sym (c .before .is-seed .ensures) ∙ c .if4 .left)
 
 pub first-code-spec : {M : Type 1} → statement M
 first-code-spec =
     tie.close
     (tie.spec
-    mul-if1
+    cast-view
+    view-requires
     cast-if1
-    add-if1
-    mul-if1-2
-    shared-slice-read-if1
-    cast-if1-2
     returns
     shared-slice-read-takes-buffers
     takes-buffers-requires

@@ -1,55 +1,68 @@
 -- `emission::emit` meets its contract: the loop keeps `Emitting`, by proofs/Visits.
-use Prim.Native.Nat.{ℕ, _+_, _*_, _≤_}
+use Prim.Native.Nat.{ℕ, _+_, _-_, _*_, _≤_}
 use mathlib.Core.Path.{_≡_, refl, _∙_}
 use mathlib.Core.List.{List}
 use native.Mathlib.Omega.{arith}
 use borrow.Author.Needs.{needs}
-use lib.ListN.{length, set, length-set}
-use Rattle.rules.specs.Rules.{registerCode, rulesOf}
+use lib.Dec.{T}
+use lib.ListN.{length, set}
+use Rattle.rules.specs.Rules.{Rules, registerCode, rulesOf}
 use Rattle.timing.specs.Formulas.{registerLoad, setupDelay}
-use Rattle.table.specs.Problem.{rulesFor}
+use Rattle.table.specs.Problem.{rulesFor, budgetOf}
 use Rattle.table.proofs.Spreads.{few-cells}
+use Rattle.labels.specs.Labels.{labelsOf}
 use Rattle.search.proofs.Ready.{ready-lawful, ready-cells}
+use Rattle.choice.specs.Choice.{FirstVisit}
 use Rattle.emission.specs.Emission.{Emitting}
 use Rattle.emission.proofs.Visits.{emit-start, emit-next, emit-nothing, emit-done, chosen-visit}
 use Rattle.emission.proofs.emit.Statement.{statement}
 use Rattle.emission.proofs.emit.Tie as tie
 
 abbrev Inv-loop : tie.InvT-loop
-Inv-loop plan scratch₀ p count registers steps visits₀ sink at₀ i₀ scratch visits at i =
+Inv-loop plan scratch₀ p count registers steps visits₀ sink at₀ layers₀ i₀ scratch visits at layers i =
     (v : List ℕ) → visits₀ ≡ set (set v 0 (p .sink)) 1 registerCode → 2 * (steps + 1) ≤ length v →
-    Emitting (rulesFor p plan) (length plan) registers steps count scratch₀ scratch v visits at i
+    Emitting (rulesFor p plan) (length plan) registers steps count scratch₀ scratch v visits at layers i
 
 abbrev μ-loop : tie.MeasureT-loop
-μ-loop plan scratch₀ p count registers steps visits₀ sink at₀ i₀ scratch visits at i = at .steps
+μ-loop plan scratch₀ p count registers steps visits₀ sink at₀ layers₀ i₀ scratch visits at layers i = at .steps
 
-cast-visits : tie.Need-cast-visits Inv-loop μ-loop
-cast-visits c = omega (arith, c .before .before .before .before .before .pre .ready .sink, few-cells _ _ (c .before .before .before .before .before .pre .ready))
+-- the entry, and what the loop keeps at its head
 
-slice-write-visits : tie.Need-slice-write-visits Inv-loop μ-loop
-slice-write-visits c = omega (arith, c .before .before .before .before .before .pre .fits)
+abbrev start : tie.At-loop Inv-loop μ-loop → tie.Start Inv-loop μ-loop
+start a = a .before .before .before .before .before .before .before .before .before .before .before .before .before
 
-slice-write-visits-2 : tie.Need-slice-write-visits-2 Inv-loop μ-loop
-slice-write-visits-2 c = simp length-set (omega (arith, c .before .before .before .before .before .pre .fits))
+abbrev R : tie.At-loop Inv-loop μ-loop → Rules
+R a = rulesFor (start a .args .p) (start a .args .plan .now)
+
+head : (a : tie.At-loop Inv-loop μ-loop) → Emitting (R a) (length (start a .args .plan .now)) (start a .args .registers) (start a .args .steps) (start a .args .count) (start a .args .scratch .now) (a .loop .scratch) (start a .args .visits .now) (a .loop .visits) (a .loop .at) (a .loop .layers) (a .loop .i)
+head a = a .loop .inv (start a .args .visits .now) (a .before .before .before .before .before .before .put-visit .ensures) (start a .pre .fits)
+
+put-visit-requires : tie.Need-put-visit-requires Inv-loop μ-loop
+put-visit-requires c κs =
+    let s = c .before .before .before .before .before .before in
+    (omega (arith, s .pre .ready .sink, few-cells _ _ (s .pre .ready)), omega (arith, s .pre .fits))
 
 load-requires : tie.Need-load-requires Inv-loop μ-loop
 load-requires c κs = search needs
 
 start-delay-requires : tie.Need-start-delay-requires Inv-loop μ-loop
-start-delay-requires c κs = c .before .before .before .before .before .before .pre .ready .valid .register
+start-delay-requires c κs = c .before .before .before .before .before .before .before .before .before .before .pre .ready .valid .register
+
+no-layers-requires : tie.Need-no-layers-requires Inv-loop μ-loop
+no-layers-requires c κs = search needs
 
 loop-holds : tie.Need-loop-holds Inv-loop μ-loop
 unfolding rulesFor rulesOf registerLoad setupDelay
 loop-holds c = λ v q f.
-    let s = c .before .before .before .before .before .before .before in
+    let s = c .before .before .before .before .before .before .before .before .before .before .before .before in
     let x = s .pre .reaching in
     let w = s .pre .ready .valid .register in
-    rw q
-    (emit-start _ (ready-lawful _ _ (s .pre .ready)) _ _ _ _ _ v f (x .before) _ refl (c .before .load .ensures) (c .start-delay .ensures) refl refl
+    rw (q, c .no-layers .ensures)
+    (emit-start _ (ready-lawful _ _ (s .pre .ready)) _ _ _ _ _ v f (x .before) _ refl (c .before .before .load .ensures) (c .before .start-delay .ensures) refl refl
     (record {
       inPlan = s .pre .ready .sink;
-      light = omega (arith, c .before .load .ensures, w .load);
-      early = omega (arith, c .start-delay .ensures, w .setup);
+      light = omega (arith, c .before .before .load .ensures, w .load);
+      early = omega (arith, c .before .start-delay .ensures, w .setup);
     })
     (x .least) (x .labels) (x .ordered))
 
@@ -58,113 +71,105 @@ sub-load-layer c = omega (arith, c .before .before .if1 .taken)
 
 load-layer-requires : tie.Need-load-layer-requires Inv-loop μ-loop
 load-layer-requires c κs =
-    let s = c .before .before .before .before .before .before .before .before .before .before .before .before in
-    let e = c .before .before .before .before .loop .inv (s .args .visits .now) refl (s .pre .fits) in
-    record { ready = s .pre .ready; room = omega (arith, s .pre .room, e .same); ordered = e .ordered }
+    let a = c .before .before .before .before in
+    record { ready = start a .pre .ready; room = omega (arith, start a .pre .room, head a .same); held = head a .held }
 
 choose-requires : tie.Need-choose-requires Inv-loop μ-loop
 choose-requires c κs =
-    let s = c .before .before .before .before .before .before .before .before .before .before .before .before .before .before .before .before in
-    let e = c .before .before .before .before .before .before .before .before .loop .inv (s .args .visits .now) refl (s .pre .fits) in
-    record { ready = s .pre .ready; room = omega (arith, s .pre .room, e .same, c .before .before .before .load-layer .ensures .same); inRange = e .inRange; more = omega (arith, c .before .before .before .before .before .before .if1 .taken) }
+    let a = c .before .before .before .before .before .before .before .before in
+    record {
+      ready = start a .pre .ready;
+      room = omega (arith, start a .pre .room, head a .same, c .before .before .before .load-layer .ensures .same);
+      inRange = head a .inRange;
+      more = omega (arith, c .before .before .before .before .before .before .if1 .taken);
+    }
 
 enum-known-choice : tie.Need-enum-known-choice Inv-loop μ-loop
 enum-known-choice c = search needs
 
-cast-visits-2 : tie.Need-cast-visits-2 Inv-loop μ-loop
-cast-visits-2 c =
-    let s = c .before .before .before .before .before .before .before .before .before .before .before .before .before .before .before .before .before .before .before .before .before in
-    let e = c .before .before .before .before .before .before .before .before .before .before .before .before .before .loop .inv (s .args .visits .now) refl (s .pre .fits) in
-    omega (arith, (chosen-visit (c .before .before .before .before .choose .ensures) (c .before .before .choice .given .0 .0) (c .before .before .choice .given .0 .1 .0) (c .before .before .choice .given .1)) .inRange .inPlan, few-cells _ _ (s .pre .ready))
+-- the visit that was chosen
+abbrev words : tie.After-known-told Inv-loop μ-loop → List ℕ
+words c = c .before .before .before .before .before .before .before .load-layer .last .1 .0
 
-mul-visits : tie.Need-mul-visits Inv-loop μ-loop
-mul-visits c =
-    let s = c .before .before .before .before .before .before .before .before .before .before .before .before .before .before .before .before .before .before .before .before .before in
-    let e = c .before .before .before .before .before .before .before .before .before .before .before .before .before .loop .inv (s .args .visits .now) refl (s .pre .fits) in
-    omega (arith, e .placed, e .whole, e .filled .same, s .pre .fits, s .fits .steps .fits, c .before .before .before .before .before .before .before .before .before .before .before .if1 .taken)
+chosen : (c : tie.After-known-told Inv-loop μ-loop) → let a = c .before .before .before .before .before .before .before .before .before .before .before .before in FirstVisit (R a) (length (start a .args .plan .now)) (labelsOf (length (start a .args .plan .now)) (words c)) (budgetOf (length (start a .args .plan .now)) (words c)) (a .loop .at) (λ cell. T (R a .linked (a .loop .at .cell) cell)) (c .before .choice .given .0 .0) (c .before .choice .given .0 .1 .0)
+chosen c =
+    chosen-visit (c .before .before .before .choose .ensures) (c .before .choice .given .0 .0) (c .before .choice .given .0 .1 .0) (c .before .choice .given .1)
 
-slice-write-visits-3 : tie.Need-slice-write-visits-3 Inv-loop μ-loop
-slice-write-visits-3 c =
-    let s = c .before .before .before .before .before .before .before .before .before .before .before .before .before .before .before .before .before .before .before .before .before in
-    let e = c .before .before .before .before .before .before .before .before .before .before .before .before .before .loop .inv (s .args .visits .now) refl (s .pre .fits) in
-    omega (arith, e .placed, e .whole, e .filled .same, s .pre .fits, s .fits .steps .fits, c .before .before .before .before .before .before .before .before .before .before .before .if1 .taken)
-
-add-visits : tie.Need-add-visits Inv-loop μ-loop
-add-visits c =
-    let s = c .before .before .before .before .before .before .before .before .before .before .before .before .before .before .before .before .before .before .before .before .before in
-    let e = c .before .before .before .before .before .before .before .before .before .before .before .before .before .loop .inv (s .args .visits .now) refl (s .pre .fits) in
-    omega (arith, e .placed, e .whole, e .filled .same, s .pre .fits, s .fits .steps .fits, c .before .before .before .before .before .before .before .before .before .before .before .if1 .taken)
-
-mul-visits-2 : tie.Need-mul-visits-2 Inv-loop μ-loop
-mul-visits-2 c =
-    let s = c .before .before .before .before .before .before .before .before .before .before .before .before .before .before .before .before .before .before .before .before .before in
-    let e = c .before .before .before .before .before .before .before .before .before .before .before .before .before .loop .inv (s .args .visits .now) refl (s .pre .fits) in
-    omega (arith, e .placed, e .whole, e .filled .same, s .pre .fits, s .fits .steps .fits, c .before .before .before .before .before .before .before .before .before .before .before .if1 .taken)
-
-slice-write-visits-4 : tie.Need-slice-write-visits-4 Inv-loop μ-loop
-slice-write-visits-4 c =
-    let s = c .before .before .before .before .before .before .before .before .before .before .before .before .before .before .before .before .before .before .before .before .before in
-    let e = c .before .before .before .before .before .before .before .before .before .before .before .before .before .loop .inv (s .args .visits .now) refl (s .pre .fits) in
-    simp length-set (omega (arith, e .placed, e .whole, e .filled .same, s .pre .fits, c .before .before .before .before .before .before .before .before .before .before .before .if1 .taken))
+put-visit-requires-2 : tie.Need-put-visit-requires-2 Inv-loop μ-loop
+put-visit-requires-2 c κs =
+    let a = c .before .before .before .before .before .before .before .before .before .before .before .before .before in
+    let e = head a in (
+      omega (arith, chosen (c .before) .inRange .inPlan, few-cells _ _ (start a .pre .ready)),
+      omega (arith, e .placed, e .whole, e .filled .same, start a .pre .fits, c .before .before .before .before .before .before .before .before .before .before .before .if1 .taken),
+    )
 
 add-i : tie.Need-add-i Inv-loop μ-loop
 add-i c =
-    let s = c .before .before .before .before .before .before .before .before .before .before .before .before .before .before .before .before .before .before .before .before .before in
-    let e = c .before .before .before .before .before .before .before .before .before .before .before .before .before .loop .inv (s .args .visits .now) refl (s .pre .fits) in
-    omega (arith, e .placed, e .whole, e .filled .same, s .pre .fits, s .fits .steps .fits, c .before .before .before .before .before .before .before .before .before .before .before .if1 .taken)
+    let a = c .before .before .before .before .before .before .before .before .before .before .before .before .before .before .before .before in
+    let e = head a in
+    omega (arith, e .placed, e .whole, e .filled .same, start a .pre .fits, start a .fits .steps .fits, c .before .before .before .before .before .before .before .before .before .before .before .before .before .before .if1 .taken)
 
 loop-less : tie.Need-loop-less Inv-loop μ-loop
-loop-less c =
-    let s = c .before .before .before .before .before .before .before .before .before .before .before .before .before .before .before .before .before .before .before .before .before in
-    let e = c .before .before .before .before .before .before .before .before .before .before .before .before .before .loop .inv (s .args .visits .now) refl (s .pre .fits) in
-    omega (arith, (chosen-visit (c .before .before .before .before .choose .ensures) (c .before .before .choice .given .0 .0) (c .before .before .choice .given .0 .1 .0) (c .before .before .choice .given .1)) .steps, c .before .before .before .before .before .before .before .before .before .before .before .if1 .taken)
+loop-less c = omega (arith, chosen (c .before .before .before .before) .steps, c .before .before .before .before .before .before .before .before .before .before .before .before .before .before .if1 .taken)
 
 loop-again : tie.Need-loop-again Inv-loop μ-loop
 loop-again c = λ v q f.
-    let s = c .before .before .before .before .before .before .before .before .before .before .before .before .before .before .before .before .before .before .before .before .before in
-    emit-next _ (ready-lawful _ _ (s .pre .ready)) _ _ _ _ _ v f _ _ _ _ (c .before .before .before .before .before .before .before .before .before .before .before .before .before .loop .inv v q f) (omega (arith, c .before .before .before .before .before .before .before .before .before .before .before .if1 .taken)) _ (c .before .before .before .before .before .before .before .before .load-layer .ensures) _ _ (chosen-visit (c .before .before .before .before .choose .ensures) (c .before .before .choice .given .0 .0) (c .before .before .choice .given .0 .1 .0) (c .before .before .choice .given .1))
+    let a = c .before .before .before .before .before .before .before .before .before .before .before .before .before .before .before .before in
+    rw (c .before .before .put-visit2 .ensures)
+    (emit-next _ (ready-lawful _ _ (start a .pre .ready)) _ _ _ _ _ v f _ _ _ _ _ (a .loop .inv v q f) (omega (arith, c .before .before .before .before .before .before .before .before .before .before .before .before .before .before .if1 .taken)) _ _ (c .before .before .before .before .before .before .before .before .before .before .before .load-layer .ensures) _ _ (chosen (c .before .before .before .before)))
 
 enum-told : tie.Need-enum-told Inv-loop μ-loop
 enum-told c = search needs
 
 same-length : tie.Need-same-length Inv-loop μ-loop
-same-length c =
-    let s = c .before .before .before .before .before .before .before .before .before .before .before .before .before .before .before .before .before .before .before in
-    let e = c .before .before .before .before .before .before .before .before .before .before .before .loop .inv (s .args .visits .now) refl (s .pre .fits) in
-    c .before .before .before .before .before .before .load-layer .ensures .same ∙ e .same
+same-length c = c .before .before .before .before .before .before .load-layer .ensures .same ∙ head (c .before .before .before .before .before .before .before .before .before .before .before) .same
 
 same-length-2 : tie.Need-same-length-2 Inv-loop μ-loop
-same-length-2 c =
-    let s = c .before .before .before .before .before .before .before .before .before .before .before .before .before .before .before .before .before .before .before in
-    let e = c .before .before .before .before .before .before .before .before .before .before .before .loop .inv (s .args .visits .now) refl (s .pre .fits) in
-    e .filled .same
+same-length-2 c = head (c .before .before .before .before .before .before .before .before .before .before .before) .filled .same
 
 returns : tie.Need-returns Inv-loop μ-loop
 returns c =
-    let s = c .before .before .before .before .before .before .before .before .before .before .before .before .before .before .before .before .before .before .before in
-    let e = c .before .before .before .before .before .before .before .before .before .before .before .loop .inv (s .args .visits .now) refl (s .pre .fits) in
+    let a = c .before .before .before .before .before .before .before .before .before .before .before in
     absurd
-    (emit-nothing _ (ready-lawful _ _ (s .pre .ready)) _ _ _ _ _ _ (s .pre .fits) _ _ _ _ e (omega (arith, c .before .before .before .before .before .before .before .before .before .if1 .taken)) _ (c .before .before .before .before .before .before .load-layer .ensures) (rw (c .enum-told .given .1) at (c .before .before .choose .ensures)))
+    (emit-nothing _ (ready-lawful _ _ (start a .pre .ready)) _ _ _ _ _ _ (start a .pre .fits) _ _ _ _ _ (head a) (omega (arith, c .before .before .before .before .before .before .before .before .before .if1 .taken)) _ _ (c .before .before .before .before .before .before .load-layer .ensures) (rw (c .enum-told .given .1) at (c .before .before .choose .ensures)))
 
 same-length-3 : tie.Need-same-length-3 Inv-loop μ-loop
-same-length-3 c =
-    let s = c .before .before .before .before .before .before .before .before .before .before in
-    let e = c .before .before .loop .inv (s .args .visits .now) refl (s .pre .fits) in
-    e .same
+same-length-3 c = head (c .before .before) .same
 
 same-length-4 : tie.Need-same-length-4 Inv-loop μ-loop
-same-length-4 c =
-    let s = c .before .before .before .before .before .before .before .before .before .before in
-    let e = c .before .before .loop .inv (s .args .visits .now) refl (s .pre .fits) in
-    e .filled .same
+same-length-4 c = head (c .before .before) .filled .same
 
 returns-2 : tie.Need-returns-2 Inv-loop μ-loop
 unfolding rulesFor rulesOf registerLoad setupDelay
 returns-2 c =
-    let s = c .before .before .before .before .before .before .before .before .before .before in
-    let e = c .before .before .loop .inv (s .args .visits .now) refl (s .pre .fits) in
-    emit-done _ (ready-lawful _ _ (s .pre .ready)) _ _ _ _ _ _ (s .pre .fits) _ _ _ _ e (omega arith) (s .pre .reaching .least)
+    let a = c .before .before in
+    let s = start a in
+    emit-done _ (ready-lawful _ _ (s .pre .ready)) _ _ _ _ _ _ (s .pre .fits) _ _ _ _ _ (head a) (omega arith) (s .pre .reaching .least)
     (omega (arith, s .pre .ready .sink, ready-cells _ _ (s .pre .ready)))
 
 pub emit-spec : {M : Type 1} → statement M
-emit-spec = tie.close (tie.spec Inv-loop μ-loop cast-visits slice-write-visits slice-write-visits-2 load-requires start-delay-requires loop-holds sub-load-layer load-layer-requires choose-requires enum-known-choice cast-visits-2 mul-visits slice-write-visits-3 add-visits mul-visits-2 slice-write-visits-4 add-i loop-less loop-again enum-told same-length same-length-2 returns same-length-3 same-length-4 returns-2)
+emit-spec =
+    tie.close
+    (tie.spec
+    Inv-loop
+    μ-loop
+    put-visit-requires
+    load-requires
+    start-delay-requires
+    no-layers-requires
+    loop-holds
+    sub-load-layer
+    load-layer-requires
+    choose-requires
+    enum-known-choice
+    put-visit-requires-2
+    add-i
+    loop-less
+    loop-again
+    enum-told
+    same-length
+    same-length-2
+    returns
+    same-length-3
+    same-length-4
+    returns-2)

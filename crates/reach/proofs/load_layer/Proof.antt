@@ -17,11 +17,11 @@ use Rattle.reach.proofs.load_layer.Statement.{statement}
 use Rattle.reach.proofs.load_layer.Tie as tie
 
 abbrev Inv-loop : tie.InvT-loop
-Inv-loop plan scratch₀ p count registers steps n span u₀ at₀ active₀ scratch u at active =
+Inv-loop plan scratch₀ p count cell registers steps layers n span u₀ at₀ active₀ scratch u at active =
     (u ≤ steps) × ((old : List ℕ) → Current (rulesFor p plan) (length plan) registers old scratch₀ 0 active₀ at₀ (span .end) count → Current (rulesFor p plan) (length plan) registers old scratch u active at (span .end) count)
 
 abbrev μ-loop : tie.MeasureT-loop
-μ-loop plan scratch₀ p count registers steps n span u₀ at₀ active₀ scratch u at active = steps - u
+μ-loop plan scratch₀ p count cell registers steps layers n span u₀ at₀ active₀ scratch u at active = steps - u
 
 -- the entry, the problem's rules and cells, and the end of the span's labels
 
@@ -62,7 +62,9 @@ middle j old g =
     (j .if1 .came)
 
 start-span-requires : tie.Need-start-span-requires Inv-loop μ-loop
-start-span-requires c κs = c .before .before .before .pre
+start-span-requires c κs =
+    let pre = c .before .before .before .pre in
+    record { ready = pre .ready; room = pre .room; ordered = pre .held .ordered }
 
 loop-holds : tie.Need-loop-holds Inv-loop μ-loop
 loop-holds c = (omega arith, λ old f. f)
@@ -119,7 +121,7 @@ same-length : tie.Need-same-length Inv-loop μ-loop
 same-length c = head (c .before) .reaching .same
 
 returns : tie.Need-returns Inv-loop μ-loop
-returns c = loaded (R (c .before)) _ _ _ _ _ _ _ _ _ _ (head (c .before)) (omega arith)
+returns c = loaded (R (c .before)) _ _ _ _ _ _ _ _ _ _ (head (c .before)) (omega arith) _ _
 
 pub load-layer-spec : {M : Type 1} → statement M
 load-layer-spec =

@@ -1,5 +1,5 @@
 -- The words before load l are filled; the row read lies before them, so it is as it was.
-use Prim.Native.Nat.{_+_, _-_, _≤_}
+use Prim.Native.Nat.{_+_, _*_, _-_, _≤_}
 use mathlib.Core.Path.{_≡_, _∙_}
 use mathlib.Core.Logic.{⊎-elim}
 use native.Mathlib.Omega.{arith}
@@ -12,22 +12,16 @@ use Rattle.rows.proofs.copy_row.Statement.{statement}
 use Rattle.rows.proofs.copy_row.Tie as tie
 
 abbrev Inv-loop : tie.InvT-loop
-Inv-loop scratch₀ from to limit l₀ scratch l = (l ≤ rowWords) × Filled (copied scratch₀ from limit) to l scratch₀ scratch
+Inv-loop scratch₀ cell to limit l₀ scratch l = (l ≤ rowWords) × Filled (copied scratch₀ cell limit) to l scratch₀ scratch
 
 abbrev μ-loop : tie.MeasureT-loop
-μ-loop scratch₀ from to limit l₀ scratch l = rowWords - l
+μ-loop scratch₀ cell to limit l₀ scratch l = rowWords - l
 
 loop-holds : tie.Need-loop-holds Inv-loop μ-loop
 loop-holds c = (omega arith, filled-none _ _ _)
 
-add-old : tie.Need-add-old Inv-loop μ-loop
-add-old c = omega arith
-
-mul-old : tie.Need-mul-old Inv-loop μ-loop
-mul-old c = omega arith
-
-slice-read-old : tie.Need-slice-read-old Inv-loop μ-loop
-slice-read-old c = omega arith
+view-requires : tie.Need-view-requires Inv-loop μ-loop
+view-requires c κs = (omega arith, omega arith)
 
 add-scratch : tie.Need-add-scratch Inv-loop μ-loop
 add-scratch c = omega arith
@@ -44,19 +38,19 @@ add-l c = omega arith
 loop-less : tie.Need-loop-less Inv-loop μ-loop
 loop-less c = omega arith
 
-written : (c : tie.Joined1 Inv-loop μ-loop) → let a = c .before .before .before .before .args in c .if1 .scratch ≡ copied (a .scratch .now) (a .from) (a .limit) (c .before .before .before .loop .l)
+written : (c : tie.Joined1 Inv-loop μ-loop) → let a = c .before .before .before .before .before .before .args in c .if1 .scratch ≡ copied (a .scratch .now) (a .cell) (a .limit) (c .before .before .before .before .loop .l)
 unfolding copied only
 written c =
-    let a = c .before .before .before .before .args in
-    let l = c .before .before .before .loop .l in
-    let old = c .before .before .before .loop .inv .1 .low (a .from + l) (omega arith) in
+    let a = c .before .before .before .before .before .before .args in
+    let l = c .before .before .before .before .loop .l in
+    let old = c .before .before .before .before .loop .inv .1 .low (a .cell * 64 + l) (omega arith) in
     ⊎-elim
-    (λ w. simp (le-leb l (a .limit) (omega arith)) (w .1 ∙ old))
+    (λ w. simp (le-leb l (a .limit) (omega arith)) (w .1 ∙ c .before .view .ensures ∙ old))
     (λ w. simp (lt-leb l (a .limit) (omega arith)) (w .1))
     (c .if1 .came)
 
 loop-again : tie.Need-loop-again Inv-loop μ-loop
-loop-again c = (omega arith, filled-more (c .before .before .before .loop .inv .1) _ (omega arith) (written c))
+loop-again c = (omega arith, filled-more (c .before .before .before .before .loop .inv .1) _ (omega arith) (written c))
 
 same-length : tie.Need-same-length Inv-loop μ-loop
 same-length c = omega arith
@@ -73,9 +67,7 @@ copy-row-spec =
     Inv-loop
     μ-loop
     loop-holds
-    add-old
-    mul-old
-    slice-read-old
+    view-requires
     add-scratch
     mul-scratch
     slice-write-scratch

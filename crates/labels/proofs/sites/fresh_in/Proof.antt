@@ -45,23 +45,14 @@ start-delay-requires c κs = search needs
 cast-start : tie.Need-cast-start
 cast-start c = omega (arith, c .before .start-delay .ensures, delay-most (c .before .before .before .before .before .before .before .pre .0))
 
-mul-result : tie.Need-mul-result
-mul-result c = search needs
-
-add-result : tie.Need-add-result
-add-result c = search needs
-
-mul-result-2 : tie.Need-mul-result-2
-mul-result-2 c = search needs
-
-shared-slice-read-result : tie.Need-shared-slice-read-result
-shared-slice-read-result c =
-    omega (arith, c .before .before .before .before .load .ensures, load-most (c .before .before .before .before .before .before .before .before .pre .0))
+view-requires : tie.Need-view-requires
+view-requires c κs =
+    (omega (arith, c .before .before .before .load .ensures, load-most (c .before .before .before .before .before .before .before .pre .0)), omega arith)
 
 returns : tie.Need-returns
 returns c =
     let s = c .before .before .before .before .before .before .before .before in
-    fresh-word (s .args .p) (s .pre .0) _ (s .args .cell) _ _ (c .before .before .start-delay .ensures) (c .before .before .before .before .load .ensures)
+    rw (c .view .ensures) (fresh-word (s .args .p) (s .pre .0) _ (s .args .cell) _ _ (c .before .before .start-delay .ensures) (c .before .before .before .before .load .ensures))
 
 pub fresh-in-spec : {M : Type 1} → statement M
 fresh-in-spec =
@@ -71,8 +62,5 @@ fresh-in-spec =
     cast-load
     start-delay-requires
     cast-start
-    mul-result
-    add-result
-    mul-result-2
-    shared-slice-read-result
+    view-requires
     returns)

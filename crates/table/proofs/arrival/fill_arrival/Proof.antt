@@ -16,9 +16,6 @@ use Rattle.table.proofs.ArrivalRow.{through, copied-through, buffered-t
 use Rattle.table.proofs.arrival.fill_arrival.Statement.{statement}
 use Rattle.table.proofs.arrival.fill_arrival.Tie as tie
 
-mul-from : tie.Need-mul-from
-mul-from c = search needs
-
 mul-to : tie.Need-mul-to
 mul-to c = search needs
 
@@ -59,10 +56,10 @@ mid c =
     let a = start .args in
     let to = length (a .plan .now) * 64 + a .cell * 64 in
     let test : c .before .takes-buffers .result ≡ takesBuffers (getD (a .plan .now) (a .cell) 0) (a .p) (a .cell) = c .before .takes-buffers .ensures in
-    let copy : Filled (copied (a .scratch .now) (a .cell * 64) (a .p .elements .limit .0)) to rowWords (a .scratch .now) (c .before .before .before .before .before .copy-row .last .0) = c .before .before .before .before .before .copy-row .ensures in
+    let copy : Filled (copied (a .scratch .now) (a .cell) (a .p .elements .limit .0)) to rowWords (a .scratch .now) (c .before .before .before .before .before .copy-row .last .0) = c .before .before .before .before .before .copy-row .ensures in
     ⊎-elim
     (λ w.
-    let raise : Filled (buffered (c .before .before .before .before .before .copy-row .last .0) (a .cell * 64) to (a .p .elements) (a .p .elements .count)) to rowWords (c .before .before .before .before .before .copy-row .last .0) (w .2 .last .0) = w .2 .ensures in
+    let raise : Filled (buffered (c .before .before .before .before .before .copy-row .last .0) (a .cell) to (a .p .elements) (a .p .elements .count)) to rowWords (c .before .before .before .before .before .copy-row .last .0) (w .2 .last .0) = w .2 .ensures in
     rw (w .5) (filled-as (filled-twice copy _ _ raise) _ (λ k h. buffered-through (a .p) (a .plan .now) (a .scratch .now) (a .cell) (start .pre .ready) (start .pre .inside) _ to k (sym test ∙ w .0 .taken) (λ j l. copy .low (a .cell * 64 + j) (omega arith)) (copy .done k h))))
     (λ w. rw (w .1) (filled-as copy _ (λ k h. copied-through (a .p) (a .plan .now) (a .scratch .now) (a .cell) (start .pre .ready) (start .pre .inside) (sym test ∙ w .0 .left) k)))
     (c .if1 .came)
@@ -121,7 +118,6 @@ pub fill-arrival-spec : {M : Type 1} → statement M
 fill-arrival-spec =
     tie.close
     (tie.spec
-    mul-from
     mul-to
     mul-to-2
     add-to

@@ -1,11 +1,10 @@
--- After i buffers the row at `to` is `buffered` by the first i; the budget row lies before it, so it is as it was.
-use Prim.Native.Nat.{_+_, _-_, _≤_}
+-- After i buffers the row at `to` is `buffered` by the first i; the cell's row lies before it, so it is as it was.
+use Prim.Native.Nat.{_+_, _*_, _-_, _≤_}
 use mathlib.Core.Path.{_≡_, sym}
 use mathlib.Core.Logic.{⊎-elim}
 use native.Mathlib.Omega.{arith}
 use native.Mathlib.Numerals.{add-one}
 use borrow.Author.Needs.{needs}
-use lib.ListN.{getD}
 use Rattle.timing.specs.Elements.{bufferOf, driverOf}
 use Rattle.timing.specs.Formulas.{bufferDriver, bufferLoad}
 use Rattle.rows.specs.Words.{Filled}
@@ -17,10 +16,10 @@ use Rattle.table.proofs.arrival.raise_buffers.Statement.{statement}
 use Rattle.table.proofs.arrival.raise_buffers.Tie as tie
 
 abbrev Inv-loop : tie.InvT-loop
-Inv-loop scratch₀ from to elements limit count i₀ scratch i = (i ≤ elements .count) × Filled (buffered scratch₀ from to elements i) to rowWords scratch₀ scratch
+Inv-loop scratch₀ cell to elements limit count i₀ scratch i = (i ≤ elements .count) × Filled (buffered scratch₀ cell to elements i) to rowWords scratch₀ scratch
 
 abbrev μ-loop : tie.MeasureT-loop
-μ-loop scratch₀ from to elements limit count i₀ scratch i = elements .count - i
+μ-loop scratch₀ cell to elements limit count i₀ scratch i = elements .count - i
 
 cast-limit : tie.Need-cast-limit Inv-loop μ-loop
 cast-limit c = omega arith
@@ -40,14 +39,8 @@ load-requires c κs = search needs
 cast-load : tie.Need-cast-load Inv-loop μ-loop
 cast-load c = omega arith
 
-add-top : tie.Need-add-top Inv-loop μ-loop
-add-top c = omega arith
-
-mul-top : tie.Need-mul-top Inv-loop μ-loop
-mul-top c = omega arith
-
-slice-read-top : tie.Need-slice-read-top Inv-loop μ-loop
-slice-read-top c = omega arith
+view-requires : tie.Need-view-requires Inv-loop μ-loop
+view-requires c κs = search needs
 
 driver-requires : tie.Need-driver-requires Inv-loop μ-loop
 driver-requires c κs = search needs
@@ -55,8 +48,8 @@ driver-requires c κs = search needs
 raise-row-requires : tie.Need-raise-row-requires Inv-loop μ-loop
 unfolding bufferAt bufferOf driverOf bufferDriver
 raise-row-requires c κs =
-    let start = c .before .before .before .before .before .before .before .before .before .before in
-    let loop = c .before .before .before .before .before .before .before .before .loop in
+    let start = c .before .before .before .before .before .before .before .before .before .before .before in
+    let loop = c .before .before .before .before .before .before .before .before .before .loop in
     let e = start .args .t4 in
     let driver : c .driver .result ≡ bufferDriver (bufferAt e (loop .i)) = c .driver .ensures in
     (rw driver (start .pre .valid .buffers (loop .i) (omega arith) .driver), omega (arith, loop .inv .1 .same))
@@ -78,11 +71,11 @@ loop-again c =
       omega arith,
       rw add-one (⊎-elim
           (λ w.
-          let driver : w .3 .result ≡ bufferDriver b = w .3 .ensures in
-          let raise : Filled (raised (loop .scratch) (a .to) (getD (loop .scratch) (a .from + c .before .before .load .result .0) 0) (w .3 .result) (a .t4 .limit .0)) (a .to) rowWords (loop .scratch) (w .4 .last .0) = w .4 .ensures in
-          let top = loop .inv .1 .low (a .from + bufferLoad b) (omega arith) in
-          rw (w .7) (filled-as (filled-twice (loop .inv .1) _ _ (rw (load, driver) at raise)) _ (λ k h. buffered-more (a .scratch .now) (a .from) (a .to) (a .t4) (loop .i) k (loop .scratch) (loop .inv .1 .done k h) top (omega (arith, load, w .0 .taken)))))
-          (λ w. rw (w .1) (filled-as (loop .inv .1) _ (λ k h. buffered-past (a .scratch .now) (a .from) (a .to) (a .t4) (loop .i) k (omega (arith, load, w .0 .left)))))
+          let driver : w .4 .result ≡ bufferDriver b = w .4 .ensures in
+          let raise : Filled (raised (loop .scratch) (a .to) (w .2 .result) (w .4 .result) (a .t4 .limit .0)) (a .to) rowWords (loop .scratch) (w .5 .last .0) = w .5 .ensures in
+          let top = loop .inv .1 .low (a .cell * 64 + bufferLoad b) (omega arith) in
+          rw (w .8) (filled-as (filled-twice (loop .inv .1) _ _ (rw (load, driver) at (rw (w .2 .ensures) at raise))) _ (λ k h. buffered-more (a .scratch .now) (a .cell) (a .to) (a .t4) (loop .i) k (loop .scratch) (loop .inv .1 .done k h) top (omega (arith, load, w .0 .taken)))))
+          (λ w. rw (w .1) (filled-as (loop .inv .1) _ (λ k h. buffered-past (a .scratch .now) (a .cell) (a .to) (a .t4) (loop .i) k (omega (arith, load, w .0 .left)))))
           (c .if1 .came)),
     )
 
@@ -106,9 +99,7 @@ raise-buffers-spec =
     element-copy-out-buffer
     load-requires
     cast-load
-    add-top
-    mul-top
-    slice-read-top
+    view-requires
     driver-requires
     raise-row-requires
     add-i
