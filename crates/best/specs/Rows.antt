@@ -5,17 +5,13 @@ use mathlib.Core.List.{List, [], _∷_}
 use lib.Dec.{T}
 use lib.ListN.{getD}
 use Rattle.rules.specs.Rules.{Rules}
+use Rattle.lists.specs.Lists.{sumBelow}
 use Rattle.budget.specs.Table.{Table, maxBelow, arrival, given}
 
 -- f from, f (from + 1), .., in all `count` values
 unfoldable pub listFrom : {A : Type 0} → (ℕ → A) → ℕ → ℕ → List A
 listFrom f from zero = []
 listFrom f from (suc count) = f from ∷ listFrom f (suc from) count
-
--- f 0 + .. + f (n - 1)
-unfoldable pub sumBelow : ℕ → (ℕ → ℕ) → ℕ
-sumBelow zero f = 0
-sumBelow (suc n) f = sumBelow n f + f n
 
 abbrev pub Rows : Type 0
 Rows = List (List ℕ)

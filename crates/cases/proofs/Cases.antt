@@ -15,7 +15,8 @@ use Rattle.rules.specs.Beginning.{nextPlace, placeFrom, startPlace, placeAfter}
 use Rattle.budget.specs.Table.{loadAt, delayAt, bufferCost, loadOf, closeCost, only, maxBelow, viaBuffer, arrival, given}
 use Rattle.budget.specs.Done.{seedAt}
 use Rattle.budget.specs.Emission.{exactSeed, goesOn, afterLoad, afterDelay, afterRegisters, visit, firstFrom, nextCode, nextCell, emit}
-use Rattle.best.specs.Rows.{listFrom, sumBelow, tableOf, rowsOf, layerRows, total}
+use Rattle.lists.specs.Lists.{sumBelow}
+use Rattle.best.specs.Rows.{listFrom, tableOf, rowsOf, layerRows, total}
 use Rattle.best.specs.Labels.{isKnown, registersOf, stepsOf, labelsOf, relabelAt, relabel, least, leastBelow, isPending, isOfWave, nextPending, firstOfWave}
 use Rattle.best.specs.Search.{layerTurn, quietTurn, turn, searchFrom, mostSteps, mostTurns, search}
 use Rattle.best.specs.Best.{Outcome, found, none, reachRows, routeOf, outcome, best}

@@ -6,11 +6,12 @@ use mathlib.Core.List.{List}
 use native.Mathlib.Omega.{arith}
 use lib.ListN.{getD}
 use Rattle.lists.specs.Lists.{flagOf, Place, Listed, Enlisted}
-use Rattle.lists.proofs.Sums.{same-or-not, sum-same, sum-bound, sum-part, sum-none, sum-zero, sum-more, sum-short}
+use Rattle.plan.proofs.Truth.{equal}
+use Rattle.lists.proofs.Sums.{sum-same, sum-bound, sum-part, sum-none, sum-zero, sum-more, sum-short}
 
 -- a bit is 0 or 1
 pub bit-cases : (b : ℕ) → b ≤ 1 → (b ≡ 0) ⊎ (b ≡ 1)
-bit-cases b h = go (same-or-not b 0)
+bit-cases b h = go (equal b 0)
   where
     go : (b ≡ 0) ⊎ (b ≡ 0 → ⊥) → (b ≡ 0) ⊎ (b ≡ 1)
     go (inl e) = inl e
@@ -66,10 +67,10 @@ listed-kept {n} {old} {base} l new f w = listed-moved l new base f w
 pub listed-more : {n : ℕ} {old : List ℕ} {base count : ℕ} → Listed n old base count → (new : List ℕ) (cell : ℕ) → cell < n → flagOf n old cell ≡ 0 → flagOf n new cell ≡ 1 → ((c : ℕ) → c < n → (c ≡ cell → ⊥) → flagOf n new c ≡ flagOf n old c) → ((i : ℕ) → i < count → getD new (base + i) 0 ≡ getD old (base + i) 0) → getD new (base + count) 0 ≡ cell → Listed n new base (count + 1)
 listed-more {n} {old} {base} {count} l new cell h z o f w e =
     record {
-      bits = λ c k. bit c k (same-or-not c cell);
-      cells = λ i k. in-plan i k (same-or-not i count);
-      flagged = λ i k. flag i k (same-or-not i count);
-      covered = λ c k q. place c k q (same-or-not c cell);
+      bits = λ c k. bit c k (equal c cell);
+      cells = λ i k. in-plan i k (equal i count);
+      flagged = λ i k. flag i k (equal i count);
+      covered = λ c k q. place c k q (equal c cell);
       counted = omega (arith, sum-more n (flagOf n old) (flagOf n new) cell h z o f, l .counted);
     }
   where
@@ -97,7 +98,7 @@ listed-more {n} {old} {base} {count} l new cell h z o f w e =
 
 -- `enlist` keeps what was listed
 pub enlisted-stays : {n base count cell : ℕ} {old new : List ℕ} {next : ℕ} → Enlisted n base count cell old new next → (c : ℕ) → c < n → flagOf n old c ≡ 1 → flagOf n new c ≡ 1
-enlisted-stays {n} {base} {count} {cell} {old} {new} e c h o = go (same-or-not c cell)
+enlisted-stays {n} {base} {count} {cell} {old} {new} e c h o = go (equal c cell)
   where
     go : (c ≡ cell) ⊎ (c ≡ cell → ⊥) → flagOf n new c ≡ 1
     go (inl q) = rw q (e .now-flagged)

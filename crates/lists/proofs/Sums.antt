@@ -4,17 +4,8 @@ use mathlib.Core.Path.{_≡_, refl}
 use mathlib.Core.Logic.{_⊎_, inl, inr}
 use native.Mathlib.Omega.{arith}
 use native.Mathlib.Nat.{suc-mul}
-use lib.Dec.{eqb}
-use mathlib.Core.Bool.{Bool, true, false}
-use borrow.Author.Tests.{eqb-true, eqb-false}
+use Rattle.plan.proofs.Truth.{equal}
 use Rattle.lists.specs.Lists.{sumBelow}
-
-pub same-or-not : (a b : ℕ) → (a ≡ b) ⊎ (a ≡ b → ⊥)
-same-or-not a b = go (eqb a b) refl
-  where
-    go : (t : Bool) → eqb a b ≡ t → (a ≡ b) ⊎ (a ≡ b → ⊥)
-    go true e = inl (eqb-true a b e)
-    go false e = inr (eqb-false a b e)
 
 -- functions equal at each point have equal sums
 pub sum-same : (n : ℕ) (f g : ℕ → ℕ) → ((c : ℕ) → c < n → f c ≡ g c) → sumBelow n f ≡ sumBelow n g
@@ -27,11 +18,28 @@ unfolding sumBelow
 sum-bound zero b f h = omega arith
 sum-bound (suc n) b f h = omega (arith, suc-mul n b, sum-bound n b f (λ c k. h c (omega arith)), h n (omega arith))
 
+-- the sum grows with its terms
+pub sum-least : (n : ℕ) (f g : ℕ → ℕ) → ((i : ℕ) → i < n → f i ≤ g i) → sumBelow n f ≤ sumBelow n g
+unfolding sumBelow
+sum-least zero f g h = omega arith
+sum-least (suc n) f g h = omega (arith, h n (omega arith), sum-least n f g (λ i k. h i (omega arith)))
+
+pub sum-grows : (n : ℕ) (f g : ℕ → ℕ) (at : ℕ) → ((i : ℕ) → i < n → f i ≤ g i) → at < n → f at < g at → sumBelow n f < sumBelow n g
+unfolding sumBelow
+sum-grows zero f g at h k m = absurd (omega arith)
+sum-grows (suc n) f g at h k m = go (sum-grows n f g at (λ i q. h i (omega arith))) (equal at n)
+  where
+    go : (at < n → f at < g at → sumBelow n f < sumBelow n g) → (at ≡ n) ⊎ (at ≡ n → ⊥) → sumBelow n f + f n < sumBelow n g + g n
+    go r (inl e) =
+        let q : f n < g n = rw e at m in
+        omega (arith, sum-least n f g (λ i q. h i (omega arith)))
+    go r (inr e) = omega (arith, r (omega arith) m, h n (omega arith))
+
 -- each term is within the sum
 pub sum-part : (n : ℕ) (f : ℕ → ℕ) (at : ℕ) → at < n → f at ≤ sumBelow n f
 unfolding sumBelow
 sum-part zero f at h = absurd (omega arith)
-sum-part (suc n) f at h = go (sum-part n f at) (same-or-not at n)
+sum-part (suc n) f at h = go (sum-part n f at) (equal at n)
   where
     go : (at < n → f at ≤ sumBelow n f) → (at ≡ n) ⊎ (at ≡ n → ⊥) → f at ≤ sumBelow n f + f n
     go r (inl e) = rw e (omega arith)
@@ -48,7 +56,7 @@ sum-zero n f at e h = omega (arith, sum-part n f at h)
 pub sum-more : (n : ℕ) (f g : ℕ → ℕ) (at : ℕ) → at < n → f at ≡ 0 → g at ≡ 1 → ((c : ℕ) → c < n → (c ≡ at → ⊥) → g c ≡ f c) → sumBelow n g ≡ sumBelow n f + 1
 unfolding sumBelow
 sum-more zero f g at h p q k = absurd (omega arith)
-sum-more (suc n) f g at h p q k = go (sum-more n f g at) (same-or-not at n)
+sum-more (suc n) f g at h p q k = go (sum-more n f g at) (equal at n)
   where
     go : (at < n → f at ≡ 0 → g at ≡ 1 → ((c : ℕ) → c < n → (c ≡ at → ⊥) → g c ≡ f c) → sumBelow n g ≡ sumBelow n f + 1) → (at ≡ n) ⊎ (at ≡ n → ⊥) → sumBelow n g + g n ≡ (sumBelow n f + f n) + 1
     go r (inl e) =
@@ -61,7 +69,7 @@ sum-more (suc n) f g at h p q k = go (sum-more n f g at) (same-or-not at n)
 pub sum-short : (n : ℕ) (f : ℕ → ℕ) (at : ℕ) → ((c : ℕ) → c < n → f c ≤ 1) → at < n → f at ≡ 0 → sumBelow n f < n
 unfolding sumBelow
 sum-short zero f at b h p = absurd (omega arith)
-sum-short (suc n) f at b h p = go (sum-short n f at) (same-or-not at n)
+sum-short (suc n) f at b h p = go (sum-short n f at) (equal at n)
   where
     less : (c : ℕ) → c < n → f c ≤ 1
     less c k = b c (omega arith)

@@ -1,35 +1,19 @@
 -- The sum of the table: bounded, and raised by every layer that changes a word.
-use Prim.Native.Nat.{ℕ, zero, suc, _+_, _*_, _/_, _%_, _≤_, _<_}
+use Prim.Native.Nat.{ℕ, _+_, _*_, _/_, _%_, _≤_, _<_}
 use mathlib.Core.Path.{_≡_, _∙_}
 use mathlib.Core.Logic.{_⊎_, inl, inr}
 use mathlib.Core.List.{List}
 use native.Mathlib.Omega.{arith}
 use lib.ListN.{getD}
-use Rattle.plan.proofs.Truth.{split, equal}
+use Rattle.plan.proofs.Truth.{split}
 use Rattle.lists.specs.Lists.{sumBelow}
-use Rattle.lists.proofs.Sums.{sum-same, sum-bound}
+use Rattle.lists.proofs.Sums.{sum-same, sum-bound, sum-least, sum-grows}
 use Rattle.rows.specs.Words.{Kept}
 use Rattle.rows.specs.Rows.{rowWords}
 use Rattle.table.specs.Problem.{budgetOf}
 use Rattle.table.specs.Layer.{Grew}
 use Rattle.table.proofs.Views.{budget-at, budget-outside}
 use Rattle.search.specs.Front.{total}
-
-pub sum-least : (n : ℕ) (f g : ℕ → ℕ) → ((i : ℕ) → i < n → f i ≤ g i) → sumBelow n f ≤ sumBelow n g
-unfolding sumBelow
-sum-least zero f g h = omega arith
-sum-least (suc n) f g h = omega (arith, h n (omega arith), sum-least n f g (λ i k. h i (omega arith)))
-
-pub sum-grows : (n : ℕ) (f g : ℕ → ℕ) (at : ℕ) → ((i : ℕ) → i < n → f i ≤ g i) → at < n → f at < g at → sumBelow n f < sumBelow n g
-unfolding sumBelow
-sum-grows zero f g at h k m = absurd (omega arith)
-sum-grows (suc n) f g at h k m = go (sum-grows n f g at (λ i q. h i (omega arith))) (equal at n)
-  where
-    go : (at < n → f at < g at → sumBelow n f < sumBelow n g) → (at ≡ n) ⊎ (at ≡ n → ⊥) → sumBelow n f + f n < sumBelow n g + g n
-    go r (inl e) =
-        let q : f n < g n = rw e at m in
-        omega (arith, sum-least n f g (λ i q. h i (omega arith)))
-    go r (inr e) = omega (arith, r (omega arith) m, h n (omega arith))
 
 module _ (n : ℕ) (old new : List ℕ) where
   pub total-kept : Kept 0 (n * 64) old new → total n new ≡ total n old

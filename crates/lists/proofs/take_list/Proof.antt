@@ -6,7 +6,7 @@ use mathlib.Core.List.{List}
 use native.Mathlib.Omega.{arith}
 use lib.ListN.{length, getD, set, length-set}
 use lib.Seq.{getD-set-same, getD-set-other}
-use Rattle.lists.proofs.Sums.{same-or-not}
+use Rattle.plan.proofs.Truth.{equal}
 use Rattle.lists.proofs.Lists.{listed-count, listed-moved}
 use Rattle.lists.proofs.take_list.Statement.{statement}
 use Rattle.lists.proofs.take_list.Tie as tie
@@ -30,7 +30,7 @@ copied-more : (n i : ℕ) (old new : List ℕ) → Copied n i old new → i < n 
 copied-more n i old new p h r =
     record {
       same = simp length-set (p .same);
-      done = λ k j. place k j (same-or-not k i);
+      done = λ k j. place k j (equal k i);
       low = λ k j. kept k (λ e. omega arith) ∙ p .low k j;
       high = λ k j. kept k (λ e. omega arith) ∙ p .high k (omega arith);
     }
