@@ -24,10 +24,11 @@ use Rattle.budget.specs.Emission.{exactSeed}
 use Rattle.budget.proofs.Max.{only-most}
 use Rattle.labels.specs.Labels.{knownOf, registersOf, stepsOf, labelsOf}
 use Rattle.labels.proofs.Labels.{known-word, word-known}
-use Rattle.rows.specs.Rows.{rowWords}
+use Rattle.costs.specs.Costs.{rowWords}
 use Rattle.table.specs.declared.problem.Problem.{Problem}
 use Rattle.table.specs.Problem.{planFor, rulesFor, budgetOf}
-use Rattle.table.specs.ArrivalRow.{takesBuffers, bufferAt}
+use Rattle.costs.specs.Costs.{bufferAt}
+use Rattle.table.specs.ArrivalRow.{takesBuffers}
 use Rattle.table.proofs.ArrivalRow.{takes-site, site-takes}
 use Rattle.table.proofs.Views.{budget-at}
 use Rattle.choice.specs.declared.State.{State}

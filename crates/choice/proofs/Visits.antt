@@ -25,7 +25,7 @@ use Rattle.budget.proofs.Visit.{Gate, gate}
 use Rattle.labels.specs.Labels.{labelsOf}
 use Rattle.table.specs.declared.problem.Problem.{Problem}
 use Rattle.table.specs.Problem.{planFor, rulesFor, budgetOf}
-use Rattle.table.specs.ArrivalRow.{bufferAt}
+use Rattle.costs.specs.Costs.{bufferAt}
 use Rattle.table.proofs.Spreads.{cells-are}
 use Rattle.choice.specs.declared.State.{State}
 use Rattle.choice.specs.declared.Choice.{Choice}

@@ -16,10 +16,11 @@ use Rattle.rules.specs.Legal.{mayStand}
 use Rattle.budget.specs.Table.{Table, bufferCost, loadOf, closeCost}
 use Rattle.budget.specs.Done.{Labels}
 use Rattle.budget.specs.Emission.{exactSeed, afterRegisters}
-use Rattle.rows.specs.Rows.{rowWords, viewOf}
+use Rattle.costs.specs.Costs.{rowWords}
+use Rattle.rows.specs.Rows.{viewOf}
 use Rattle.table.specs.declared.problem.Problem.{Problem}
 use Rattle.table.specs.Problem.{rulesFor, Ready, Room}
-use Rattle.table.specs.ArrivalRow.{bufferAt}
+use Rattle.costs.specs.Costs.{bufferAt}
 use Rattle.choice.specs.declared.State.{State}
 use Rattle.choice.specs.Choice.{delayMost, ChooseAsks}
 

@@ -12,6 +12,7 @@ use answers::Refusal;
 use answers::Tables;
 use answers::check_tables;
 use answers::ends_fault;
+use costs::costs_of;
 use plan::PlanCheck;
 use plan::check_plan;
 use table::Problem;
@@ -46,12 +47,14 @@ fn after_plan(
                 return Answer::Refused(Refusal::Scratch);
             }
             let elements = checked.elements;
+            let costs = costs_of(elements);
             let p = Problem {
                 width: width as usize,
                 height: height as usize,
                 source: source as usize,
                 sink: sink as usize,
                 elements: elements,
+                costs: costs,
             };
             return route_ready(plan, scratch, p, visits);
         }

@@ -10,7 +10,8 @@ use Rattle.plan.proofs.Truth.{split}
 use Rattle.budget.specs.Table.{maxBelow}
 use Rattle.budget.proofs.Max.{below-max, max-none}
 use Rattle.rows.specs.Words.{Filled}
-use Rattle.rows.specs.Rows.{rowWords, pushed, RowGrew}
+use Rattle.costs.specs.Costs.{rowWords}
+use Rattle.rows.specs.Rows.{pushed, RowGrew}
 use Rattle.rows.proofs.Words.{filled-at}
 
 -- by how much the word at load l grows

@@ -9,10 +9,8 @@ use Rattle.timing.specs.declared.elements.Wire.{Wire}
 use Rattle.timing.specs.declared.elements.Driver.{Driver}
 use Rattle.timing.specs.Formulas.{wireDelay, wireLoad, gateDelay}
 use Rattle.budget.specs.Table.{only}
+use Rattle.costs.specs.Costs.{rowWords}
 use Rattle.rows.specs.Words.{Filled}
-
-abbrev pub rowWords : ℕ
-rowWords = 64
 
 -- the table's word for a cell and a load
 abbrev pub viewOf : List ℕ → ℕ → ℕ → ℕ

@@ -2,18 +2,14 @@
 ghost use mathlib.Core.Path.{_≡_};
 ghost use Prim.Native.Nat.{_+_, _*_, _-_, _≤_, _<_, max};
 ghost use lib.ListN.{length};
-ghost use Rattle.timing.specs.Ranges.{loadMax};
-ghost use Rattle.timing.specs.Elements.{WireInRange, DriverInRange};
+ghost use Rattle.timing.specs.Elements.{WireInRange};
+ghost use Rattle.costs.specs.Costs.{rowWords, LimitCostsOf, GateCostsOf, StepCostsOf};
 ghost use Rattle.rows.specs.Words.{Filled};
-ghost use Rattle.rows.specs.Rows.{rowWords, viewOf, copied, raised, Pushed};
-use timing::Driver;
-use timing::Load;
-use timing::Wire;
-
-pub const ROW: usize = 64;
-
-// No word is above it.
-const ALL: u16 = 65535;
+ghost use Rattle.rows.specs.Rows.{viewOf, copied, raised, Pushed};
+use costs::GateCosts;
+use costs::LimitCosts;
+use costs::ROW;
+use costs::StepCosts;
 
 // The larger of two numbers.
 pub fn larger(a: u16, b: u16) -> u16
@@ -50,46 +46,45 @@ pub fn view(scratch: &[u16], cell: usize, load: usize) -> u16
 }
 
 // The row at `to` becomes the cell's row of the table, with 0 past the limit.
-pub fn copy_row(scratch: &mut [u16], cell: usize, to: usize, limit: usize)
-    requires { ⌜ (cell * 64 + rowWords ≤ to) × (to + rowWords ≤ length (now scratch)) ⌝ }
-    ensures { λ _. ⌜ Filled (copied (now (scratch .entry)) cell limit) to rowWords (now (scratch .entry)) (now (scratch .exit)) ⌝ }
+pub fn copy_row(scratch: &mut [u16], cell: usize, to: usize, costs: LimitCosts)
+    requires { ⌜ LimitCostsOf (costs .limit) costs × ((cell * 64 + rowWords ≤ to) × (to + rowWords ≤ length (now scratch))) ⌝ }
+    ensures { λ _. ⌜ Filled (copied (now (scratch .entry)) cell (costs .limit)) to rowWords (now (scratch .entry)) (now (scratch .exit)) ⌝ }
 {
     let mut l = 0;
     while l < ROW {
         let old = view(scratch, cell, l);
-        scratch[to + l] = if l <= limit { old } else { 0 };
+        scratch[to + l] = above(old, costs.row[l]);
         l += 1;
     }
 }
 
 // The row at `at` is raised, within the limit, to what `top` leaves after the driver's delay.
-pub fn raise_row(scratch: &mut [u16], at: usize, top: u16, driver: Driver, limit: usize)
-    requires { ⌜ DriverInRange driver × (at + rowWords ≤ length (now scratch)) ⌝ }
-    ensures { λ _. ⌜ Filled (raised (now (scratch .entry)) at top driver limit) at rowWords (now (scratch .entry)) (now (scratch .exit)) ⌝ }
+pub fn raise_row(scratch: &mut [u16], at: usize, top: u16, costs: GateCosts)
+    requires { ⌜ GateCostsOf (costs .driver) (costs .limit) costs × (at + rowWords ≤ length (now scratch)) ⌝ }
+    ensures { λ _. ⌜ Filled (raised (now (scratch .entry)) at top (costs .driver) (costs .limit)) at rowWords (now (scratch .entry)) (now (scratch .exit)) ⌝ }
 {
     let mut l = 0;
     while l < ROW {
         let old = scratch[at + l];
-        let rest = above(top, driver.delay(Load(l as u16)).0 as u16);
-        scratch[at + l] = if l <= limit { larger(old, rest) } else { old };
+        let rest = above(top, costs.row[l]);
+        scratch[at + l] = larger(old, rest);
         l += 1;
     }
 }
 
 // The row at `to` is raised to what the arrival row at `from` leaves after one step of the wire. Whether it grew.
 // Past the limit the step costs all; there the load may lie past the row, but not past the words.
-pub fn push_row(scratch: &mut [u16], from: usize, to: usize, wire: Wire, limit: usize) -> bool
-    requires { ⌜ WireInRange wire × ((limit ≤ loadMax) × ((to + rowWords ≤ from) × (from + 2 * rowWords ≤ length (now scratch)))) ⌝ }
-    ensures { λ r. ⌜ Pushed from to wire limit (now (scratch .entry)) (now (scratch .exit)) r ⌝ }
+pub fn push_row(scratch: &mut [u16], from: usize, to: usize, costs: StepCosts) -> bool
+    requires { ⌜ WireInRange (costs .wire) × (StepCostsOf (costs .wire) (costs .limit) costs × ((to + rowWords ≤ from) × (from + 2 * rowWords ≤ length (now scratch)))) ⌝ }
+    ensures { λ r. ⌜ Pushed from to (costs .wire) (costs .limit) (now (scratch .entry)) (now (scratch .exit)) r ⌝ }
 {
+    let wire = costs.wire;
     let step = wire.load().0 as usize;
     let mut grown: u16 = 0;
     let mut l = 0;
     while l < ROW {
         let old = scratch[to + l];
-        let delay = wire.delay(Load(l as u16)).0 as u16;
-        let cost = if l + step <= limit { delay } else { ALL };
-        let rest = above(scratch[from + (l + step)], cost);
+        let rest = above(scratch[from + (l + step)], costs.row[l]);
         let new = larger(old, rest);
         grown = larger(grown, new - old);
         scratch[to + l] = new;

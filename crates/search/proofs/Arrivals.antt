@@ -12,7 +12,7 @@ use Rattle.budget.specs.Table.{Table, arrival}
 use Rattle.budget.proofs.Active.{arrival-row, arrival-none, given-row, given-none}
 use Rattle.lists.specs.Lists.{flagOf}
 use Rattle.lists.proofs.Lists.{listed-none}
-use Rattle.rows.specs.Rows.{rowWords}
+use Rattle.costs.specs.Costs.{rowWords}
 use Rattle.table.specs.Problem.{budgetOf, seedOf}
 use Rattle.table.specs.Layer.{Settled, Active}
 use Rattle.table.proofs.Views.{inside, budget-at, budget-outside, budget-kept}

@@ -9,7 +9,7 @@ use Rattle.plan.proofs.Truth.{split}
 use Rattle.lists.specs.Lists.{sumBelow}
 use Rattle.lists.proofs.Sums.{sum-same, sum-bound, sum-least, sum-grows}
 use Rattle.rows.specs.Words.{Kept}
-use Rattle.rows.specs.Rows.{rowWords}
+use Rattle.costs.specs.Costs.{rowWords}
 use Rattle.table.specs.Problem.{budgetOf}
 use Rattle.table.specs.Layer.{Grew}
 use Rattle.table.proofs.Views.{budget-at, budget-outside}

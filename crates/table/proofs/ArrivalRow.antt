@@ -17,10 +17,11 @@ use Rattle.rules.proofs.Document01.{BufferSite, no-gate-stands, buffer-site, bu
 use Rattle.budget.specs.Table.{Table, only, maxBelow, viaBuffer, arrival, loadOf, bufferCost, closeCost}
 use Rattle.budget.proofs.Max.{max-longer}
 use Rattle.budget.proofs.Active.{max-same}
-use Rattle.rows.specs.Rows.{rowWords, copied, raised}
+use Rattle.costs.specs.Costs.{rowWords, bufferAt}
+use Rattle.rows.specs.Rows.{copied, raised}
 use Rattle.table.specs.declared.problem.Problem.{Problem}
 use Rattle.table.specs.Problem.{planFor, rulesFor, Ready, budgetOf, seedOf}
-use Rattle.table.specs.ArrivalRow.{takesBuffers, bufferAt, behind, buffered}
+use Rattle.table.specs.ArrivalRow.{takesBuffers, behind, buffered}
 
 -- A word that is raised within the limit: x within it, z past it
 

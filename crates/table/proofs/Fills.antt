@@ -11,7 +11,7 @@ use Rattle.plan.proofs.Truth.{split, equal}
 use Rattle.budget.specs.Table.{arrival}
 use Rattle.budget.proofs.Active.{arrival-row, arrival-past}
 use Rattle.rows.specs.Words.{Filled, Kept, KeptFrom}
-use Rattle.rows.specs.Rows.{rowWords}
+use Rattle.costs.specs.Costs.{rowWords}
 use Rattle.lists.specs.Lists.{flagOf, Place, Listed}
 use Rattle.lists.proofs.Lists.{bit-cases, listed-count}
 use Rattle.table.specs.declared.problem.Problem.{Problem}

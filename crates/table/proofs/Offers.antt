@@ -13,7 +13,8 @@ use Rattle.plan.proofs.Truth.{both, fst, snd, decided, split, equal, eq→eqb}
 use Rattle.budget.specs.Table.{only}
 use Rattle.budget.specs.Sides.{gift, isSide}
 use Rattle.budget.proofs.Max.{only-true, only-false, only-bound}
-use Rattle.rows.specs.Rows.{rowWords, pushed, RowGrew, Pushed}
+use Rattle.costs.specs.Costs.{rowWords}
+use Rattle.rows.specs.Rows.{pushed, RowGrew, Pushed}
 use Rattle.lists.specs.Lists.{flagOf, Enlisted}
 use Rattle.lists.proofs.Lists.{listed-kept}
 use Rattle.table.specs.Problem.{budgetOf}

@@ -18,6 +18,9 @@ use Rattle.budget.proofs.Active.{given-row}
 use Rattle.lists.specs.Lists.{Listed}
 use Rattle.lists.proofs.Lists.{listed-none}
 use Rattle.table.specs.declared.problem.Problem.{Problem}
+use Rattle.costs.specs.declared.StepCosts.{StepCosts}
+use Rattle.costs.specs.Costs.{StepCostsOf}
+use Rattle.costs.proofs.Own.{step-own}
 use Rattle.table.specs.Problem.{planFor, rulesFor, Ready, budgetOf}
 use Rattle.table.specs.Layer.{arrivalsOf, Offered, OfferAsks, Spread, SpreadAsks, SpreadAll, SpreadAllAsks}
 use Rattle.table.proofs.Views.{arrivals-kept}
@@ -55,17 +58,19 @@ module _ (p : Problem) (marks : List ℕ) (cell next : ℕ) (words : List ℕ) (
   inside = omega (arith, asks .cellIn, cells-are p marks (asks .ready))
 
   -- what each offer asks
-  pub offer-asks : (to : ℕ) (wire : Wire) (now : List ℕ) (count : ℕ) → to ≤ cells P → WireInRange wire → length now ≡ length words → Listed n now (n * 133) count → OfferAsks n cell to wire (p .elements .limit .0) count now
-  offer-asks to wire now count h w same listed =
-      record {
-        cellIn = asks .cellIn;
-        toIn = omega (arith, cells-are p marks (asks .ready));
-        few = few-cells p marks (asks .ready);
-        wireFits = w;
-        light = asks .ready .valid .limit;
-        room = omega (arith, asks .room);
-        listed = listed;
-      }
+  pub offer-asks : (to : ℕ) (wire : Wire) (costs : StepCosts) (now : List ℕ) (count : ℕ) → StepCostsOf wire (p .elements .limit .0) costs → to ≤ cells P → WireInRange wire → length now ≡ length words → Listed n now (n * 133) count → OfferAsks n cell to (costs .wire) (costs .limit) count now × StepCostsOf (costs .wire) (costs .limit) costs
+  offer-asks to wire costs now count costed h w same listed = (
+    record {
+      cellIn = asks .cellIn;
+      toIn = omega (arith, cells-are p marks (asks .ready));
+      few = few-cells p marks (asks .ready);
+      wireFits = rw (costed .wire) w;
+      light = omega (arith, costed .limit, asks .ready .valid .limit);
+      room = omega (arith, asks .room);
+      listed = listed;
+    },
+    step-own costed,
+  )
 
   sides : (B : Table) → ((l : ℕ) → p .elements .limit .0 < l → B cell l ≡ 0) → (c l x : ℕ) → max (max (max (max x (only (isSide n (neighboursOf P cell .up) c) (gift (p .elements .vertical) (p .elements .limit .0) B cell l))) (only (isSide n (neighboursOf P cell .left) c) (gift (p .elements .horizontal) (p .elements .limit .0) B cell l))) (only (isSide n (neighboursOf P cell .right) c) (gift (p .elements .horizontal) (p .elements .limit .0) B cell l))) (only (isSide n (neighboursOf P cell .down) c) (gift (p .elements .vertical) (p .elements .limit .0) B cell l)) ≡ max x (given (rulesFor p marks) B cell c l)
   unfolding rulesFor

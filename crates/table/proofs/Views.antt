@@ -10,7 +10,7 @@ use lib.ListN.{getD}
 use Rattle.plan.proofs.Truth.{both, fst, snd}
 use Rattle.budget.proofs.Max.{only-true, only-false}
 use Rattle.rows.specs.Words.{Kept, KeptFrom}
-use Rattle.rows.specs.Rows.{rowWords}
+use Rattle.costs.specs.Costs.{rowWords}
 use Rattle.table.specs.Problem.{budgetOf, seedOf}
 use Rattle.table.specs.Layer.{arrivalsOf}
 

@@ -9,7 +9,7 @@ use Rattle.rules.specs.Rules.{Rules}
 use Rattle.budget.specs.Table.{Table, arrival, given, layer}
 use Rattle.budget.proofs.Active.{pushes-layer, given-most, layer-least, arrival-row, given-row}
 use Rattle.rows.specs.Words.{KeptFrom}
-use Rattle.rows.specs.Rows.{rowWords}
+use Rattle.costs.specs.Costs.{rowWords}
 use Rattle.lists.specs.Lists.{flagOf, Place, Taken}
 use Rattle.lists.proofs.Lists.{bit-cases, listed-count}
 use Rattle.table.specs.Problem.{budgetOf, seedOf}

@@ -5,13 +5,13 @@ use mathlib.Core.List.{List}
 use lib.Dec.{eqb, leb}
 use lib.ListN.{length, getD}
 use Rattle.plan.specs.Plan.{blocked}
-use Rattle.timing.specs.declared.elements.Buffer.{Buffer}
 use Rattle.timing.specs.declared.elements.Elements.{Elements}
 use Rattle.timing.specs.Formulas.{gateDelay, bufferDriver, bufferLoad}
-use Rattle.timing.specs.Elements.{bufferOf}
 use Rattle.timing.specs.Valid.{Valid}
 use Rattle.budget.specs.Table.{only, maxBelow}
-use Rattle.rows.specs.Rows.{rowWords, viewOf}
+use Rattle.costs.specs.declared.GateCosts.{GateCosts}
+use Rattle.costs.specs.Costs.{rowWords, bufferAt, BufferCostsOf}
+use Rattle.rows.specs.Rows.{viewOf}
 use Rattle.table.specs.declared.problem.Problem.{Problem}
 use Rattle.table.specs.Problem.{Ready, Room}
 
@@ -21,18 +21,16 @@ pub record CellReady (p : Problem) (marks words : List ℕ) (cell : ℕ) : Type 
   pub inside : cell < length marks
   pub room : Room (length marks) words
 
--- checked tables, and two rows in the words, the cell's row of the table before the one at `to`
-pub record RowsReady (e : Elements) (cell to : ℕ) (words : List ℕ) : Type 0 where
+-- checked tables with the buffers' costs, and two rows in the words, the cell's row of the table before the one at `to`
+pub record RowsReady (e : Elements) (costs : List GateCosts) (cell to : ℕ) (words : List ℕ) : Type 0 where
   pub valid : Valid e
+  pub costed : BufferCostsOf e costs
   pub before : cell * 64 + rowWords ≤ to
   pub inside : to + rowWords ≤ length words
 
 -- a buffer may stand on a cell with these marks: the cell is no end and not blocked
 unfoldable pub takesBuffers : ℕ → Problem → ℕ → Bool
 takesBuffers marks p cell = not (eqb cell (p .source)) && not (eqb cell (p .sink)) && not (blocked marks)
-
-unfoldable pub bufferAt : Elements → ℕ → Buffer
-bufferAt e i = getD (e .buffers) i (bufferOf 0 0 0)
 
 -- what the cell's row of the table leaves before buffer i, under load l
 unfoldable pub behind : List ℕ → ℕ → Elements → ℕ → ℕ → ℕ

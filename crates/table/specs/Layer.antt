@@ -11,7 +11,7 @@ use Rattle.rules.specs.Rules.{Rules}
 use Rattle.budget.specs.Table.{Table, only, arrival, given, layer}
 use Rattle.budget.specs.Sides.{gift, isSide}
 use Rattle.rows.specs.Words.{Kept, KeptFrom}
-use Rattle.rows.specs.Rows.{rowWords}
+use Rattle.costs.specs.Costs.{rowWords}
 use Rattle.lists.specs.Lists.{flagOf, Listed}
 use Rattle.timing.specs.Ranges.{loadMax}
 use Rattle.timing.specs.Elements.{WireInRange}

@@ -4,10 +4,11 @@ ghost use Prim.Native.Nat.{_+_, _*_};
 ghost use lib.ListN.{length};
 ghost use Rattle.budget.specs.Table.{arrival};
 ghost use Rattle.rows.specs.Words.{Filled};
-ghost use Rattle.rows.specs.Rows.{rowWords};
+ghost use Rattle.costs.specs.Costs.{rowWords};
 ghost use Rattle.table.specs.Problem.{rulesFor, budgetOf, seedOf};
 ghost use Rattle.table.specs.ArrivalRow.{CellReady, RowsReady, takesBuffers, buffered};
 use crate::problem::Problem;
+use costs::GateCosts;
 use plan::is_blocked;
 use rows::copy_row;
 use rows::raise_row;
@@ -28,8 +29,14 @@ pub fn takes_buffers(marks: u8, p: Problem, cell: usize) -> bool
 }
 
 // Each buffer raises the arrival row at `to`, from the cell's row of the table.
-fn raise_buffers(scratch: &mut [u16], cell: usize, to: usize, elements: Elements)
-    requires { ⌜ RowsReady elements cell to (now scratch) ⌝ }
+fn raise_buffers(
+    scratch: &mut [u16],
+    cell: usize,
+    to: usize,
+    elements: Elements,
+    costs: [GateCosts; Elements::BUFFERS_MAX],
+)
+    requires { ⌜ RowsReady elements costs cell to (now scratch) ⌝ }
     ensures { λ _. ⌜ Filled (buffered (now (scratch .entry)) cell to elements (elements .count)) to rowWords (now (scratch .entry)) (now (scratch .exit)) ⌝ }
 {
     let limit = elements.limit.0 as usize;
@@ -40,7 +47,8 @@ fn raise_buffers(scratch: &mut [u16], cell: usize, to: usize, elements: Elements
         let load = buffer.load().0 as usize;
         if load <= limit {
             let top = view(scratch, cell, load);
-            raise_row(scratch, to, top, buffer.driver(), limit);
+            let gate = costs[i];
+            raise_row(scratch, to, top, gate);
         }
         i += 1;
     }
@@ -54,19 +62,14 @@ pub fn fill_arrival(plan: &[u8], scratch: &mut [u16], p: Problem, cell: usize)
     let n = plan.len();
     let to = n * 64 + cell * 64;
     let elements = p.elements;
-    let limit = elements.limit.0 as usize;
-    copy_row(scratch, cell, to, limit);
+    let none = p.costs.none;
+    copy_row(scratch, cell, to, none);
     if takes_buffers(plan[cell], p, cell) {
-        raise_buffers(scratch, cell, to, elements);
+        let buffers = p.costs.buffers;
+        raise_buffers(scratch, cell, to, elements, buffers);
     }
     if scratch[n * 135 + cell] == 1 {
-        let register = elements.register;
-        raise_row(
-            scratch,
-            to,
-            2 * elements.period + 1,
-            register.driver(),
-            limit,
-        );
+        let register = p.costs.register;
+        raise_row(scratch, to, 2 * elements.period + 1, register);
     }
 }

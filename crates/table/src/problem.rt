@@ -1,4 +1,5 @@
-// A routing problem: the plan's sides, the ends and the checked tables. The marks are lent beside it.
+// A routing problem: the plan's sides, the ends, the checked tables and what they cost at each load. The marks are lent beside it.
+use costs::Costs;
 use timing::Elements;
 
 pub struct Problem {
@@ -7,4 +8,5 @@ pub struct Problem {
     pub source: usize,
     pub sink: usize,
     pub elements: Elements,
+    pub costs: Costs,
 }

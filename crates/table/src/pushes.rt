@@ -1,13 +1,14 @@
 // What the active cells give to their neighbours.
 ghost use Prim.Native.Nat.{_+_, _*_, _<_};
 ghost use lib.ListN.{length};
+ghost use Rattle.costs.specs.Costs.{StepCostsOf};
 ghost use Rattle.table.specs.Problem.{rulesFor};
 ghost use Rattle.table.specs.Layer.{Offered, OfferAsks, Spread, SpreadAsks, SpreadAll, SpreadAllAsks};
 use crate::problem::Problem;
+use costs::StepCosts;
 use lists::enlist;
 use plan::neighbours_of;
 use rows::push_row;
-use timing::Wire;
 
 // One neighbour takes what the cell gives; it is listed if its row grew. The number n is no neighbour. The count of the next list.
 fn offer(
@@ -15,17 +16,16 @@ fn offer(
     n: usize,
     cell: usize,
     to: usize,
-    wire: Wire,
-    limit: usize,
+    costs: StepCosts,
     next: usize,
 ) -> usize
-    requires { ⌜ OfferAsks n cell to wire limit next (now scratch) ⌝ }
-    ensures { λ r. ⌜ Offered n cell to wire limit (now (scratch .entry)) (now (scratch .exit)) r ⌝ }
+    requires { ⌜ OfferAsks n cell to (costs .wire) (costs .limit) next (now scratch) × StepCostsOf (costs .wire) (costs .limit) costs ⌝ }
+    ensures { λ r. ⌜ Offered n cell to (costs .wire) (costs .limit) (now (scratch .entry)) (now (scratch .exit)) r ⌝ }
 {
     if to == n {
         return next;
     }
-    let grew = push_row(scratch, n * 64 + cell * 64, to * 64, wire, limit);
+    let grew = push_row(scratch, n * 64 + cell * 64, to * 64, costs);
     if grew {
         return enlist(scratch, n, n * 133, next, to);
     }
@@ -39,12 +39,12 @@ fn spread(plan: &[u8], scratch: &mut [u16], p: Problem, cell: usize, next: usize
 {
     let n = plan.len();
     let near = neighbours_of(plan, p.width, p.height, cell);
-    let elements = p.elements;
-    let limit = elements.limit.0 as usize;
-    let a = offer(scratch, n, cell, near.up, elements.vertical, limit, next);
-    let b = offer(scratch, n, cell, near.left, elements.horizontal, limit, a);
-    let c = offer(scratch, n, cell, near.right, elements.horizontal, limit, b);
-    offer(scratch, n, cell, near.down, elements.vertical, limit, c)
+    let horizontal = p.costs.horizontal;
+    let vertical = p.costs.vertical;
+    let a = offer(scratch, n, cell, near.up, vertical, next);
+    let b = offer(scratch, n, cell, near.left, horizontal, a);
+    let c = offer(scratch, n, cell, near.right, horizontal, b);
+    offer(scratch, n, cell, near.down, vertical, c)
 }
 
 // The neighbours of the active cells take what these give. The count of the next list.

@@ -6,7 +6,7 @@ use borrow.Author.Tests.{le-leb, lt-leb}
 use borrow.Author.Needs.{needs}
 use Rattle.timing.specs.Elements.{bufferOf, driverOf}
 use Rattle.timing.specs.Formulas.{gateDelay, bufferDriver, bufferLoad}
-use Rattle.table.specs.ArrivalRow.{bufferAt}
+use Rattle.costs.specs.Costs.{bufferAt}
 use Rattle.choice.specs.Codes.{drives}
 use Rattle.choice.proofs.Codes.{buffer-driver-fits}
 use Rattle.choice.proofs.buffer_drives.Statement.{statement}

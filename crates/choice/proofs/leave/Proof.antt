@@ -8,7 +8,7 @@ use Rattle.timing.specs.Elements.{bufferOf, driverOf}
 use Rattle.timing.specs.Formulas.{bufferDriver}
 use Rattle.rules.specs.Rules.{noGate, registerCode}
 use Rattle.budget.proofs.Visit.{registers-closed, registers-kept}
-use Rattle.table.specs.ArrivalRow.{bufferAt}
+use Rattle.costs.specs.Costs.{bufferAt}
 use Rattle.choice.specs.Codes.{leftLoad, leftDelay}
 use Rattle.choice.proofs.Codes.{buffer-driver-fits}
 use Rattle.choice.proofs.leave.Statement.{statement}

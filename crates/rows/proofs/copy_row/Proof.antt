@@ -1,27 +1,37 @@
 -- The words before load l are filled; the row read lies before them, so it is as it was.
 use Prim.Native.Nat.{_+_, _*_, _-_, _≤_}
 use mathlib.Core.Path.{_≡_, _∙_}
-use mathlib.Core.Logic.{⊎-elim}
+use lib.ListN.{getD}
 use native.Mathlib.Omega.{arith}
-use borrow.Author.Tests.{le-leb, lt-leb}
-use Rattle.budget.specs.Table.{only}
+use borrow.Author.Needs.{needs}
+use Rattle.costs.specs.Costs.{rowWords}
 use Rattle.rows.specs.Words.{Filled}
-use Rattle.rows.specs.Rows.{rowWords, copied}
+use Rattle.rows.specs.Rows.{copied}
 use Rattle.rows.proofs.Words.{filled-none, filled-more}
+use Rattle.rows.proofs.Leaves.{limit-leaves}
 use Rattle.rows.proofs.copy_row.Statement.{statement}
 use Rattle.rows.proofs.copy_row.Tie as tie
 
 abbrev Inv-loop : tie.InvT-loop
-Inv-loop scratch₀ cell to limit l₀ scratch l = (l ≤ rowWords) × Filled (copied scratch₀ cell limit) to l scratch₀ scratch
+Inv-loop scratch₀ cell to costs l₀ scratch l = (l ≤ rowWords) × Filled (copied scratch₀ cell (costs .limit)) to l scratch₀ scratch
 
 abbrev μ-loop : tie.MeasureT-loop
-μ-loop scratch₀ cell to limit l₀ scratch l = rowWords - l
+μ-loop scratch₀ cell to costs l₀ scratch l = rowWords - l
 
 loop-holds : tie.Need-loop-holds Inv-loop μ-loop
 loop-holds c = (omega arith, filled-none _ _ _)
 
 view-requires : tie.Need-view-requires Inv-loop μ-loop
 view-requires c κs = (omega arith, omega arith)
+
+mul-above : tie.Need-mul-above Inv-loop μ-loop
+mul-above c = omega arith
+
+element-copy-out-above : tie.Need-element-copy-out-above Inv-loop μ-loop
+element-copy-out-above c = omega arith
+
+above-requires : tie.Need-above-requires Inv-loop μ-loop
+above-requires c κs = search needs
 
 add-scratch : tie.Need-add-scratch Inv-loop μ-loop
 add-scratch c = omega arith
@@ -38,19 +48,18 @@ add-l c = omega arith
 loop-less : tie.Need-loop-less Inv-loop μ-loop
 loop-less c = omega arith
 
-written : (c : tie.Joined1 Inv-loop μ-loop) → let a = c .before .before .before .before .before .before .args in c .if1 .scratch ≡ copied (a .scratch .now) (a .cell) (a .limit) (c .before .before .before .before .loop .l)
-unfolding copied only
+written : (c : tie.After-above Inv-loop μ-loop) → let a = c .before .before .before .before .before .before .before .args in c .above .result ≡ copied (a .scratch .now) (a .cell) (a .t4 .limit) (c .before .before .before .before .before .loop .l)
+unfolding copied
 written c =
-    let a = c .before .before .before .before .before .before .args in
-    let l = c .before .before .before .before .loop .l in
-    let old = c .before .before .before .before .loop .inv .1 .low (a .cell * 64 + l) (omega arith) in
-    ⊎-elim
-    (λ w. simp (le-leb l (a .limit) (omega arith)) (w .1 ∙ c .before .view .ensures ∙ old))
-    (λ w. simp (lt-leb l (a .limit) (omega arith)) (w .1))
-    (c .if1 .came)
+    let start = c .before .before .before .before .before .before .before in
+    let a = start .args in
+    let l = c .before .before .before .before .before .loop .l in
+    let word = c .before .before .view .ensures ∙ c .before .before .before .before .before .loop .inv .1 .low (a .cell * 64 + l) (omega arith) in
+    let cost = start .pre .0 .row l (omega arith) in
+    cc (c .above .ensures, word, cost, limit-leaves (a .t4 .limit) l (getD (a .scratch .now) (a .cell * 64 + l) 0) (omega (arith, c .before .before .before .before .before .before .slice-known .given (a .cell * 64 + l))))
 
 loop-again : tie.Need-loop-again Inv-loop μ-loop
-loop-again c = (omega arith, filled-more (c .before .before .before .before .loop .inv .1) _ (omega arith) (written c))
+loop-again c = (omega arith, filled-more (c .before .before .before .before .before .loop .inv .1) _ (omega arith) (written c))
 
 same-length : tie.Need-same-length Inv-loop μ-loop
 same-length c = omega arith
@@ -68,6 +77,9 @@ copy-row-spec =
     μ-loop
     loop-holds
     view-requires
+    mul-above
+    element-copy-out-above
+    above-requires
     add-scratch
     mul-scratch
     slice-write-scratch

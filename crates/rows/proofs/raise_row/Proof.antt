@@ -1,22 +1,22 @@
 -- The words before load l are filled; the word at l is as it was when it is read.
-use Prim.Native.Nat.{ℕ, _+_, _-_, _≤_}
-use mathlib.Core.Path.{_≡_, ap, _∙_}
-use mathlib.Core.Logic.{⊎-elim}
+use Prim.Native.Nat.{_+_, _-_, _≤_}
+use mathlib.Core.Path.{_≡_}
+use lib.ListN.{getD}
 use native.Mathlib.Omega.{arith}
 use borrow.Author.Needs.{needs}
-use borrow.Author.Tests.{le-leb, lt-leb}
-use Rattle.timing.proofs.Bounds.{gate-delay-max}
+use Rattle.costs.specs.Costs.{rowWords}
 use Rattle.rows.specs.Words.{Filled}
-use Rattle.rows.specs.Rows.{rowWords, raised}
+use Rattle.rows.specs.Rows.{raised}
 use Rattle.rows.proofs.Words.{filled-none, filled-more}
+use Rattle.rows.proofs.Leaves.{gate-leaves}
 use Rattle.rows.proofs.raise_row.Statement.{statement}
 use Rattle.rows.proofs.raise_row.Tie as tie
 
 abbrev Inv-loop : tie.InvT-loop
-Inv-loop scratch₀ at top driver limit l₀ scratch l = (l ≤ rowWords) × Filled (raised scratch₀ at top driver limit) at l scratch₀ scratch
+Inv-loop scratch₀ at top costs l₀ scratch l = (l ≤ rowWords) × Filled (raised scratch₀ at top (costs .driver) (costs .limit)) at l scratch₀ scratch
 
 abbrev μ-loop : tie.MeasureT-loop
-μ-loop scratch₀ at top driver limit l₀ scratch l = rowWords - l
+μ-loop scratch₀ at top costs l₀ scratch l = rowWords - l
 
 loop-holds : tie.Need-loop-holds Inv-loop μ-loop
 loop-holds c = (omega arith, filled-none _ _ _)
@@ -30,14 +30,11 @@ mul-old c = omega arith
 slice-read-old : tie.Need-slice-read-old Inv-loop μ-loop
 slice-read-old c = omega arith
 
-cast-t21 : tie.Need-cast-t21 Inv-loop μ-loop
-cast-t21 c = omega arith
+mul-above : tie.Need-mul-above Inv-loop μ-loop
+mul-above c = omega arith
 
-delay-requires : tie.Need-delay-requires Inv-loop μ-loop
-delay-requires c κs = search needs
-
-cast-above : tie.Need-cast-above Inv-loop μ-loop
-cast-above c = omega (arith, c .delay .ensures, gate-delay-max (c .before .before .before .before .before .args .driver) (c .before .before .before .loop .l) (c .before .before .before .before .before .pre .0) (omega arith))
+element-copy-out-above : tie.Need-element-copy-out-above Inv-loop μ-loop
+element-copy-out-above c = omega arith
 
 above-requires : tie.Need-above-requires Inv-loop μ-loop
 above-requires c κs = search needs
@@ -60,17 +57,15 @@ add-l c = omega arith
 loop-less : tie.Need-loop-less Inv-loop μ-loop
 loop-less c = omega arith
 
-written : (c : tie.Joined1 Inv-loop μ-loop) → let a = c .before .before .before .before .before .before .before .args in c .if1 .scratch ≡ raised (a .scratch .now) (a .at) (a .top) (a .driver) (a .limit) (c .before .before .before .before .before .loop .l)
+written : (c : tie.After-larger Inv-loop μ-loop) → let a = c .before .before .before .before .before .before .before .args in c .larger .result ≡ raised (a .scratch .now) (a .at) (a .top) (a .t4 .driver) (a .t4 .limit) (c .before .before .before .before .before .loop .l)
 unfolding raised
 written c =
-    let a = c .before .before .before .before .before .before .before .args in
+    let start = c .before .before .before .before .before .before .before in
+    let a = start .args in
     let l = c .before .before .before .before .before .loop .l in
     let old = c .before .before .before .before .before .loop .inv .1 .high (a .at + l) (omega arith) in
-    let rest = c .before .above .ensures ∙ ap (λ (x : ℕ). a .top - x) (c .before .before .delay .ensures) in
-    ⊎-elim
-    (λ w. simp (le-leb l (a .limit) (omega arith)) (cc (w .1 .ensures, w .2, old, rest)))
-    (λ w. simp (lt-leb l (a .limit) (omega arith)) (w .1 ∙ old))
-    (c .if1 .came)
+    let cost = start .pre .0 .row l (omega arith) in
+    cc (c .larger .ensures, c .before .above .ensures, old, cost, gate-leaves (a .t4 .driver) (a .t4 .limit) l (getD (a .scratch .now) (a .at + l) 0) (a .top) (omega arith))
 
 loop-again : tie.Need-loop-again Inv-loop μ-loop
 loop-again c = (omega arith, filled-more (c .before .before .before .before .before .loop .inv .1) _ (omega arith) (written c))
@@ -93,9 +88,8 @@ raise-row-spec =
     add-old
     mul-old
     slice-read-old
-    cast-t21
-    delay-requires
-    cast-above
+    mul-above
+    element-copy-out-above
     above-requires
     larger-requires
     add-scratch

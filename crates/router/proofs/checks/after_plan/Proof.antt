@@ -5,7 +5,7 @@ use borrow.Author.Needs.{needs}
 use Rattle.plan.specs.Plan.{planOf, cells}
 use Rattle.plan.proofs.Check.{valid-sized, cells-most}
 use Rattle.answers.specs.declared.tables.TablesCheck.{TablesCheck}
-use Rattle.answers.proofs.FirstFault.{tables-fault, tables-clean}
+use Rattle.answers.proofs.FirstFault.{tables-fault, tables-clean, tables-valid}
 use Rattle.router.specs.Route.{questionOf, cellsAsked}
 use Rattle.router.proofs.Refusals.{refused, refused-element, refused-ends, refused-scratch, ready, passed-room, routed}
 use Rattle.router.proofs.checks.after_plan.Statement.{statement}
@@ -60,16 +60,24 @@ returns-3 c =
     let clean = (sym (tables-fault (a .tables) (a .list)) ∙ sym (ap (λ (x : TablesCheck). x .fault) (c .before .before .before .before .before .check-tables .ensures))) ∙ c .before .before .before .enum-told .given .1 in
     refused q (a .scratch .now) (a .visits .now) _ (refused-scratch q (a .scratch .now) (a .visits .now) valid clean (sym (c .before .before .ends-fault .ensures) ∙ c .before .if1 .left) (c .if2 .taken))
 
+costs-of-requires : tie.Need-costs-of-requires
+costs-of-requires c κs =
+    let a = c .before .before .before .before .before .before .before .before .before .before .args in
+    let clean = (sym (tables-fault (a .tables) (a .list)) ∙ sym (ap (λ (x : TablesCheck). x .fault) (c .before .before .before .before .before .before .check-tables .ensures))) ∙ c .before .before .before .before .enum-told .given .1 in
+    let e = ap (λ (x : TablesCheck). x .elements) (c .before .before .before .before .before .before .check-tables .ensures ∙ tables-clean (a .tables) (a .list) clean) in
+    rw e (tables-valid (a .tables) (a .list) clean)
+
 route-ready-requires : tie.Need-route-ready-requires
 unfolding cellsAsked
 route-ready-requires c κs =
-    let a = c .before .before .before .before .before .before .before .before .before .before .before .before .args in
+    let a = c .before .before .before .before .before .before .before .before .before .before .before .before .before .args in
     let q = questionOf (a .plan .now) (a .width) (a .height) (a .tables) (a .list) (a .source) (a .sink) in
-    let valid = c .before .before .before .before .before .before .before .before .before .before .before .before .pre in
-    let clean = (sym (tables-fault (a .tables) (a .list)) ∙ sym (ap (λ (x : TablesCheck). x .fault) (c .before .before .before .before .before .before .before .before .check-tables .ensures))) ∙ c .before .before .before .before .before .before .enum-told .given .1 in
-    let apart = sym (c .before .before .before .before .before .ends-fault .ensures) ∙ c .before .before .before .before .if1 .left in
-    let e = ap (λ (x : TablesCheck). x .elements) (c .before .before .before .before .before .before .before .before .check-tables .ensures ∙ tables-clean (a .tables) (a .list) clean) in
-    (rw e (ready q (a .scratch .now) (a .visits .now) valid clean apart), passed-room q (a .scratch .now) (a .visits .now) valid clean apart (c .before .before .before .if2 .left))
+    let valid = c .before .before .before .before .before .before .before .before .before .before .before .before .before .pre in
+    let clean = (sym (tables-fault (a .tables) (a .list)) ∙ sym (ap (λ (x : TablesCheck). x .fault) (c .before .before .before .before .before .before .before .before .before .check-tables .ensures))) ∙ c .before .before .before .before .before .before .before .enum-told .given .1 in
+    let apart = sym (c .before .before .before .before .before .before .ends-fault .ensures) ∙ c .before .before .before .before .before .if1 .left in
+    let e = ap (λ (x : TablesCheck). x .elements) (c .before .before .before .before .before .before .before .before .before .check-tables .ensures ∙ tables-clean (a .tables) (a .list) clean) in
+    let costed = rw e at (c .before .before .costs-of .ensures) in
+    (rw e (ready q (a .scratch .now) (a .visits .now) valid clean apart _ costed), passed-room q (a .scratch .now) (a .visits .now) valid clean apart _ costed (c .before .before .before .before .if2 .left))
 
 same-length : tie.Need-same-length
 same-length c = c .before .before .before .before .route-ready .kept .1 .0
@@ -80,13 +88,14 @@ same-length-2 c = c .before .before .before .before .route-ready .kept .1 .1 .1 
 returns-4 : tie.Need-returns-4
 unfolding cellsAsked
 returns-4 c =
-    let a = c .before .before .before .before .before .before .before .before .before .before .before .before .before .before .before .before .before .args in
+    let a = c .before .before .before .before .before .before .before .before .before .before .before .before .before .before .before .before .before .before .args in
     let q = questionOf (a .plan .now) (a .width) (a .height) (a .tables) (a .list) (a .source) (a .sink) in
-    let valid = c .before .before .before .before .before .before .before .before .before .before .before .before .before .before .before .before .before .pre in
-    let clean = (sym (tables-fault (a .tables) (a .list)) ∙ sym (ap (λ (x : TablesCheck). x .fault) (c .before .before .before .before .before .before .before .before .before .before .before .before .before .check-tables .ensures))) ∙ c .before .before .before .before .before .before .before .before .before .before .before .enum-told .given .1 in
-    let apart = sym (c .before .before .before .before .before .before .before .before .before .before .ends-fault .ensures) ∙ c .before .before .before .before .before .before .before .before .before .if1 .left in
-    let e = ap (λ (x : TablesCheck). x .elements) (c .before .before .before .before .before .before .before .before .before .before .before .before .before .check-tables .ensures ∙ tables-clean (a .tables) (a .list) clean) in
-    routed q _ _ valid clean apart (c .before .before .before .before .before .before .before .before .if2 .left) _ _ _ (rw e at (c .before .before .before .before .route-ready .ensures))
+    let valid = c .before .before .before .before .before .before .before .before .before .before .before .before .before .before .before .before .before .before .pre in
+    let clean = (sym (tables-fault (a .tables) (a .list)) ∙ sym (ap (λ (x : TablesCheck). x .fault) (c .before .before .before .before .before .before .before .before .before .before .before .before .before .before .check-tables .ensures))) ∙ c .before .before .before .before .before .before .before .before .before .before .before .before .enum-told .given .1 in
+    let apart = sym (c .before .before .before .before .before .before .before .before .before .before .before .ends-fault .ensures) ∙ c .before .before .before .before .before .before .before .before .before .before .if1 .left in
+    let e = ap (λ (x : TablesCheck). x .elements) (c .before .before .before .before .before .before .before .before .before .before .before .before .before .before .check-tables .ensures ∙ tables-clean (a .tables) (a .list) clean) in
+    let costed = rw e at (c .before .before .before .before .before .before .before .costs-of .ensures) in
+    routed q _ _ valid clean apart _ costed (c .before .before .before .before .before .before .before .before .before .if2 .left) _ _ _ (rw e at (c .before .before .before .before .route-ready .ensures))
 
 pub after-plan-spec : {M : Type 1} → statement M
-after-plan-spec = tie.close (tie.spec check-tables-requires enum-known-fault returns enum-told mul-cells ends-fault-requires returns-2 cast-if2 mul-if2 returns-3 route-ready-requires same-length same-length-2 returns-4)
+after-plan-spec = tie.close (tie.spec check-tables-requires enum-known-fault returns enum-told mul-cells ends-fault-requires returns-2 cast-if2 mul-if2 returns-3 costs-of-requires route-ready-requires same-length same-length-2 returns-4)

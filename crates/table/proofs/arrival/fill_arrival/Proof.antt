@@ -6,9 +6,10 @@ use native.Mathlib.Omega.{arith}
 use borrow.Author.Needs.{needs}
 use borrow.Author.Tests.{eq-eqb, ne-eqb}
 use lib.ListN.{length, getD}
-use Rattle.timing.specs.Formulas.{registerDriver}
+use Rattle.costs.proofs.Own.{limit-own, gate-own}
 use Rattle.rows.specs.Words.{Filled}
-use Rattle.rows.specs.Rows.{rowWords, copied, raised}
+use Rattle.costs.specs.Costs.{rowWords}
+use Rattle.rows.specs.Rows.{copied, raised}
 use Rattle.rows.proofs.Words.{filled-as, filled-twice}
 use Rattle.table.specs.Problem.{seedOf}
 use Rattle.table.specs.ArrivalRow.{takesBuffers, buffered}
@@ -25,11 +26,10 @@ mul-to-2 c = search needs
 add-to : tie.Need-add-to
 add-to c = search needs
 
-cast-limit : tie.Need-cast-limit
-cast-limit c = search needs
-
 copy-row-requires : tie.Need-copy-row-requires
-copy-row-requires c κs = search needs
+copy-row-requires c κs =
+    let start = c .before .before .before .before .before in
+    (limit-own (start .pre .ready .costs .none), (omega (arith, start .pre .inside), omega (arith, start .pre .inside, start .pre .room)))
 
 shared-slice-read-takes-buffers : tie.Need-shared-slice-read-takes-buffers
 shared-slice-read-takes-buffers c = search needs
@@ -38,7 +38,14 @@ takes-buffers-requires : tie.Need-takes-buffers-requires
 takes-buffers-requires c κs = search needs
 
 raise-buffers-requires : tie.Need-raise-buffers-requires
-raise-buffers-requires c κs = search needs
+raise-buffers-requires c κs =
+    let start = c .before .before .before .before .before .before .before .before .before .before .before .before .before in
+    record {
+      valid = start .pre .ready .valid;
+      costed = start .pre .ready .costs .buffers;
+      before = omega (arith, start .pre .inside);
+      inside = omega (arith, start .pre .inside, start .pre .room, c .before .before .before .before .before .before .before .copy-row .ensures .same);
+    }
 
 mul-if2 : tie.Need-mul-if2
 mul-if2 c = search needs
@@ -56,11 +63,11 @@ mid c =
     let a = start .args in
     let to = length (a .plan .now) * 64 + a .cell * 64 in
     let test : c .before .takes-buffers .result ≡ takesBuffers (getD (a .plan .now) (a .cell) 0) (a .p) (a .cell) = c .before .takes-buffers .ensures in
-    let copy : Filled (copied (a .scratch .now) (a .cell) (a .p .elements .limit .0)) to rowWords (a .scratch .now) (c .before .before .before .before .before .copy-row .last .0) = c .before .before .before .before .before .copy-row .ensures in
+    let copy : Filled (copied (a .scratch .now) (a .cell) (a .p .elements .limit .0)) to rowWords (a .scratch .now) (c .before .before .before .before .before .copy-row .last .0) = rw (start .pre .ready .costs .none .limit) at (c .before .before .before .before .before .copy-row .ensures) in
     ⊎-elim
     (λ w.
-    let raise : Filled (buffered (c .before .before .before .before .before .copy-row .last .0) (a .cell) to (a .p .elements) (a .p .elements .count)) to rowWords (c .before .before .before .before .before .copy-row .last .0) (w .2 .last .0) = w .2 .ensures in
-    rw (w .5) (filled-as (filled-twice copy _ _ raise) _ (λ k h. buffered-through (a .p) (a .plan .now) (a .scratch .now) (a .cell) (start .pre .ready) (start .pre .inside) _ to k (sym test ∙ w .0 .taken) (λ j l. copy .low (a .cell * 64 + j) (omega arith)) (copy .done k h))))
+    let raise : Filled (buffered (c .before .before .before .before .before .copy-row .last .0) (a .cell) to (a .p .elements) (a .p .elements .count)) to rowWords (c .before .before .before .before .before .copy-row .last .0) (w .3 .last .0) = w .3 .ensures in
+    rw (w .6) (filled-as (filled-twice copy _ _ raise) _ (λ k h. buffered-through (a .p) (a .plan .now) (a .scratch .now) (a .cell) (start .pre .ready) (start .pre .inside) _ to k (sym test ∙ w .0 .taken) (λ j l. copy .low (a .cell * 64 + j) (omega arith)) (copy .done k h))))
     (λ w. rw (w .1) (filled-as copy _ (λ k h. copied-through (a .p) (a .plan .now) (a .scratch .now) (a .cell) (start .pre .ready) (start .pre .inside) (sym test ∙ w .0 .left) k)))
     (c .if1 .came)
 
@@ -73,18 +80,13 @@ mul-raise-row c = search needs
 add-raise-row : tie.Need-add-raise-row
 add-raise-row c = search needs
 
-driver-requires : tie.Need-driver-requires
-driver-requires c κs = search needs
-
 raise-row-requires : tie.Need-raise-row-requires
-unfolding registerDriver
 raise-row-requires c κs =
-    let start = c .before .before .before .before .before .before .before .before .before .before .before .before .before .before .before .before .before in
-    let driver : c .driver .result ≡ registerDriver (start .args .p .elements .register) = c .driver .ensures in
-    (rw driver (start .pre .ready .valid .register .driver), omega (arith, mid (c .before .before .before .before .before .before) .same, start .pre .room))
+    let start = c .before .before .before .before .before .before .before .before .before .before .before .before .before .before .before .before in
+    (gate-own (start .pre .ready .costs .register), omega (arith, mid (c .before .before .before .before .before) .same, start .pre .room))
 
 same-length : tie.Need-same-length
-same-length c = c .before .before .raise-row .ensures .same ∙ mid (c .before .before .before .before .before .before .before .before .before) .same
+same-length c = c .before .before .raise-row .ensures .same ∙ mid (c .before .before .before .before .before .before .before .before) .same
 
 -- the seed flag is as it was
 flag : (c : tie.Joined1) → let a = c .before .before .before .before .before .before .before .before .before .before .before .args in let k = length (a .plan .now) * 135 + a .cell in getD (c .if1 .scratch) k 0 ≡ getD (a .scratch .now) k 0
@@ -95,13 +97,13 @@ flag c =
 returns : tie.Need-returns
 unfolding seedOf
 returns c =
-    let join = c .before .before .before .before .before .before .before .before .before in
+    let join = c .before .before .before .before .before .before .before .before in
     let start = join .before .before .before .before .before .before .before .before .before .before .before in
     let a = start .args in
     let to = length (a .plan .now) * 64 + a .cell * 64 in
-    let driver : c .before .before .before .driver .result ≡ registerDriver (a .p .elements .register) = c .before .before .before .driver .ensures in
-    let raise : Filled (raised (join .if1 .scratch) to (2 * a .p .elements .period + 1) (c .before .before .before .driver .result) (a .p .elements .limit .0)) to rowWords (join .if1 .scratch) (c .before .before .raise-row .last .0) = c .before .before .raise-row .ensures in
-    filled-as (filled-twice (mid join) _ _ (rw driver at raise)) _ (λ k h. raised-arrival (a .p) (a .plan .now) (a .scratch .now) (a .cell) (start .pre .ready) (start .pre .inside) _ to k (eq-eqb _ _ (sym (flag join) ∙ c .before .before .before .before .before .before .before .if2 .taken)) h (mid join .done k h))
+    let costed = start .pre .ready .costs .register in
+    let raise : Filled (raised (join .if1 .scratch) to (2 * a .p .elements .period + 1) (a .p .costs .register .driver) (a .p .costs .register .limit)) to rowWords (join .if1 .scratch) (c .before .before .raise-row .last .0) = c .before .before .raise-row .ensures in
+    filled-as (filled-twice (mid join) _ _ (rw (costed .driver, costed .limit) at raise)) _ (λ k h. raised-arrival (a .p) (a .plan .now) (a .scratch .now) (a .cell) (start .pre .ready) (start .pre .inside) _ to k (eq-eqb _ _ (sym (flag join) ∙ c .before .before .before .before .before .before .if2 .taken)) h (mid join .done k h))
 
 same-length-2 : tie.Need-same-length-2
 same-length-2 c = mid (c .before .before) .same
@@ -121,7 +123,6 @@ fill-arrival-spec =
     mul-to
     mul-to-2
     add-to
-    cast-limit
     copy-row-requires
     shared-slice-read-takes-buffers
     takes-buffers-requires
@@ -132,7 +133,6 @@ fill-arrival-spec =
     slice-read-if2
     mul-raise-row
     add-raise-row
-    driver-requires
     raise-row-requires
     same-length
     returns

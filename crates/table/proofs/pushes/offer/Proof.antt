@@ -10,7 +10,7 @@ use Rattle.table.proofs.pushes.offer.Tie as tie
 returns : tie.Need-returns
 returns c =
     let a = c .before .before .args in
-    offer-none (a .n) (a .cell) (a .to) (a .wire) (a .limit) (a .next) _ (c .before .before .pre) (c .if1 .taken)
+    offer-none (a .n) (a .cell) (a .to) (a .costs .wire) (a .costs .limit) (a .next) _ (c .before .before .pre .0) (c .if1 .taken)
 
 mul-push-row : tie.Need-mul-push-row
 mul-push-row c = search needs
@@ -27,7 +27,7 @@ mul-push-row-3 c = search needs
 push-row-requires : tie.Need-push-row-requires
 push-row-requires c κs =
     let a = c .before .before .before .pre in
-    (a .wireFits, (a .light, (omega arith, omega (arith, a .cellIn, a .room))))
+    (a .0 .wireFits, (a .1, (omega arith, omega (arith, a .0 .cellIn, a .0 .room))))
 
 mul-enlist : tie.Need-mul-enlist
 mul-enlist c = search needs
@@ -36,10 +36,10 @@ enlist-requires : tie.Need-enlist-requires
 enlist-requires c κs =
     let s = c .before .before .before .before .before .before .before .before in
     let f = c .before .before .before .before .push-row .ensures .filled in
-    let few = listed-count (s .pre .listed) in
+    let few = listed-count (s .pre .0 .listed) in
     let inPlan : s .args .to < s .args .n = omega arith in (
-      listed-kept (s .pre .listed) _ (λ k h. f .high (s .args .n * 134 + k) (omega arith)) (λ i h. f .high (s .args .n * 133 + i) (omega arith)),
-      (inPlan, (s .pre .few, (omega arith, omega (arith, f .same, s .pre .room)))),
+      listed-kept (s .pre .0 .listed) _ (λ k h. f .high (s .args .n * 134 + k) (omega arith)) (λ i h. f .high (s .args .n * 133 + i) (omega arith)),
+      (inPlan, (s .pre .0 .few, (omega arith, omega (arith, f .same, s .pre .0 .room)))),
     )
 
 same-length : tie.Need-same-length
@@ -49,7 +49,7 @@ returns-2 : tie.Need-returns-2
 returns-2 c =
     let s = c .before .before .before .before .before .before .before .before .before .before .before in
     let a = s .args in
-    offer-grew (a .n) (a .cell) (a .to) (a .wire) (a .limit) (a .next) _ (s .pre) _ (omega arith) _ (c .before .before .before .before .before .before .before .push-row .ensures) _ _ (c .before .before .before .before .if2 .taken) (c .before .before .enlist .ensures)
+    offer-grew (a .n) (a .cell) (a .to) (a .costs .wire) (a .costs .limit) (a .next) _ (s .pre .0) _ (omega arith) _ (c .before .before .before .before .before .before .before .push-row .ensures) _ _ (c .before .before .before .before .if2 .taken) (c .before .before .enlist .ensures)
 
 same-length-2 : tie.Need-same-length-2
 same-length-2 c = search needs
@@ -58,7 +58,7 @@ returns-3 : tie.Need-returns-3
 returns-3 c =
     let s = c .before .before .before .before .before .before .before in
     let a = s .args in
-    offer-quiet (a .n) (a .cell) (a .to) (a .wire) (a .limit) (a .next) _ (s .pre) _ (omega arith) _ (c .before .before .before .push-row .ensures) (c .if2 .left)
+    offer-quiet (a .n) (a .cell) (a .to) (a .costs .wire) (a .costs .limit) (a .next) _ (s .pre .0) _ (omega arith) _ (c .before .before .before .push-row .ensures) (c .if2 .left)
 
 pub offer-spec : {M : Type 1} → statement M
 offer-spec = tie.close (tie.spec returns mul-push-row mul-push-row-2 add-push-row mul-push-row-3 push-row-requires mul-enlist enlist-requires same-length returns-2 same-length-2 returns-3)

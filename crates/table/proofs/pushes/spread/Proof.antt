@@ -1,7 +1,6 @@
 -- `table::pushes::spread` meets its contract: the four offers, by proofs/Spreads.
 use mathlib.Core.Path.{refl, _∙_}
 use native.Mathlib.Omega.{arith}
-use borrow.Author.Needs.{needs}
 use Rattle.plan.proofs.Sides.{ascending}
 use Rattle.table.specs.Problem.{planFor}
 use Rattle.table.proofs.Spreads.{cells-are, cells-product, offer-asks, spread-whole}
@@ -14,14 +13,11 @@ neighbours-of-requires c κs =
     let s = c .before .before in
     (s .pre .ready .sized, omega (arith, cells-product _ _ (s .pre .ready), s .pre .cellIn))
 
-cast-limit : tie.Need-cast-limit
-cast-limit c = search needs
-
 offer-requires : tie.Need-offer-requires
 unfolding planFor
 offer-requires c κs =
     let s = c .before .before .before .before .before .before in
-    offer-asks (s .args .p) (s .args .plan .now) (s .args .cell) (s .args .next) (s .args .scratch .now) (s .pre) _ _ _ _
+    offer-asks (s .args .p) (s .args .plan .now) (s .args .cell) (s .args .next) (s .args .scratch .now) (s .pre) _ _ _ _ _ (s .pre .ready .costs .vertical)
     (rw (c .before .before .before .neighbours-of .ensures) (ascending _ (s .pre .ready .sized) (s .args .cell) (omega (arith, cells-are _ _ (s .pre .ready), s .pre .cellIn)) .up-most))
     (s .pre .ready .valid .vertical) (refl) (s .pre .listed)
 
@@ -29,7 +25,7 @@ offer-requires-2 : tie.Need-offer-requires-2
 unfolding planFor
 offer-requires-2 c κs =
     let s = c .before .before .before .before .before .before .before .before .before .before in
-    offer-asks (s .args .p) (s .args .plan .now) (s .args .cell) (s .args .next) (s .args .scratch .now) (s .pre) _ _ _ _
+    offer-asks (s .args .p) (s .args .plan .now) (s .args .cell) (s .args .next) (s .args .scratch .now) (s .pre) _ _ _ _ _ (s .pre .ready .costs .horizontal)
     (rw (c .before .before .before .before .before .before .before .neighbours-of .ensures) (ascending _ (s .pre .ready .sized) (s .args .cell) (omega (arith, cells-are _ _ (s .pre .ready), s .pre .cellIn)) .left-most))
     (s .pre .ready .valid .horizontal) ((c .before .before .before .offer .ensures .raised .same)) (c .before .before .before .offer .ensures .raised .listed)
 
@@ -37,7 +33,7 @@ offer-requires-3 : tie.Need-offer-requires-3
 unfolding planFor
 offer-requires-3 c κs =
     let s = c .before .before .before .before .before .before .before .before .before .before .before .before .before .before in
-    offer-asks (s .args .p) (s .args .plan .now) (s .args .cell) (s .args .next) (s .args .scratch .now) (s .pre) _ _ _ _
+    offer-asks (s .args .p) (s .args .plan .now) (s .args .cell) (s .args .next) (s .args .scratch .now) (s .pre) _ _ _ _ _ (s .pre .ready .costs .horizontal)
     (rw (c .before .before .before .before .before .before .before .before .before .before .before .neighbours-of .ensures) (ascending _ (s .pre .ready .sized) (s .args .cell) (omega (arith, cells-are _ _ (s .pre .ready), s .pre .cellIn)) .right-most))
     (s .pre .ready .valid .horizontal) ((c .before .before .before .offer2 .ensures .raised .same) ∙ (c .before .before .before .before .before .before .before .offer .ensures .raised .same)) (c .before .before .before .offer2 .ensures .raised .listed)
 
@@ -45,7 +41,7 @@ offer-requires-4 : tie.Need-offer-requires-4
 unfolding planFor
 offer-requires-4 c κs =
     let s = c .before .before .before .before .before .before .before .before .before .before .before .before .before .before .before .before .before .before in
-    offer-asks (s .args .p) (s .args .plan .now) (s .args .cell) (s .args .next) (s .args .scratch .now) (s .pre) _ _ _ _
+    offer-asks (s .args .p) (s .args .plan .now) (s .args .cell) (s .args .next) (s .args .scratch .now) (s .pre) _ _ _ _ _ (s .pre .ready .costs .vertical)
     (rw (c .before .before .before .before .before .before .before .before .before .before .before .before .before .before .before .neighbours-of .ensures) (ascending _ (s .pre .ready .sized) (s .args .cell) (omega (arith, cells-are _ _ (s .pre .ready), s .pre .cellIn)) .down-most))
     (s .pre .ready .valid .vertical) ((c .before .before .before .offer3 .ensures .raised .same) ∙ (c .before .before .before .before .before .before .before .offer2 .ensures .raised .same) ∙ (c .before .before .before .before .before .before .before .before .before .before .before .offer .ensures .raised .same)) (c .before .before .before .offer3 .ensures .raised .listed)
 
@@ -57,8 +53,10 @@ unfolding planFor
 returns c =
     let s = c .before .before .before .before .before .before .before .before .before .before .before .before .before .before .before .before .before .before .before .before .before in
     let e = c .before .before .before .before .before .before .before .before .before .before .before .before .before .before .before .before .before .before .neighbours-of .ensures in
+    let h = s .pre .ready .costs .horizontal in
+    let v = s .pre .ready .costs .vertical in
     spread-whole (s .args .p) (s .args .plan .now) (s .args .cell) (s .args .next) (s .args .scratch .now) (s .pre) _ _ _ _ _ _ _ _
-    (rw e at (c .before .before .before .before .before .before .before .before .before .before .before .before .before .before .offer .ensures)) (rw e at (c .before .before .before .before .before .before .before .before .before .before .offer2 .ensures)) (rw e at (c .before .before .before .before .before .before .offer3 .ensures)) (rw e at (c .before .before .offer4 .ensures))
+    (rw (e, v .wire, v .limit) at (c .before .before .before .before .before .before .before .before .before .before .before .before .before .before .offer .ensures)) (rw (e, h .wire, h .limit) at (c .before .before .before .before .before .before .before .before .before .before .offer2 .ensures)) (rw (e, h .wire, h .limit) at (c .before .before .before .before .before .before .offer3 .ensures)) (rw (e, v .wire, v .limit) at (c .before .before .offer4 .ensures))
 
 pub spread-spec : {M : Type 1} → statement M
-spread-spec = tie.close (tie.spec neighbours-of-requires cast-limit offer-requires offer-requires-2 offer-requires-3 offer-requires-4 same-length returns)
+spread-spec = tie.close (tie.spec neighbours-of-requires offer-requires offer-requires-2 offer-requires-3 offer-requires-4 same-length returns)

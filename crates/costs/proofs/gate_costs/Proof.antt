@@ -1,0 +1,75 @@
+-- The words before load l are written.
+use Prim.Native.Nat.{_-_}
+use mathlib.Core.Path.{refl, _∙_}
+use mathlib.Core.Logic.{⊎-elim}
+use native.Mathlib.Omega.{arith}
+use borrow.Author.Needs.{needs}
+use borrow.Author.Tests.{le-leb, lt-leb}
+use Rattle.timing.proofs.Bounds.{gate-delay-max}
+use Rattle.costs.specs.Costs.{rowWords, gateCost}
+use Rattle.costs.proofs.Written.{Written, written-none, written-more, written-row}
+use Rattle.costs.proofs.gate_costs.Statement.{statement}
+use Rattle.costs.proofs.gate_costs.Tie as tie
+
+abbrev Inv-loop : tie.InvT-loop
+Inv-loop driver limit row₀ l₀ row l = Written (gateCost driver limit) l row
+
+abbrev μ-loop : tie.MeasureT-loop
+μ-loop driver limit row₀ l₀ row l = rowWords - l
+
+loop-holds : tie.Need-loop-holds Inv-loop μ-loop
+loop-holds c = written-none _
+
+cast-t11 : tie.Need-cast-t11 Inv-loop μ-loop
+cast-t11 c = omega arith
+
+delay-requires : tie.Need-delay-requires Inv-loop μ-loop
+delay-requires c κs = search needs
+
+cast-delay : tie.Need-cast-delay Inv-loop μ-loop
+cast-delay c =
+    let start = c .before .before .before in
+    omega (arith, c .delay .ensures, gate-delay-max (start .args .driver) (c .before .before .loop .l) (start .pre) (omega arith))
+
+mul-row : tie.Need-mul-row Inv-loop μ-loop
+mul-row c = omega arith
+
+array-write-row : tie.Need-array-write-row Inv-loop μ-loop
+array-write-row c = omega arith
+
+add-l : tie.Need-add-l Inv-loop μ-loop
+add-l c = omega arith
+
+loop-less : tie.Need-loop-less Inv-loop μ-loop
+loop-less c = omega arith
+
+loop-again : tie.Need-loop-again Inv-loop μ-loop
+unfolding gateCost
+loop-again c =
+    let loop = c .before .before .before .loop in
+    let limit = c .before .before .before .before .args .limit in
+    written-more (loop .inv) _ (omega arith)
+    (⊎-elim
+    (λ w. simp (le-leb (loop .l) limit (omega arith)) (w .1 ∙ c .before .delay .ensures))
+    (λ w. simp (lt-leb (loop .l) limit (omega arith)) (w .1))
+    (c .if1 .came))
+
+returns : tie.Need-returns Inv-loop μ-loop
+returns c = record { driver = refl; limit = refl; row = written-row (c .before .loop .inv) (omega arith) }
+
+pub gate-costs-spec : {M : Type 1} → statement M
+gate-costs-spec =
+    tie.close
+    (tie.spec
+    Inv-loop
+    μ-loop
+    loop-holds
+    cast-t11
+    delay-requires
+    cast-delay
+    mul-row
+    array-write-row
+    add-l
+    loop-less
+    loop-again
+    returns)
