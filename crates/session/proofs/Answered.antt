@@ -18,7 +18,7 @@ use Rattle.session.specs.declared.journal.Entry.{Entry}
 use Rattle.session.specs.Numbers.{isDone}
 use Rattle.session.specs.Journal.{journalBytes, depthMax, entryAt}
 use Rattle.session.specs.Answers.{after, answerFor, planAnswer, openAnswer, sessionAnswer, moveAnswer, corrupt, newestAt, undoAnswer}
-use Rattle.session.proofs.Done.{after-first, after-rest, after-done}
+use Rattle.session.proofs.Done.{after-first, after-rest}
 
 -- a chain of tests that is answered met none of its refusals
 passed : (b : Bool) (x rest : SessionAnswer) → isDone x ≡ false → cond b x rest ≡ SessionAnswer.Done → (b ≡ false) × (rest ≡ SessionAnswer.Done)

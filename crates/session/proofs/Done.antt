@@ -1,12 +1,11 @@
 -- Answered or refused: the cases of an answer, and the chains of checks.
 use Prim.Native.Nat.{ℕ}
-use mathlib.Core.Bool.{Bool, true, false, cond}
+use mathlib.Core.Bool.{Bool, true, false}
 use mathlib.Core.Path.{_≡_, refl}
 use native.Mathlib.Omega.{arith}
-use lib.Dec.{eqb}
 use Rattle.session.specs.declared.records.SessionAnswer.{SessionAnswer}
 use Rattle.session.specs.declared.records.SessionAnswer.the-variants.{Done, Grid, Length, Mark, JournalShort, Depth, JournalFull, NothingToUndo, CorruptJournal, Cell}
-use Rattle.session.specs.Numbers.{isDone, sessionNumber}
+use Rattle.session.specs.Numbers.{isDone}
 use Rattle.session.specs.Answers.{after}
 
 -- only Done is answered

@@ -6,7 +6,7 @@ use mathlib.Core.Bool.{Bool, true, false}
 use mathlib.Core.List.{List, [], _∷_, _++_}
 use mathlib.Core.Path.{_≡_, refl, sym, ap, _∙_}
 use borrow.Author.Tests.{lt-leb}
-use lib.ListN.{length, take, drop}
+use lib.ListN.{length, drop}
 use lib.Seq.{take-at, drop-at}
 use Rattle.plan.specs.Plan.{Plan, cells}
 use Rattle.plan.specs.Check.{gridFault, checkedPlan}
@@ -20,7 +20,7 @@ use Rattle.session.proofs.Done.{done-is}
 use Rattle.session.proofs.Answered.{open-done}
 use Rattle.router.specs.Route.{checks, passes, visitsOf}
 use Rattle.router.proofs.Demand2.{Demand2, demand-2}
-use Rattle.session_model.specs.Asks.{RouteAsk, Ask, Alike, asked, routeGives, gives, checkedReply, answerTo}
+use Rattle.session_model.specs.Asks.{RouteAsk, Ask, Alike, asked, routeGives, gives, checkedReply}
 use Rattle.session_model.specs.Calls.{Move, Call, move, undo, ask, number, reply}
 use Rattle.session_model.specs.Model.{laid, entries, history, moveNumber, standing, modelGives, modelView, modelLines, standingAfter}
 use Rattle.session_model.specs.Run.{start, callGives, next, viewOf, sessionLines, stateAfter, movesOf}

@@ -1,10 +1,10 @@
 -- The journal of the standing moves: a move adds an entry, an undo finds the newest and zeroes it.
 use Prim.Native.Nat.{ℕ, suc, _+_, _*_, _-_, _/_, _%_, _≤_, _<_}
 use mathlib.Core.List.{List, [], _∷_, _++_, append-assoc}
-use mathlib.Core.Path.{_≡_, refl, sym, ap, _∙_}
+use mathlib.Core.Path.{_≡_, refl, sym, _∙_}
 use native.Mathlib.Nat.{div-add-mod'}
 use native.Mathlib.Omega.{arith}
-use lib.ListN.{length, getD, take, drop, replicate, length-append, length-replicate, replicate-append-replicate}
+use lib.ListN.{length, getD, replicate, length-append, length-replicate, replicate-append-replicate}
 use lib.Seq.{sets, sets-eq, take-append-seam, drop-append-seam, drop-append-add, getD-append-seam, getD-append-add}
 use Rattle.session.specs.Journal.{journalBytes, entryBytes, depthMax, entryAt, entryOf, writtenEntry}
 use Rattle.session.specs.Steps.{moveEntry, noEntry}

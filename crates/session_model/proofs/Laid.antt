@@ -3,12 +3,12 @@ use Prim.Native.Nat.{ℕ, _*_, _<_}
 use mathlib.Core.Bool.{false}
 use mathlib.Core.List.{List, [], _∷_}
 use mathlib.Core.Logic.{_⊎_, inl, inr}
-use mathlib.Core.Path.{_≡_, refl, sym, ap, _∙_}
+use mathlib.Core.Path.{_≡_, _∙_}
 use native.Mathlib.Omega.{arith}
 use lib.ListN.{length, getD, set, length-set}
 use lib.Seq.{getD-set-same, getD-set-other, set-set, set-getD}
 use Rattle.plan.specs.Plan.{Plan, Sized, planOf, cells, marksAt}
-use Rattle.plan.specs.Check.{checkedPlan, invalidMark, invalidAt}
+use Rattle.plan.specs.Check.{checkedPlan, invalidMark}
 use Rattle.plan.specs.declared.PlanCheck.{PlanCheck}
 use Rattle.plan.proofs.Check.{valid, checked-is, valid-sized, valid-marks}
 use Rattle.plan.proofs.Truth.{equal}
@@ -20,11 +20,6 @@ use Rattle.session_model.specs.Model.{laid}
 pub data Stands (p : Plan) : List Move → Type 0 where
   none : Stands p []
   more : {m : Move} {moves : List Move} → Stands p moves → m .cell < p .width * p .height → invalidMark (p .width) (p .height) (m .cell) (m .marks) ≡ false → length moves < depthMax → Stands p (m ∷ moves)
-
-pub laid-length : (marks : List ℕ) (moves : List Move) → length (laid marks moves) ≡ length marks
-unfolding laid
-laid-length marks [] = refl
-laid-length marks (m ∷ before) = length-set (laid marks before) (m .cell) (m .marks) ∙ laid-length marks before
 
 -- valid marks on a cell of a valid plan leave it valid
 module _ (w h c m : ℕ) (marks : List ℕ) (ok : checkedPlan (planOf w h marks) ≡ PlanCheck.Valid) (inside : c < w * h) (fair : invalidMark w h c m ≡ false) where

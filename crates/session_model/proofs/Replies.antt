@@ -1,11 +1,11 @@
 -- What the route call hands back and fills is what the rules give, from the lengths of what it is lent alone.
 use Prim.Native.Nat.{ℕ, _+_, _*_, _<_}
 use mathlib.Core.Bool.{Bool, true, false, cond}
-use mathlib.Core.List.{List, [], _∷_, _++_}
-use mathlib.Core.Path.{_≡_, refl, sym, ap, _∙_}
+use mathlib.Core.List.{List, [], _∷_}
+use mathlib.Core.Path.{_≡_, refl, ap}
 use native.Mathlib.Omega.{arith}
 use lib.Dec.{T, leb, ltb}
-use lib.ListN.{length, take, drop, replicate, length-replicate}
+use lib.ListN.{length, take, replicate, length-replicate}
 use lib.Seq.{take-at}
 use Rattle.plan.specs.Plan.{planOf}
 use Rattle.plan.specs.Check.{checkedPlan}
@@ -25,7 +25,7 @@ use Rattle.answers.specs.declared.answer.Refusal.{Refusal}
 use Rattle.emission.proofs.Visits.{written-length}
 use Rattle.router.specs.Route.{Question, rulesAsked, cellsAsked, cellWords, Check, passes, fails, afterPlan, afterTables, checks, figuresOf, answerFor, answerAfter, answerOf, visitsFor, visitsAfter, visitsOf, zeroed, scratchAfter, scratchOf}
 use Rattle.router.proofs.Passed.{passed-valid}
-use Rattle.session_model.specs.Asks.{RouteAsk, RouteReply, Ask, route, routed, Alike, routes, asked, filledWords, zeroes, zeroedWords, routeGives, gives, zeros, bestReply, checkedReply, answerTo}
+use Rattle.session_model.specs.Asks.{Ask, route, routed, Alike, routes, asked, filledWords, zeroes, zeroedWords, routeGives, gives, zeros, bestReply, checkedReply, answerTo}
 
 -- The refusals of the checks are 1 to 6: they zero nothing.
 

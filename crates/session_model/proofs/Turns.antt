@@ -2,30 +2,28 @@
 use Prim.Native.Nat.{ℕ, _+_, _*_, _-_, _≤_, _<_}
 use mathlib.Core.Bool.{Bool, true, false}
 use mathlib.Core.List.{List, [], _∷_, _++_}
-use mathlib.Core.Path.{_≡_, refl, sym, ap, _∙_}
+use mathlib.Core.Path.{_≡_, refl}
 use native.Mathlib.Numerals.{add-one}
 use native.Mathlib.Omega.{arith}
-use borrow.Author.Tests.{leb-false, leb-true, lt-leb, eq-eqb, ne-eqb}
-use lib.Dec.{eqb, leb}
-use lib.ListN.{length, getD, set, length-append}
+use borrow.Author.Tests.{leb-false, lt-leb, eq-eqb, ne-eqb}
+use lib.Dec.{leb}
+use lib.ListN.{length, length-append}
 use lib.Seq.{getD-set-same}
-use Rattle.plan.specs.Plan.{Plan, planOf, cells, marksAt}
+use Rattle.plan.specs.Plan.{Plan, cells, marksAt}
 use Rattle.plan.specs.Check.{checkedPlan, invalidMark}
 use Rattle.plan.specs.declared.PlanCheck.{PlanCheck}
 use Rattle.plan.proofs.Check.{valid-sized, valid-marks}
 use Rattle.session.specs.declared.records.Session.{Session}
 use Rattle.session.specs.declared.records.SessionAnswer.{SessionAnswer}
 use Rattle.session.specs.Numbers.{sessionNumber, isDone}
-use Rattle.session.specs.Journal.{journalBytes, entryBytes, depthMax, entryAt}
+use Rattle.session.specs.Journal.{entryBytes, depthMax, entryAt}
 use Rattle.session.specs.Answers.{after, moveAnswer, sessionAnswer, corrupt, newestAt, undoAnswer}
 use Rattle.session.specs.Steps.{State, stateOf, effect, moveEntry, withMove, moved, withUndo, undone}
-use Rattle.session.proofs.Done.{after-done}
-use Rattle.session.proofs.Answered.{Intact, done-session}
-use Rattle.session_model.specs.Asks.{Ask}
-use Rattle.session_model.specs.Calls.{Move, Call, move, undo, ask}
+use Rattle.session.proofs.Answered.{done-session}
+use Rattle.session_model.specs.Calls.{Move, Call, move, undo}
 use Rattle.session_model.specs.Model.{laid, history, moveNumber, undoNumber, withoutLast, standing, modelGives}
 use Rattle.session_model.specs.Run.{callGives, next}
-use Rattle.session_model.proofs.Laid.{Stands, none, more, laid-length, laid-valid, put-back}
+use Rattle.session_model.proofs.Laid.{Stands, none, more, laid-valid, put-back}
 use Rattle.session_model.proofs.Entries.{history-length, entry-added, entry-removed, entry-newest}
 
 -- the session of these standing moves; `rest`: the journal's bytes beyond the used ones

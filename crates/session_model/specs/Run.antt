@@ -4,7 +4,7 @@ use lib.ListN.{take}
 use Rattle.plan.specs.Plan.{Plan}
 use Rattle.session.specs.Numbers.{sessionNumber}
 use Rattle.session.specs.Journal.{journalBytes}
-use Rattle.session.specs.Steps.{State, Effect, opened, moved, undone}
+use Rattle.session.specs.Steps.{State, opened, moved, undone}
 use Rattle.session_model.specs.Asks.{gives}
 use Rattle.session_model.specs.Calls.{Move, Call, move, undo, ask, Given, number, reply, View, Line}
 use Prim.Native.Nat.{ℕ}

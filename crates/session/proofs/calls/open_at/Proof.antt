@@ -1,7 +1,6 @@
 -- An answered opening: the journal cleared. A refused one: a record of zeros.
 use mathlib.Core.Bool.{true}
 use mathlib.Core.Path.{_≡_, sym, ap, _∙_}
-use native.Mathlib.Omega.{arith}
 use borrow.Author.Needs.{needs}
 use lib.ListN.{length}
 use Rattle.session.specs.Numbers.{isDone}

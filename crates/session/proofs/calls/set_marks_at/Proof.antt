@@ -1,9 +1,9 @@
 -- An answered move: the store, the entry, the depth. A refused one: nothing.
-use mathlib.Core.Bool.{true, false}
-use mathlib.Core.Path.{_≡_, refl, sym, ap, _∙_}
+use mathlib.Core.Bool.{true}
+use mathlib.Core.Path.{_≡_, sym, ap, _∙_}
 use native.Mathlib.Omega.{arith}
 use borrow.Author.Needs.{needs}
-use lib.ListN.{length, length-set}
+use lib.ListN.{length}
 use Rattle.plan.specs.Plan.{cells}
 use Rattle.plan.proofs.Check.{valid-sized}
 use Rattle.session.specs.Numbers.{isDone}

@@ -1,9 +1,9 @@
 -- The bytes below i are zero, all others as they were.
 use Prim.Native.Nat.{_+_, _-_, _≤_}
 use mathlib.Core.List.{_++_}
-use mathlib.Core.Path.{_≡_, refl, ap, _∙_}
+use mathlib.Core.Path.{_≡_, refl}
 use native.Mathlib.Omega.{arith}
-use lib.ListN.{length, drop, replicate}
+use lib.ListN.{drop, replicate}
 use Rattle.session.specs.Journal.{cleared}
 use Rattle.session.proofs.Bytes.{clear-more, clear-length}
 use Rattle.session.proofs.journal.clear_journal.Statement.{statement}
