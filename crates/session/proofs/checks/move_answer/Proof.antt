@@ -1,4 +1,5 @@
 -- The tests after the shared ones, in the order of `moveAnswer`.
+use Prim.Native.Nat.{_*_}
 use mathlib.Core.Bool.{true}
 use mathlib.Core.Path.{_≡_, sym, _∙_}
 use native.Mathlib.Omega.{arith}
@@ -7,6 +8,7 @@ use borrow.Author.Tests.{le-leb, lt-leb}
 use Rattle.plan.specs.Plan.{cells}
 use Rattle.plan.proofs.Check.{valid-sized, cells-most}
 use Rattle.session.specs.Numbers.{isDone}
+use Rattle.session.specs.Journal.{depthMax}
 use Rattle.session.specs.Answers.{moveAnswer}
 use Rattle.session.proofs.Done.{done-is, after-done, after-refused}
 use Rattle.session.proofs.Answered.{Intact, session-done}
@@ -31,7 +33,7 @@ mul-if2 c = omega (arith, cells-most _ (valid-sized _ (intact (c .before) .opena
 
 returns : tie.Need-returns
 unfolding moveAnswer
-returns c = rw (← c .before .before .before .before .session-answer .ensures, after-done _ _ (done (c .before .before)), le-leb _ _ (c .if2 .taken))
+returns c = rw (← c .before .before .before .before .session-answer .ensures, after-done _ _ (done (c .before .before)), le-leb (c .before .before .before .before .before .before .args .s .width * c .before .before .before .before .before .before .args .s .height) (c .before .before .before .before .before .before .args .cell) (omega arith))
 
 invalid-mark-requires : tie.Need-invalid-mark-requires
 invalid-mark-requires c κs = valid-sized _ (intact (c .before .before) .openable .valid) .wide
@@ -42,11 +44,11 @@ returns-2 c = rw (← c .before .before .before .before .before .before .session
 
 returns-3 : tie.Need-returns-3
 unfolding moveAnswer
-returns-3 c = rw (← c .before .before .before .before .before .before .before .before .session-answer .ensures, after-done _ _ (done (c .before .before .before .before .before .before)), lt-leb _ _ (c .before .before .before .before .if2 .left), sym (c .before .before .before .invalid-mark .ensures) ∙ c .before .before .if3 .left, le-leb _ _ (c .if4 .taken))
+returns-3 c = rw (← c .before .before .before .before .before .before .before .before .session-answer .ensures, after-done _ _ (done (c .before .before .before .before .before .before)), lt-leb _ _ (c .before .before .before .before .if2 .left), sym (c .before .before .before .invalid-mark .ensures) ∙ c .before .before .if3 .left, le-leb depthMax (c .before .before .before .before .before .before .before .before .before .before .args .s .depth) (omega arith))
 
 returns-4 : tie.Need-returns-4
 unfolding moveAnswer
-returns-4 c = rw (← c .before .before .before .before .before .before .before .before .session-answer .ensures, after-done _ _ (done (c .before .before .before .before .before .before)), lt-leb _ _ (c .before .before .before .before .if2 .left), sym (c .before .before .before .invalid-mark .ensures) ∙ c .before .before .if3 .left, lt-leb _ _ (c .if4 .left)) (done-is _ (done (c .before .before .before .before .before .before)))
+returns-4 c = rw (← c .before .before .before .before .before .before .before .before .session-answer .ensures, after-done _ _ (done (c .before .before .before .before .before .before)), lt-leb _ _ (c .before .before .before .before .if2 .left), sym (c .before .before .before .invalid-mark .ensures) ∙ c .before .before .if3 .left, lt-leb depthMax (c .before .before .before .before .before .before .before .before .before .before .args .s .depth) (omega arith)) (done-is _ (done (c .before .before .before .before .before .before)))
 
 returns-5 : tie.Need-returns-5
 unfolding moveAnswer

@@ -1,7 +1,9 @@
 -- The first refusal, or the one test more.
 use mathlib.Core.Path.{sym, _∙_}
+use native.Mathlib.Omega.{arith}
 use borrow.Author.Needs.{needs}
 use borrow.Author.Tests.{lt-ltb, le-ltb}
+use Rattle.session.specs.Journal.{journalBytes}
 use Rattle.session.specs.Answers.{openAnswer}
 use Rattle.session.proofs.Done.{done-is, after-done, after-refused}
 use Rattle.session.proofs.checks.open_answer.Statement.{statement}
@@ -17,13 +19,13 @@ returns : tie.Need-returns
 unfolding openAnswer
 returns c =
     let done = sym (c .before .before .is-done .ensures) ∙ c .before .if1 .taken in
-    rw (← c .before .before .before .plan-answer .ensures, after-done _ _ done, lt-ltb _ _ (c .if2 .taken))
+    rw (← c .before .before .before .plan-answer .ensures, after-done _ _ done, lt-ltb (c .before .before .before .before .before .args .room) journalBytes (omega arith))
 
 returns-2 : tie.Need-returns-2
 unfolding openAnswer
 returns-2 c =
     let done = sym (c .before .before .is-done .ensures) ∙ c .before .if1 .taken in
-    rw (← c .before .before .before .plan-answer .ensures, after-done _ _ done, le-ltb _ _ (c .if2 .left)) (done-is _ done)
+    rw (← c .before .before .before .plan-answer .ensures, after-done _ _ done, le-ltb (c .before .before .before .before .before .args .room) journalBytes (omega arith)) (done-is _ done)
 
 returns-3 : tie.Need-returns-3
 unfolding openAnswer

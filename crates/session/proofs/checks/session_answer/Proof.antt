@@ -1,7 +1,9 @@
 -- The first refusal, or the one test more.
 use mathlib.Core.Path.{sym, _∙_}
+use native.Mathlib.Omega.{arith}
 use borrow.Author.Needs.{needs}
 use borrow.Author.Tests.{lt-ltb, le-ltb}
+use Rattle.session.specs.Journal.{depthMax}
 use Rattle.session.specs.Answers.{sessionAnswer}
 use Rattle.session.proofs.Done.{done-is, after-done, after-refused}
 use Rattle.session.proofs.checks.session_answer.Statement.{statement}
@@ -17,13 +19,13 @@ returns : tie.Need-returns
 unfolding sessionAnswer
 returns c =
     let done = sym (c .before .before .before .is-done .ensures) ∙ c .before .before .if1 .taken in
-    rw (← c .before .before .before .before .open-answer .ensures, after-done _ _ done, lt-ltb _ _ (c .if2 .taken))
+    rw (← c .before .before .before .before .open-answer .ensures, after-done _ _ done, lt-ltb depthMax (c .before .before .before .before .before .before .args .s .depth) (omega arith))
 
 returns-2 : tie.Need-returns-2
 unfolding sessionAnswer
 returns-2 c =
     let done = sym (c .before .before .before .is-done .ensures) ∙ c .before .before .if1 .taken in
-    rw (← c .before .before .before .before .open-answer .ensures, after-done _ _ done, le-ltb _ _ (c .if2 .left)) (done-is _ done)
+    rw (← c .before .before .before .before .open-answer .ensures, after-done _ _ done, le-ltb depthMax (c .before .before .before .before .before .before .args .s .depth) (omega arith)) (done-is _ done)
 
 returns-3 : tie.Need-returns-3
 unfolding sessionAnswer
