@@ -1,0 +1,4 @@
+pub mod Numbers
+pub mod Journal
+pub mod Answers
+pub mod Steps

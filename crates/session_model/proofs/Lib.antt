@@ -1,0 +1,5 @@
+pub mod Laid
+pub mod Entries
+pub mod Turns
+pub mod Replies
+pub mod Demand3

@@ -1,0 +1,4 @@
+pub mod Asks
+pub mod Calls
+pub mod Model
+pub mod Run
