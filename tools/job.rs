@@ -1,29 +1,12 @@
-// Turns a plan text into job bytes, and job bytes back into text. The format is told in examples/README.md.
+// Turns a plan text into job bytes, and job bytes back into text. The format is told in examples/README.md, which is its help.
 // It checks the form only: numbers outside their ranges pass, so that the planner's own refusals can be tried.
 
 use std::collections::BTreeMap;
 use std::io::{Read, Write};
 use std::process::ExitCode;
 
-const HELP: &str = "\
-usage: job write [TEXT]    a plan text (a file, or standard input) to job bytes on standard output
-       job read [JOB]      job bytes to a plan text
-       job --help
-
-A plan text has one named line for each part; # starts a comment. examples/README.md tells all of it.
-
-  row . t xt .| x_            one line for each plan row; a cell is . (open), x (blocked), t (clock tap), xt,
-                              with | if the wire to the right is cut, _ if the wire below is cut; or a number
-  register R 1 K 2 C 1 setup 1
-  horizontal R 2 C 3          wires, for each step
-  vertical R 2 C 3
-  period 25
-  limit 63                    load limit
-  source 0 2                  row and column, from 0; or one number, the cell
-  sink 2
-  buffer R 1 K 1 C 1          up to 6 such lines, or none
-  size 3 1                    width and height; only needed when there are no rows
-";
+const USAGE: &str = "usage: job write [TEXT], job read [JOB] or job --help\n";
+const HELP: &str = include_str!("../examples/README.md");
 
 const LARGEST: u64 = 65_535; // in a job
 const MARKS: [(char, u32); 4] = [('x', 1), ('t', 2), ('|', 4), ('_', 8)];
@@ -413,7 +396,7 @@ fn main() -> ExitCode {
     }
     let known = words.first().is_some_and(|word| word == "write" || word == "read");
     if !known || words.len() > 2 {
-        eprint!("{HELP}");
+        eprint!("{USAGE}");
         return ExitCode::from(2);
     }
     match run(&words) {

@@ -2,7 +2,9 @@
 // the whole text compared.
 //   brute PRINTER JOBS SEED [STATES]    STATES: the most states that one search may follow
 //   brute text < JOB                    the text that the brute force gives for one job
+//   brute sample JOBS SEED              random jobs, one a line, in hexadecimal
 
+mod cases;
 mod job;
 mod make;
 mod mix;
@@ -20,7 +22,7 @@ use std::sync::{Arc, Mutex};
 use std::time::{Duration, Instant};
 
 const STATES: usize = 60_000;
-const PATIENCE: Duration = Duration::from_secs(30); // for one job
+const PATIENCE: Duration = Duration::from_secs(20); // for one job
 const MISMATCHES: u64 = 5; // then the run stops
 
 // A program that is running on a job, for the watch.
@@ -82,19 +84,21 @@ fn compare(printer: &str, bytes: &[u8], expected: &str, running: &Running) -> bo
     false
 }
 
-// Document 01's cases: the brute force against the paper, and the program too.
-fn check_worked(printer: &str, running: &Running) -> bool {
+// Jobs with known texts: the brute force must give the text, and so must the program.
+fn check_cases(what: &str, cases: &[cases::Case], printer: &str, running: &Running) -> bool {
     let mut good = true;
-    let cases = worked::cases();
-    for (name, bytes, expected) in &cases {
-        let text = sheet::answer(bytes, usize::MAX).unwrap().text();
-        if text != *expected {
-            println!("the brute force fails at {name}: {text}");
+    for case in cases {
+        let text = sheet::answer(&case.bytes, usize::MAX).unwrap().text();
+        if text != case.text {
+            println!("the brute force fails at '{}': {text}", case.name);
             good = false;
         }
-        good &= compare(printer, bytes, expected, running);
+        if !compare(printer, &case.bytes, &case.text, running) {
+            println!("that was '{}'", case.name);
+            good = false;
+        }
     }
-    println!("worked cases of document 01: {}", cases.len());
+    println!("{what}: {} jobs", cases.len());
     good
 }
 
@@ -126,7 +130,9 @@ fn run(printer: &str, jobs: u64, seed: u64, states: usize) -> bool {
     let running: Running = Arc::new(Mutex::new(None));
     watch(running.clone());
     let start = Instant::now();
-    let mut good = check_worked(printer, &running) & check_search(seed);
+    let mut good = check_cases("document 01's cases", &worked::cases(), printer, &running);
+    good &= check_cases("faults, ranges and full size", &cases::cases(), printer, &running);
+    good &= check_search(seed);
     let mut r = Random(seed);
     let mut mix = mix::Mix::default();
     let mut mismatches = 0;
@@ -170,9 +176,15 @@ fn main() -> ExitCode {
     }
     let number = |at: usize| words.get(at).and_then(|word| word.parse::<u64>().ok());
     let (Some(jobs), Some(seed)) = (number(1), number(2)) else {
-        eprintln!("usage: brute PRINTER JOBS SEED [STATES], or brute text < JOB");
+        eprintln!("usage: brute PRINTER JOBS SEED [STATES], brute text < JOB or brute sample JOBS SEED");
         return ExitCode::from(2);
     };
+    if words[0] == "sample" {
+        let mut r = Random(seed);
+        let drawn = std::iter::from_fn(|| Some(make::job(&mut r, STATES))).flatten();
+        drawn.take(jobs as usize).for_each(|job| println!("{}", hex(&job.bytes)));
+        return ExitCode::SUCCESS;
+    }
     let states = number(3).map_or(STATES, |n| n as usize);
     if run(&words[0], jobs, seed, states) {
         ExitCode::SUCCESS

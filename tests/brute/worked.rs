@@ -1,5 +1,6 @@
 // Document 01's worked routes, R1 to R13, and the jobs that it names beside them, with their whole texts.
 
+use crate::cases::Case;
 use crate::job;
 use crate::rules::{Buffer, Problem, Register, Wire};
 
@@ -46,7 +47,7 @@ fn through(figures: &str, code: u32) -> String {
     format!("route {figures}\n2 7\n1 {code}\n0 7\n")
 }
 
-pub fn cases() -> Vec<(&'static str, Vec<u8>, String)> {
+pub fn cases() -> Vec<Case> {
     let none = || "none\n".to_string();
     let problems = vec![
         ("R1", strip(26), through("0 2 26", 0)),
@@ -64,10 +65,10 @@ pub fn cases() -> Vec<(&'static str, Vec<u8>, String)> {
         ("R13", two_rows(), "route 1 4 24\n2 7\n1 0\n4 7\n1 0\n0 7\n".to_string()),
         ("equal ends", Problem { source: 2, ..strip(25) }, "refused 5\n".to_string()),
     ];
-    let mut out: Vec<_> =
+    let mut jobs: Vec<_> =
         problems.into_iter().map(|(name, p, text)| (name, job::write(&job::numbers(&p)), text)).collect();
-    out.push(("empty job", vec![], "refused 15\n".to_string()));
+    jobs.push(("empty job", vec![], "refused 15\n".to_string()));
     let printed = vec![3, 1, 0, 2, 0, 1, 2, 1, 1, 2, 3, 2, 3, 25, 63, 0, 2, 0];
-    out.push(("document 01's job", printed, "route 1 2 50\n2 7\n1 7\n0 7\n".to_string()));
-    out
+    jobs.push(("document 01's job", printed, through("1 2 50", 7)));
+    jobs.into_iter().map(|(name, bytes, text)| Case { name: name.to_string(), bytes, text }).collect()
 }
