@@ -1,4 +1,4 @@
-// Turns a plan text into job bytes, and job bytes back into text. The format is told in examples/README.md, which is its help.
+// Turns a plan text into job bytes, and job bytes back into text. examples/README.md, its help, tells the format.
 // It checks the form only: numbers outside their ranges pass, so that the planner's own refusals can be tried.
 
 use std::collections::BTreeMap;
@@ -211,7 +211,10 @@ impl Parts {
         if let Some(name) = ONCE.iter().find(|name| !self.lines.contains_key(**name)) {
             return Err(at_end(format!("the text ends without the line '{name}'")));
         }
-        if self.job.buffers.len() as u64 > LARGEST || self.job.width as u64 > LARGEST || self.job.height as u64 > LARGEST {
+        if self.job.buffers.len() as u64 > LARGEST
+            || self.job.width as u64 > LARGEST
+            || self.job.height as u64 > LARGEST
+        {
             return Err(at_end(format!("more than {LARGEST} rows, columns or buffers")));
         }
         let (width, height) = (self.job.width, self.job.height);

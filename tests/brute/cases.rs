@@ -1,5 +1,5 @@
-// Jobs with their whole texts, beside document 01's worked routes: each fault of the reading at each number, each element
-// at the top of its range and one above it, the order of the refusals, full-size jobs.
+// Jobs with their whole texts, beside document 01's worked routes: each fault of the reading at each number, each
+// element at the top of its range and one above it, the order of the refusals, full-size jobs.
 
 use crate::job::{encode, numbers, write};
 use crate::rules::{Buffer, Problem, Register, Wire, CUT_BELOW};

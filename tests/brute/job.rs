@@ -51,12 +51,7 @@ pub fn read(bytes: &[u8]) -> Result<Problem, u32> {
         }
         p.marks.push(marks);
     }
-    p.register = Register {
-        r: cursor.number()?,
-        k: cursor.number()?,
-        c: cursor.number()?,
-        setup: cursor.number()?,
-    };
+    p.register = Register { r: cursor.number()?, k: cursor.number()?, c: cursor.number()?, setup: cursor.number()? };
     p.horizontal = cursor.wire()?;
     p.vertical = cursor.wire()?;
     p.period = cursor.number()?;

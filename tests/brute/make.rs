@@ -5,7 +5,8 @@ use crate::random::Random;
 use crate::rules::{legal, registers, Buffer, Problem, Register, Wire, BLOCKED, CUT_BELOW, CUT_RIGHT, TAP};
 use crate::search;
 
-pub const SHAPES: [&str; 7] = ["1xN", "2xN", "up to 5x5", "sparse taps", "dead ends", "crossings", "large"];
+pub const SHAPES: [&str; 8] = ["1xN", "2xN", "up to 5x5", "sparse taps", "dead ends", "crossings", "large", "ratchets"];
+const RATCHET: usize = 7;
 
 #[derive(Clone, Copy)]
 struct Density {
@@ -118,6 +119,65 @@ fn crossing(r: &mut Random) -> Problem {
     p.sink = r.below(p.height) * p.width + p.width - 1;
     if r.chance(50) {
         std::mem::swap(&mut p.source, &mut p.sink);
+    }
+    p
+}
+
+// Taps on branches from both ends of one path, k on each side, of which each is reached only from the one before it, by
+// the whole path: tests/printer/long.txt tells how. Then something may be changed.
+fn ratchet(r: &mut Random) -> Problem {
+    let (k, b) = r.pick(&[(3, 3), (3, 4), (3, 5), (4, 4), (4, 5), (5, 6)]);
+    let mut p = sized(k + 3, 2 * b - k + 4);
+    let w = p.width;
+    let block = b - k + 2; // the first row with branches
+    let at = |row: u32, column: u32| row * w + column;
+    let mut lines: Vec<Vec<u32>> = Vec::new(); // chains of joined cells
+    let mut taps = Vec::new();
+    for t in 0..k {
+        let row = block + t;
+        lines.push((0..=t + 1).map(|c| at(row, c)).collect());
+        lines.push((t + 2..=k + 1).map(|c| at(row, c)).collect());
+        taps.extend([at(row, t + 1), at(row, t + 2)]);
+    }
+    lines.push((block..=block + b).map(|row| at(row, 0)).collect());
+    lines.push((1..=block + k).map(|row| at(row, k + 1)).collect());
+    let (bottom, turn) = (p.height - 1, r.below(k));
+    let mut open: Vec<u32> = (block + b..bottom).map(|row| at(row, 0)).collect();
+    open.extend((0..w).map(|c| at(bottom, c)));
+    open.extend((0..bottom).rev().map(|row| at(row, w - 1)));
+    open.extend((turn..w - 1).rev().map(|c| at(0, c)));
+    open.extend((turn..=k).map(|c| at(1, c)));
+    lines.push(vec![at(1, k), at(1, k + 1)]);
+    lines.push(open.clone());
+    let joined = |a: u32, b: u32| lines.iter().any(|line| line.windows(2).any(|pair| pair == [a, b] || pair == [b, a]));
+    for cell in 0..p.cells() {
+        let mut m = if open.contains(&cell) { 0 } else { BLOCKED };
+        if taps.contains(&cell) {
+            m |= TAP;
+        }
+        if cell % w + 1 < w && !joined(cell, cell + 1) {
+            m |= CUT_RIGHT;
+        }
+        if cell / w + 1 < p.height && !joined(cell, cell + w) {
+            m |= CUT_BELOW;
+        }
+        p.marks[cell as usize] = m;
+    }
+    (p.sink, p.source) = (at(block + k, k + 1), at(block, 2));
+    let steep = r.within(2 * b, 2 * b + 6);
+    let load = b + steep + 1 - k;
+    p.register = Register { r: steep, k: 0, c: load, setup: 0 };
+    p.horizontal = Wire { r: 0, c: 1 };
+    p.vertical = Wire { r: 1, c: 0 };
+    p.buffers = vec![Buffer::default()];
+    p.period = b * load + 2 * steep + ((k - 1) * (k - 1) / 4).max(b + 1 - k);
+    p.limit = 63;
+    match r.below(6) {
+        0 => p.period += r.below(4),
+        1 => p.period -= r.below(4),
+        2 => p.marks[r.below(w * p.height - w) as usize] ^= r.pick(&[BLOCKED, TAP, CUT_BELOW]),
+        3 => std::mem::swap(&mut p.source, &mut p.sink),
+        _ => {}
     }
     p
 }
@@ -310,7 +370,10 @@ pub struct Job {
 // A problem within all ranges, with its shape. None: its search would follow too many states.
 pub fn problem(r: &mut Random, most: usize) -> Option<(usize, Problem)> {
     loop {
-        let shape = r.pick(&[0, 0, 0, 1, 1, 2, 2, 2, 3, 3, 3, 4, 4, 5, 6]);
+        let shape = r.pick(&[0, 0, 0, 1, 1, 2, 2, 2, 3, 3, 3, 4, 4, 5, 6, RATCHET]);
+        if shape == RATCHET {
+            return Some((shape, ratchet(r)));
+        }
         let mut p = plan(r, shape);
         let kind = if shape == 6 { r.pick(&[0, 0, 1, 4]) } else { r.pick(&[0, 0, 0, 1, 1, 2, 2, 3, 4]) };
         tables(r, &mut p, kind);
@@ -356,8 +419,7 @@ fn spoil(r: &mut Random, p: &Problem, list: &mut [u32]) {
         9 => list[tables + 9] = above(r, 63),
         10..=12 => {
             let end = r.below(2) as usize;
-            list[tables + 10 + end] =
-                if r.chance(40) { list[tables + 11 - end] } else { above(r, cells as u32 - 1) };
+            list[tables + 10 + end] = if r.chance(40) { list[tables + 11 - end] } else { above(r, cells as u32 - 1) };
         }
         _ => {
             if p.buffers.is_empty() || r.chance(30) {

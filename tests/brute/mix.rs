@@ -11,7 +11,7 @@ pub struct Mix {
     pub jobs: u64,
     pub damaged: u64,
     pub too_large: u64,
-    pub shapes: [u64; 7],
+    pub shapes: [u64; 8],
     registers: [u64; MANY + 1],
     none: u64,
     refusals: BTreeMap<u32, u64>,
@@ -22,9 +22,10 @@ pub struct Mix {
     most_registers: u32,
 }
 
-const KINDS: [&str; 12] = [
+const KINDS: [&str; 13] = [
     "longer than the Manhattan distance",
     "a cell passed twice",
+    "a cell passed five times",
     "a gate in a dead end",
     "over an end's cell",
     "with buffers",
@@ -37,7 +38,8 @@ const KINDS: [&str; 12] = [
     "T above 1,000",
 ];
 
-const FAULTS: [&str; 7] = ["T", "L", "horizontal", "vertical", "register", "count", "buffer"];
+// The faults behind refusal 4; the count's is found while reading and is counted apart.
+const FAULTS: [&str; 6] = ["T", "L", "horizontal", "vertical", "register", "buffer"];
 
 fn fault_name(fault: Fault) -> &'static str {
     match fault {
@@ -52,12 +54,6 @@ fn fault_name(fault: Fault) -> &'static str {
 }
 
 impl Mix {
-    fn note(&mut self, holds: bool, kind: &'static str) {
-        if holds {
-            *self.routes.entry(kind).or_default() += 1;
-        }
-    }
-
     fn count_route(&mut self, p: &Problem, route: &[Visit]) {
         let k = registers(route);
         let steps = route.len() - 1;
@@ -75,22 +71,28 @@ impl Mix {
         kinds.sort();
         kinds.dedup();
         let measured = legal(p, route).expect("the search's route is legal");
-        let twice = |sorted: &[u32]| sorted.windows(2).any(|pair| pair[0] == pair[1]);
+        let times = |sorted: &[u32], n: usize| sorted.windows(n).any(|same| same[0] == same[n - 1]);
         let turns_back = |at: usize| route[at].1 != 0 && route[at - 1].0 == route[at + 1].0;
         let least_spare = measured.closings.iter().map(|&c| 2 * p.period as u64 - c).min().unwrap();
-        self.note(steps as u32 > apart, KINDS[0]);
-        self.note(twice(&cells), KINDS[1]);
-        self.note((1..steps).any(turns_back), KINDS[2]);
-        self.note(inner.iter().any(|v| v.0 == p.source || v.0 == p.sink), KINDS[3]);
-        self.note(!kinds.is_empty(), KINDS[4]);
-        self.note(kinds.len() > 1, KINDS[5]);
-        self.note(!kinds.is_empty() && k > 0, KINDS[6]);
-        self.note(twice(&gates), KINDS[7]);
-        self.note(least_spare < 2, KINDS[8]);
-        self.note(measured.greatest_load == p.limit, KINDS[9]);
         let wires = [p.horizontal, p.vertical];
-        self.note(wires.iter().any(|wire| wire.r == 0 || wire.c == 0), KINDS[10]);
-        self.note(p.period > 1_000, KINDS[11]);
+        let holds = [
+            steps as u32 > apart,
+            times(&cells, 2),
+            times(&cells, 5),
+            (1..steps).any(turns_back),
+            inner.iter().any(|v| v.0 == p.source || v.0 == p.sink),
+            !kinds.is_empty(),
+            kinds.len() > 1,
+            !kinds.is_empty() && k > 0,
+            times(&gates, 2),
+            least_spare < 2,
+            measured.greatest_load == p.limit,
+            wires.iter().any(|wire| wire.r == 0 || wire.c == 0),
+            p.period > 1_000,
+        ];
+        for (kind, holds) in KINDS.into_iter().zip(holds) {
+            *self.routes.entry(kind).or_default() += holds as u64;
+        }
     }
 
     pub fn count(&mut self, answer: &Answer) {
@@ -122,15 +124,11 @@ impl Mix {
         let counts = self.registers.iter().enumerate();
         let name = |k: usize| if k == MANY { format!("{k} and more") } else { k.to_string() };
         println!("registers   {}", list(counts.map(|(k, &n)| (name(k), n)).collect()));
-        println!("routes      {}", by(&self.routes, &KINDS[..6]));
-        println!("            {}", by(&self.routes, &KINDS[6..]));
-        println!(
-            "largest     {} cells, {} steps, {} registers",
-            self.most_cells, self.most_steps, self.most_registers
-        );
+        println!("routes      {}", by(&self.routes, &KINDS[..7]));
+        println!("            {}", by(&self.routes, &KINDS[7..]));
+        println!("largest     {} cells, {} steps, {} registers", self.most_cells, self.most_steps, self.most_registers);
         println!("refused     {}", list(self.refusals.iter().map(|(n, c)| (n.to_string(), *c)).collect()));
-        println!("refused 4   {}, 4 at the count while reading: {}", by(&self.faults, &FAULTS[..5]), self.count_faults());
-        println!("            buffer: {}", self.faults.get("buffer").unwrap_or(&0));
+        println!("refused 4   {}, count: {}", by(&self.faults, &FAULTS), self.count_faults());
         println!("left out    {} drawn jobs whose search would follow too many states", self.too_large);
     }
 
@@ -160,7 +158,7 @@ impl Mix {
         for refusal in [1, 3, 4, 5, 15, 16] {
             need(*self.refusals.get(&refusal).unwrap_or(&0), 3, format!("refused {refusal}"));
         }
-        for fault in FAULTS.iter().filter(|&&f| f != "count") {
+        for fault in FAULTS {
             need(*self.faults.get(fault).unwrap_or(&0), 1, format!("refused 4 for {fault}"));
         }
         need(self.count_faults(), 1, "refused 4 for the count".to_string());

@@ -1,4 +1,4 @@
-// A check of the search: every list of visits up to some length, tested whole by the definition, ranked by the definition.
+// A check of the search: every list of visits up to some length, tested whole and ranked by the definition.
 
 use crate::rules::{legal, registers, Problem, Visit, REGISTER};
 use crate::search;

@@ -90,9 +90,7 @@ impl Problem {
         match code {
             0 => true,
             REGISTER => !self.is_end(cell) && marks & TAP != 0,
-            _ => {
-                code as usize <= self.buffers.len() && !self.is_end(cell) && marks & BLOCKED == 0
-            }
+            _ => code as usize <= self.buffers.len() && !self.is_end(cell) && marks & BLOCKED == 0,
         }
     }
 
@@ -102,9 +100,7 @@ impl Problem {
             let marks = self.marks[cell as usize];
             let last_column = cell % self.width == self.width - 1;
             let last_row = cell / self.width == self.height - 1;
-            marks > 15
-                || (last_column && marks & CUT_RIGHT != 0)
-                || (last_row && marks & CUT_BELOW != 0)
+            marks > 15 || (last_column && marks & CUT_RIGHT != 0) || (last_row && marks & CUT_BELOW != 0)
         })
     }
 

@@ -34,12 +34,7 @@ fn marked(marks: [u32; 3], p: Problem) -> Problem {
 }
 
 fn two_rows() -> Problem {
-    Problem {
-        height: 2,
-        marks: vec![0, 1, 0, 0, 2, 0],
-        vertical: Wire { r: 0, c: 0 },
-        ..strip(12)
-    }
+    Problem { height: 2, marks: vec![0, 1, 0, 0, 2, 0], vertical: Wire { r: 0, c: 0 }, ..strip(12) }
 }
 
 // The strip's route with this code in the middle.
