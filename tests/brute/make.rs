@@ -126,7 +126,7 @@ fn crossing(r: &mut Random) -> Problem {
 // Taps on branches from both ends of one path, k on each side, of which each is reached only from the one before it, by
 // the whole path: tests/printer/long.txt tells how. Then something may be changed.
 fn ratchet(r: &mut Random) -> Problem {
-    let (k, b) = r.pick(&[(3, 3), (3, 4), (3, 5), (4, 4), (4, 5), (5, 6)]);
+    let (k, b) = r.pick(&[(3, 3), (3, 4), (4, 4)]);
     let mut p = sized(k + 3, 2 * b - k + 4);
     let w = p.width;
     let block = b - k + 2; // the first row with branches
@@ -164,7 +164,7 @@ fn ratchet(r: &mut Random) -> Problem {
         p.marks[cell as usize] = m;
     }
     (p.sink, p.source) = (at(block + k, k + 1), at(block, 2));
-    let steep = r.within(2 * b, 2 * b + 6);
+    let steep = r.within(2 * b, 2 * b + 4);
     let load = b + steep + 1 - k;
     p.register = Register { r: steep, k: 0, c: load, setup: 0 };
     p.horizontal = Wire { r: 0, c: 1 };
