@@ -303,7 +303,7 @@ fn goal(r: &mut Random) -> Goal {
 }
 
 // What became of a drawn problem.
-pub enum Drawn {
+enum Drawn {
     Fits,
     NoRoute,  // not with the longest period
     TooLarge, // its search would follow too many states
@@ -385,7 +385,7 @@ pub fn problem(r: &mut Random, most: usize) -> Option<(usize, Problem)> {
     }
 }
 
-// One number set outside its range, or anywhere at all.
+// One number set outside its range.
 fn spoil(r: &mut Random, p: &Problem, list: &mut [u32]) {
     let cells = p.marks.len();
     let tables = 2 + cells;
