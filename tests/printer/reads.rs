@@ -16,6 +16,7 @@ fn printed(printer: &str, feed: impl FnOnce(UnixStream)) -> Vec<u8> {
     let child = Command::new(printer)
         .stdin(Stdio::from(OwnedFd::from(theirs)))
         .stdout(Stdio::piped())
+        .stderr(Stdio::null())
         .spawn()
         .expect("the program starts");
     feed(ours);
