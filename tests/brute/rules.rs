@@ -1,0 +1,200 @@
+// Document 01's rules, read position by position: the problem, what a legal route is, and the checks before a route.
+
+pub const REGISTER: u32 = 7; // gate code
+
+pub const BLOCKED: u32 = 1;
+pub const TAP: u32 = 2;
+pub const CUT_RIGHT: u32 = 4;
+pub const CUT_BELOW: u32 = 8;
+
+#[derive(Clone, Copy, Debug, Default, PartialEq)]
+pub struct Wire {
+    pub r: u32,
+    pub c: u32,
+}
+
+#[derive(Clone, Copy, Debug, Default, PartialEq)]
+pub struct Buffer {
+    pub r: u32,
+    pub k: u32,
+    pub c: u32,
+}
+
+#[derive(Clone, Copy, Debug, Default, PartialEq)]
+pub struct Register {
+    pub r: u32,
+    pub k: u32,
+    pub c: u32,
+    pub setup: u32,
+}
+
+// A job's numbers, in range or not.
+#[derive(Clone, Debug, Default, PartialEq)]
+pub struct Problem {
+    pub width: u32,
+    pub height: u32,
+    pub marks: Vec<u32>,
+    pub register: Register,
+    pub horizontal: Wire,
+    pub vertical: Wire,
+    pub period: u32,
+    pub limit: u32,
+    pub source: u32,
+    pub sink: u32,
+    pub buffers: Vec<Buffer>,
+}
+
+pub type Visit = (u32, u32); // cell, gate code
+
+#[derive(Clone, Copy, Debug, PartialEq)]
+pub enum Fault {
+    Period,
+    Limit,
+    Horizontal,
+    Vertical,
+    Register,
+    Count,
+    Buffer(usize),
+}
+
+impl Problem {
+    pub fn cells(&self) -> u32 {
+        self.width * self.height
+    }
+
+    // The uncut wire between two cells, if they are neighbours.
+    pub fn wire(&self, a: u32, b: u32) -> Option<Wire> {
+        let (low, high) = if a < b { (a, b) } else { (b, a) };
+        if high >= self.cells() {
+            return None;
+        }
+        let (low_row, low_column) = (low / self.width, low % self.width);
+        let (high_row, high_column) = (high / self.width, high % self.width);
+        let marks = self.marks[low as usize];
+        if low_row == high_row && low_column + 1 == high_column && marks & CUT_RIGHT == 0 {
+            return Some(self.horizontal);
+        }
+        if low_column == high_column && low_row + 1 == high_row && marks & CUT_BELOW == 0 {
+            return Some(self.vertical);
+        }
+        None
+    }
+
+    fn is_end(&self, cell: u32) -> bool {
+        cell == self.source || cell == self.sink
+    }
+
+    // May this gate code stand at this cell, between the ends of a route?
+    pub fn site(&self, cell: u32, code: u32) -> bool {
+        let marks = self.marks[cell as usize];
+        match code {
+            0 => true,
+            REGISTER => !self.is_end(cell) && marks & TAP != 0,
+            _ => code as usize <= self.buffers.len() && !self.is_end(cell) && marks & BLOCKED == 0,
+        }
+    }
+
+    // Refusal 3: a byte above 15, a cut wire past the last column or the last row.
+    pub fn stray(&self) -> bool {
+        (0..self.cells()).any(|cell| {
+            let marks = self.marks[cell as usize];
+            let last_column = cell % self.width == self.width - 1;
+            let last_row = cell / self.width == self.height - 1;
+            marks > 15 || (last_column && marks & CUT_RIGHT != 0) || (last_row && marks & CUT_BELOW != 0)
+        })
+    }
+
+    // Refusal 4: the first number outside its range.
+    pub fn fault(&self) -> Option<Fault> {
+        let wire_fails = |w: Wire| w.r > 255 || w.c > 63;
+        if self.period < 1 || self.period > 30_000 {
+            return Some(Fault::Period);
+        }
+        if self.limit > 63 {
+            return Some(Fault::Limit);
+        }
+        if wire_fails(self.horizontal) {
+            return Some(Fault::Horizontal);
+        }
+        if wire_fails(self.vertical) {
+            return Some(Fault::Vertical);
+        }
+        let g = self.register;
+        if g.r > 255 || g.k > 1_000 || g.c > 63 || g.setup > 30_000 {
+            return Some(Fault::Register);
+        }
+        if self.buffers.len() > 6 {
+            return Some(Fault::Count);
+        }
+        for (place, b) in self.buffers.iter().enumerate() {
+            if b.r > 255 || b.k > 1_000 || b.c > 63 {
+                return Some(Fault::Buffer(place + 1));
+            }
+        }
+        None
+    }
+
+    // Refusal 5: an end outside the plan, or both the same.
+    pub fn ends_fail(&self) -> bool {
+        self.source >= self.cells() || self.sink >= self.cells() || self.source == self.sink
+    }
+}
+
+pub fn registers(route: &[Visit]) -> u32 {
+    let sevens = route.iter().filter(|visit| visit.1 == REGISTER).count() as u32;
+    sevens - 2
+}
+
+// What a legal route comes to: the delay at which each register and the source close, and the greatest load met.
+#[derive(Clone, Debug, PartialEq)]
+pub struct Measured {
+    pub closings: Vec<u64>,
+    pub greatest_load: u32,
+}
+
+// The definition of a legal route, on a whole list of visits. None: not legal.
+pub fn legal(p: &Problem, route: &[Visit]) -> Option<Measured> {
+    let last = route.len().checked_sub(1)?;
+    if last == 0 || route[0] != (p.sink, REGISTER) || route[last] != (p.source, REGISTER) {
+        return None;
+    }
+    let mut load = p.register.c;
+    let mut delay = 2 * p.register.setup as u64;
+    let mut measured = Measured { closings: Vec::new(), greatest_load: load };
+    if load > p.limit {
+        return None;
+    }
+    for i in 1..route.len() {
+        let (cell, code) = route[i];
+        let wire = p.wire(route[i - 1].0, cell)?;
+        delay += wire.r as u64 * (2 * load as u64 + wire.c as u64);
+        load += wire.c;
+        measured.greatest_load = measured.greatest_load.max(load);
+        if load > p.limit {
+            return None;
+        }
+        if i < last && !p.site(cell, code) {
+            return None;
+        }
+        if code == REGISTER {
+            let closing = delay + 2 * (p.register.r as u64 * load as u64 + p.register.k as u64);
+            if closing > 2 * p.period as u64 {
+                return None;
+            }
+            measured.closings.push(closing);
+            load = p.register.c;
+            delay = 2 * p.register.setup as u64;
+        } else if code != 0 {
+            let b = p.buffers[code as usize - 1];
+            delay += 2 * (b.r as u64 * load as u64 + b.k as u64);
+            load = b.c;
+        }
+        if i < last {
+            measured.greatest_load = measured.greatest_load.max(load);
+            if load > p.limit {
+                return None;
+            }
+        }
+    }
+    Some(measured)
+}

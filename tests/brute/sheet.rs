@@ -1,0 +1,57 @@
+// The whole text that the route printer prints for a job's bytes.
+
+use crate::job;
+use crate::rules::{registers, Fault, Problem, Visit};
+use crate::search::{self, TooLarge};
+
+const VISITS: usize = 1_024; // 2,048 words, two a visit
+
+#[derive(Clone, Debug)]
+pub enum Answer {
+    Route(Problem, Vec<Visit>),
+    None,
+    // A fault is named where the refusal is 4 and the job was read whole.
+    Refused(u32, Option<Fault>),
+}
+
+// The answer to a job's bytes; the search follows at most `most` states.
+pub fn answer(bytes: &[u8], most: usize) -> Result<Answer, TooLarge> {
+    let p = match job::read(bytes) {
+        Ok(p) => p,
+        Err(refusal) => return Ok(Answer::Refused(refusal, None)),
+    };
+    // Refusals 1 and 2 cannot come after the reading: the grid is tested there, and the marks are counted by it.
+    if p.stray() {
+        return Ok(Answer::Refused(3, None));
+    }
+    if let Some(fault) = p.fault() {
+        return Ok(Answer::Refused(4, Some(fault)));
+    }
+    if p.ends_fail() {
+        return Ok(Answer::Refused(5, None));
+    }
+    // Refusal 6 cannot come: the program has scratch words for every plan that it reads.
+    Ok(match search::best(&p, most)? {
+        None => Answer::None,
+        Some(route) if route.len() > VISITS => Answer::Refused(8, None),
+        Some(route) => Answer::Route(p, route),
+    })
+}
+
+impl Answer {
+    pub fn text(&self) -> String {
+        match self {
+            Answer::None => "none\n".to_string(),
+            Answer::Refused(number, _) => format!("refused {number}\n"),
+            Answer::Route(p, route) => {
+                let k = registers(route);
+                let latency = p.period * (k + 1);
+                let mut text = format!("route {} {} {}\n", k, route.len() - 1, latency);
+                for (cell, code) in route {
+                    text += &format!("{cell} {code}\n");
+                }
+                text
+            }
+        }
+    }
+}
