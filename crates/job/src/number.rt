@@ -1,0 +1,53 @@
+// One number of a job: groups of seven bits, lowest first, the top bit set when another follows.
+
+// The number that starts at a place, with the place after it; Fault is refusal 15.
+pub enum Number {
+    Value(u16, usize),
+    Fault,
+}
+
+// The number from `at` on.
+pub fn number(job: &[u8], at: usize) -> Number {
+    if job.len() <= at {
+        return Number::Fault;
+    }
+    let byte = job[at];
+    if byte < 128 {
+        return Number::Value(byte as u16, at + 1);
+    }
+    second_byte(job, at + 1, byte as u16 - 128)
+}
+
+// The rest of a number whose first group is `low`.
+fn second_byte(job: &[u8], at: usize, low: u16) -> Number {
+    if job.len() <= at {
+        return Number::Fault;
+    }
+    let byte = job[at];
+    if byte == 0 {
+        return Number::Fault;
+    }
+    if byte < 128 {
+        return Number::Value(low + 128 * byte as u16, at + 1);
+    }
+    third_byte(job, at + 1, low + 128 * (byte as u16 - 128))
+}
+
+// The rest of a number whose first two groups are `low`.
+fn third_byte(job: &[u8], at: usize, low: u16) -> Number {
+    if job.len() <= at {
+        return Number::Fault;
+    }
+    let byte = job[at];
+    if byte == 0 {
+        return Number::Fault;
+    }
+    if 128 <= byte {
+        return Number::Fault;
+    }
+    let value = low as u32 + 16384 * byte as u32;
+    if 65535 < value {
+        return Number::Fault;
+    }
+    Number::Value(value as u16, at + 1)
+}

@@ -1,0 +1,111 @@
+// A whole job, read in document 01's order; the first fault met decides.
+use crate::fields::copy_marks;
+use crate::fields::tables_of;
+use crate::number::Number;
+use crate::number::number;
+use crate::series::Series;
+use crate::series::read_series;
+use answers::Tables;
+use plan::grid_fault;
+
+// The program takes plans of at most this many cells.
+const CELLS_MAX: usize = 128;
+
+// What a job asks, but for the marks and the buffers, which stand in the words lent.
+pub struct Asked {
+    pub width: u16,
+    pub height: u16,
+    pub tables: Tables,
+    pub source: u16,
+    pub sink: u16,
+    pub buffers: usize,
+}
+
+// The question, or the refusal's number.
+pub enum Job {
+    Asks(Asked),
+    Refused(u16),
+}
+
+// The job: its marks go to the plan, its buffers' numbers to the words.
+pub fn read_job(job: &[u8], plan: &mut [u8], words: &mut [u16]) -> Job {
+    let Number::Value(width, second) = number(job, 0) else {
+        return Job::Refused(15);
+    };
+    let Number::Value(height, at) = number(job, second) else {
+        return Job::Refused(15);
+    };
+    if grid_fault(width, height) {
+        return Job::Refused(1);
+    }
+    if CELLS_MAX < width as usize * height as usize {
+        return Job::Refused(16);
+    }
+    read_marks(job, at, width, height, plan, words)
+}
+
+// From the marks on.
+fn read_marks(
+    job: &[u8],
+    at: usize,
+    width: u16,
+    height: u16,
+    plan: &mut [u8],
+    words: &mut [u16],
+) -> Job {
+    let cells = width as usize * height as usize;
+    let marks = read_series(job, at, cells, 15, 3, words);
+    match marks {
+        Series::Refused(n) => Job::Refused(n),
+        Series::Read(next) => {
+            copy_marks(words, cells, plan);
+            read_tables(job, next, width, height, words)
+        }
+    }
+}
+
+// From the tables on.
+fn read_tables(job: &[u8], at: usize, width: u16, height: u16, words: &mut [u16]) -> Job {
+    let tables = read_series(job, at, 12, 65535, 15, words);
+    match tables {
+        Series::Refused(n) => Job::Refused(n),
+        Series::Read(next) => {
+            let asked = Asked {
+                width: width,
+                height: height,
+                tables: tables_of(words),
+                source: words[10],
+                sink: words[11],
+                buffers: 0,
+            };
+            read_count(job, next, asked, words)
+        }
+    }
+}
+
+// From the count of the buffers on.
+fn read_count(job: &[u8], at: usize, asked: Asked, words: &mut [u16]) -> Job {
+    let Number::Value(count, next) = number(job, at) else {
+        return Job::Refused(15);
+    };
+    if 6 < count {
+        return Job::Refused(4);
+    }
+    read_buffers(job, next, asked, count as usize, words)
+}
+
+// From the buffers on. No byte may be left over.
+fn read_buffers(job: &[u8], at: usize, asked: Asked, count: usize, words: &mut [u16]) -> Job {
+    let buffers = read_series(job, at, 3 * count, 65535, 15, words);
+    match buffers {
+        Series::Refused(n) => Job::Refused(n),
+        Series::Read(next) => {
+            if next < job.len() {
+                return Job::Refused(15);
+            }
+            let mut whole = asked;
+            whole.buffers = count;
+            Job::Asks(whole)
+        }
+    }
+}

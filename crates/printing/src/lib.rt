@@ -1,0 +1,49 @@
+// From the bytes of a job to the printed bytes: all that the route printer does but read and write.
+use answers::Answer;
+use job::Asked;
+use job::Job;
+use job::buffers_of;
+use job::read_job;
+use router::route_with;
+use text::put_answer;
+use text::put_refused;
+
+// The text of a job's answer, at the start of `out`; answers its length.
+pub fn print_job(
+    job: &[u8],
+    plan: &mut [u8],
+    scratch: &mut [u16],
+    visits: &mut [u16],
+    out: &mut [u8],
+) -> usize {
+    let read = read_job(job, plan, scratch);
+    match read {
+        Job::Refused(n) => put_refused(n, out),
+        Job::Asks(asked) => print_asked(asked, plan, scratch, visits, out),
+    }
+}
+
+// The text of the route call's answer.
+fn print_asked(
+    asked: Asked,
+    plan: &[u8],
+    scratch: &mut [u16],
+    visits: &mut [u16],
+    out: &mut [u8],
+) -> usize {
+    let list = buffers_of(scratch, asked.buffers);
+    let tables = asked.tables;
+    let cells = asked.width as usize * asked.height as usize;
+    let answer = route_with(
+        &plan[..cells],
+        asked.width,
+        asked.height,
+        tables,
+        list,
+        asked.source,
+        asked.sink,
+        scratch,
+        visits,
+    );
+    put_answer(answer, visits, out)
+}

@@ -1,0 +1,59 @@
+// The text of an answer. Each line ends with a newline.
+use crate::put::put_byte;
+use crate::put::put_decimal;
+use crate::put::put_word;
+use answers::Answer;
+use answers::Figures;
+use answers::Refusal;
+
+// `refused` and the number.
+pub fn put_refused(number: u16, out: &mut [u8]) -> usize {
+    let a = put_word(b"refused ", out, 0);
+    let b = put_decimal(number as u32, out, a);
+    put_byte(10, out, b)
+}
+
+// `route`, registers, steps and latency.
+fn put_figures(f: Figures, out: &mut [u8]) -> usize {
+    let a = put_word(b"route ", out, 0);
+    let b = put_decimal(f.registers as u32, out, a);
+    let c = put_byte(32, out, b);
+    let d = put_decimal(f.steps, out, c);
+    let e = put_byte(32, out, d);
+    let g = put_decimal(f.latency, out, e);
+    put_byte(10, out, g)
+}
+
+// A visit's cell and code.
+fn put_visit(cell: u16, code: u16, out: &mut [u8], at: usize) -> usize {
+    let a = put_decimal(cell as u32, out, at);
+    let b = put_byte(32, out, a);
+    let c = put_decimal(code as u32, out, b);
+    put_byte(10, out, c)
+}
+
+// The lines of the first n visits.
+fn put_visits(visits: &[u16], n: usize, out: &mut [u8], start: usize) -> usize {
+    let mut at = start;
+    let mut i = 0;
+    while i < n {
+        at = put_visit(visits[2 * i], visits[2 * i + 1], out, at);
+        i += 1;
+    }
+    at
+}
+
+// The text of a route call's answer.
+pub fn put_answer(answer: Answer, visits: &[u16], out: &mut [u8]) -> usize {
+    match answer {
+        Answer::Found(f) => {
+            let at = put_figures(f, out);
+            put_visits(visits, f.steps as usize + 1, out, at)
+        }
+        Answer::NoRoom(_) => put_refused(8, out),
+        Answer::Refused(r) => match r {
+            Refusal::NoRoute => put_word(b"none\n", out, 0),
+            other => put_refused(other.number(), out),
+        },
+    }
+}
