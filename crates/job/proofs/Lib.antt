@@ -1,0 +1,5 @@
+pub mod Groups
+pub mod Records
+pub mod Sequence
+pub mod Bounded
+pub mod Stages

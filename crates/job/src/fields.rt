@@ -1,4 +1,9 @@
 // The records that the numbers of a job make.
+ghost use mathlib.Core.Path.{_≡_};
+ghost use Prim.Native.Nat.{ℕ, _*_, _<_, _≤_};
+ghost use lib.ListN.{length, getD, take};
+ghost use Rattle.timing.specs.Ranges.{buffersMax};
+ghost use Rattle.job.specs.Fields.{tableNumbers, tablesOf, bufferOf, buffersOf};
 use answers::BufferList;
 use answers::BufferRecord;
 use answers::RegisterRecord;
@@ -6,7 +11,10 @@ use answers::Tables;
 use answers::WireRecord;
 
 // The tables, from their ten numbers in the job's order.
-pub fn tables_of(words: &[u16]) -> Tables {
+pub fn tables_of(words: &[u16]) -> Tables
+    requires { ⌜ tableNumbers ≤ length (now words) ⌝ }
+    ensures { λ r. ⌜ r ≡ tablesOf (now (words .entry)) ⌝ }
+{
     Tables {
         register: RegisterRecord {
             resistance: words[0],
@@ -28,7 +36,10 @@ pub fn tables_of(words: &[u16]) -> Tables {
 }
 
 // The buffer at index i of `count`, from three words each; zeros past the count.
-fn buffer_of(words: &[u16], count: usize, i: usize) -> BufferRecord {
+fn buffer_of(words: &[u16], count: usize, i: usize) -> BufferRecord
+    requires { ⌜ (count ≤ buffersMax) × (3 * count ≤ length (now words)) ⌝ }
+    ensures { λ r. ⌜ r ≡ bufferOf (take (3 * count) (now (words .entry))) i ⌝ }
+{
     if count <= i {
         return BufferRecord {
             resistance: 0,
@@ -44,7 +55,10 @@ fn buffer_of(words: &[u16], count: usize, i: usize) -> BufferRecord {
 }
 
 // The list of `count` buffers, from three words each.
-pub fn buffers_of(words: &[u16], count: usize) -> BufferList {
+pub fn buffers_of(words: &[u16], count: usize) -> BufferList
+    requires { ⌜ (count ≤ buffersMax) × (3 * count ≤ length (now words)) ⌝ }
+    ensures { λ r. ⌜ r ≡ buffersOf count (take (3 * count) (now (words .entry))) ⌝ }
+{
     BufferList {
         n: count,
         items: [
@@ -59,7 +73,11 @@ pub fn buffers_of(words: &[u16], count: usize) -> BufferList {
 }
 
 // The first `n` words, each at most 15, as the bytes of a plan.
-pub fn copy_marks(words: &[u16], n: usize, plan: &mut [u8]) {
+pub fn copy_marks(words: &[u16], n: usize, plan: &mut [u8])
+    requires { ⌜ (n ≤ length (now words)) × (n ≤ length (now plan)) ⌝ }
+    requires { ⌜ ((k : ℕ) → k < n → getD (now words) k 0 < 256) ⌝ }
+    ensures { λ _. ⌜ take n (now (plan .exit)) ≡ take n (now (words .entry)) ⌝ }
+{
     let mut i = 0;
     while i < n {
         plan[i] = words[i] as u8;

@@ -1,4 +1,8 @@
 // One number of a job: groups of seven bits, lowest first, the top bit set when another follows.
+ghost use mathlib.Core.Path.{_≡_};
+ghost use Prim.Native.Nat.{_<_};
+ghost use lib.ListN.{drop};
+ghost use Rattle.job.specs.Numbers.{number, secondGroup, thirdGroup, readOf};
 
 // The number that starts at a place, with the place after it; Fault is refusal 15.
 pub enum Number {
@@ -7,7 +11,9 @@ pub enum Number {
 }
 
 // The number from `at` on.
-pub fn number(job: &[u8], at: usize) -> Number {
+pub fn read_number(job: &[u8], at: usize) -> Number
+    ensures { λ r. ⌜ readOf (now (job .entry)) r ≡ number (drop at (now (job .entry))) ⌝ }
+{
     if job.len() <= at {
         return Number::Fault;
     }
@@ -19,7 +25,10 @@ pub fn number(job: &[u8], at: usize) -> Number {
 }
 
 // The rest of a number whose first group is `low`.
-fn second_byte(job: &[u8], at: usize, low: u16) -> Number {
+fn second_byte(job: &[u8], at: usize, low: u16) -> Number
+    requires { ⌜ low < 128 ⌝ }
+    ensures { λ r. ⌜ readOf (now (job .entry)) r ≡ secondGroup low (drop at (now (job .entry))) ⌝ }
+{
     if job.len() <= at {
         return Number::Fault;
     }
@@ -34,7 +43,10 @@ fn second_byte(job: &[u8], at: usize, low: u16) -> Number {
 }
 
 // The rest of a number whose first two groups are `low`.
-fn third_byte(job: &[u8], at: usize, low: u16) -> Number {
+fn third_byte(job: &[u8], at: usize, low: u16) -> Number
+    requires { ⌜ low < 16384 ⌝ }
+    ensures { λ r. ⌜ readOf (now (job .entry)) r ≡ thirdGroup low (drop at (now (job .entry))) ⌝ }
+{
     if job.len() <= at {
         return Number::Fault;
     }

@@ -1,8 +1,14 @@
 // A whole job, read in document 01's order; the first fault met decides.
+ghost use mathlib.Core.Path.{_≡_};
+ghost use mathlib.Core.List.{List};
+ghost use Prim.Native.Nat.{ℕ, _*_, _≤_};
+ghost use lib.ListN.{length, take, drop};
+ghost use Rattle.timing.specs.Ranges.{buffersMax};
+ghost use Rattle.job.specs.Job.{cellsMax, readJob, marksFrom, tablesFrom, countFrom, buffersFrom, marksOf, readingOf};
 use crate::fields::copy_marks;
 use crate::fields::tables_of;
 use crate::number::Number;
-use crate::number::number;
+use crate::number::read_number;
 use crate::series::Series;
 use crate::series::read_series;
 use answers::Tables;
@@ -18,21 +24,23 @@ pub struct Asked {
     pub tables: Tables,
     pub source: u16,
     pub sink: u16,
-    pub buffers: usize,
 }
 
-// The question, or the refusal's number.
+// The question with its count of buffers, or the refusal's number.
 pub enum Job {
-    Asks(Asked),
+    Asks(Asked, usize),
     Refused(u16),
 }
 
 // The job: its marks go to the plan, its buffers' numbers to the words.
-pub fn read_job(job: &[u8], plan: &mut [u8], words: &mut [u16]) -> Job {
-    let Number::Value(width, second) = number(job, 0) else {
+pub fn read_job(job: &[u8], plan: &mut [u8], words: &mut [u16]) -> Job
+    requires { ⌜ (cellsMax ≤ length (now plan)) × (cellsMax ≤ length (now words)) ⌝ }
+    ensures { λ r. ⌜ readingOf (now (plan .exit)) (now (words .exit)) r ≡ readJob (now (job .entry)) ⌝ }
+{
+    let Number::Value(width, second) = read_number(job, 0) else {
         return Job::Refused(15);
     };
-    let Number::Value(height, at) = number(job, second) else {
+    let Number::Value(height, at) = read_number(job, second) else {
         return Job::Refused(15);
     };
     if grid_fault(width, height) {
@@ -52,7 +60,10 @@ fn read_marks(
     height: u16,
     plan: &mut [u8],
     words: &mut [u16],
-) -> Job {
+) -> Job
+    requires { ⌜ (width * height ≤ cellsMax) × ((cellsMax ≤ length (now plan)) × (cellsMax ≤ length (now words))) ⌝ }
+    ensures { λ r. ⌜ readingOf (now (plan .exit)) (now (words .exit)) r ≡ marksFrom width height (drop at (now (job .entry))) ⌝ }
+{
     let cells = width as usize * height as usize;
     let marks = read_series(job, at, cells, 15, 3, words);
     match marks {
@@ -65,7 +76,10 @@ fn read_marks(
 }
 
 // From the tables on.
-fn read_tables(job: &[u8], at: usize, width: u16, height: u16, words: &mut [u16]) -> Job {
+fn read_tables(job: &[u8], at: usize, width: u16, height: u16, words: &mut [u16]) -> Job
+    requires { ⌜ cellsMax ≤ length (now words) ⌝ }
+    ensures { λ r. ⌜ ((plan : List ℕ) → readingOf plan (now (words .exit)) r ≡ tablesFrom width height (take (width * height) plan) (drop at (now (job .entry)))) ⌝ }
+{
     let tables = read_series(job, at, 12, 65535, 15, words);
     match tables {
         Series::Refused(n) => Job::Refused(n),
@@ -76,7 +90,6 @@ fn read_tables(job: &[u8], at: usize, width: u16, height: u16, words: &mut [u16]
                 tables: tables_of(words),
                 source: words[10],
                 sink: words[11],
-                buffers: 0,
             };
             read_count(job, next, asked, words)
         }
@@ -84,8 +97,11 @@ fn read_tables(job: &[u8], at: usize, width: u16, height: u16, words: &mut [u16]
 }
 
 // From the count of the buffers on.
-fn read_count(job: &[u8], at: usize, asked: Asked, words: &mut [u16]) -> Job {
-    let Number::Value(count, next) = number(job, at) else {
+fn read_count(job: &[u8], at: usize, asked: Asked, words: &mut [u16]) -> Job
+    requires { ⌜ cellsMax ≤ length (now words) ⌝ }
+    ensures { λ r. ⌜ ((plan : List ℕ) → readingOf plan (now (words .exit)) r ≡ countFrom (marksOf plan asked) asked (drop at (now (job .entry)))) ⌝ }
+{
+    let Number::Value(count, next) = read_number(job, at) else {
         return Job::Refused(15);
     };
     if 6 < count {
@@ -95,7 +111,10 @@ fn read_count(job: &[u8], at: usize, asked: Asked, words: &mut [u16]) -> Job {
 }
 
 // From the buffers on. No byte may be left over.
-fn read_buffers(job: &[u8], at: usize, asked: Asked, count: usize, words: &mut [u16]) -> Job {
+fn read_buffers(job: &[u8], at: usize, asked: Asked, count: usize, words: &mut [u16]) -> Job
+    requires { ⌜ (count ≤ buffersMax) × (cellsMax ≤ length (now words)) ⌝ }
+    ensures { λ r. ⌜ ((plan : List ℕ) → readingOf plan (now (words .exit)) r ≡ buffersFrom (marksOf plan asked) asked count (drop at (now (job .entry)))) ⌝ }
+{
     let buffers = read_series(job, at, 3 * count, 65535, 15, words);
     match buffers {
         Series::Refused(n) => Job::Refused(n),
@@ -103,9 +122,7 @@ fn read_buffers(job: &[u8], at: usize, asked: Asked, count: usize, words: &mut [
             if next < job.len() {
                 return Job::Refused(15);
             }
-            let mut whole = asked;
-            whole.buffers = count;
-            Job::Asks(whole)
+            Job::Asks(asked, count)
         }
     }
 }

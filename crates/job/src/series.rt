@@ -1,6 +1,10 @@
 // Several numbers of a job in a row.
+ghost use mathlib.Core.Path.{_≡_};
+ghost use Prim.Native.Nat.{_≤_};
+ghost use lib.ListN.{length, take, drop};
+ghost use Rattle.job.specs.Runs.{run, runOf};
 use crate::number::Number;
-use crate::number::number;
+use crate::number::read_number;
 
 // The place after the numbers, or the refusal.
 pub enum Series {
@@ -16,11 +20,14 @@ pub fn read_series(
     top: u16,
     refusal: u16,
     words: &mut [u16],
-) -> Series {
+) -> Series
+    requires { ⌜ n ≤ length (now words) ⌝ }
+    ensures { λ r. ⌜ runOf (take n (now (words .exit))) (now (job .entry)) r ≡ run n top refusal (drop start (now (job .entry))) ⌝ }
+{
     let mut at = start;
     let mut i = 0;
     while i < n {
-        let Number::Value(value, next) = number(job, at) else {
+        let Number::Value(value, next) = read_number(job, at) else {
             return Series::Refused(15);
         };
         if top < value {

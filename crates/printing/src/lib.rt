@@ -19,19 +19,20 @@ pub fn print_job(
     let read = read_job(job, plan, scratch);
     match read {
         Job::Refused(n) => put_refused(n, out),
-        Job::Asks(asked) => print_asked(asked, plan, scratch, visits, out),
+        Job::Asks(asked, count) => print_asked(asked, count, plan, scratch, visits, out),
     }
 }
 
 // The text of the route call's answer.
 fn print_asked(
     asked: Asked,
+    count: usize,
     plan: &[u8],
     scratch: &mut [u16],
     visits: &mut [u16],
     out: &mut [u8],
 ) -> usize {
-    let list = buffers_of(scratch, asked.buffers);
+    let list = buffers_of(scratch, count);
     let tables = asked.tables;
     let cells = asked.width as usize * asked.height as usize;
     let answer = route_with(
