@@ -1,6 +1,6 @@
 -- The numbers of a run are as many as were asked for, and none is above the largest allowed.
-use Prim.Native.Nat.{ℕ, zero, suc, _≤_, _<_}
-use mathlib.Core.Path.{_≡_, refl, sym, ap, _∙_}
+use Prim.Native.Nat.{ℕ, zero, suc, _≤_}
+use mathlib.Core.Path.{_≡_, refl, ap}
 use mathlib.Core.Bool.{Bool, true, false, cond}
 use mathlib.Core.List.{List, [], _∷_}
 use native.Mathlib.Omega.{arith}
@@ -8,7 +8,7 @@ use lib.Dec.{leb}
 use lib.ListN.{length, getD}
 use borrow.Author.Tests.{leb-true}
 use Rattle.job.specs.Numbers.{Read, value, fault, number}
-use Rattle.job.specs.Runs.{Run, values, refused, jobFault, prepend, oneMore, run}
+use Rattle.job.specs.Runs.{Run, values, refused, prepend, oneMore, run}
 
 pub record Bounded (n top : ℕ) (vs : List ℕ) : Type 0 where
   pub many : length vs ≡ n

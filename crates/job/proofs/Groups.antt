@@ -1,15 +1,12 @@
 -- The groups of a number that starts at a place of the job, by the byte there.
-use Prim.Native.Nat.{ℕ, suc, _+_, _*_, _-_, _≤_, _<_}
-use mathlib.Core.Path.{_≡_, refl, sym, ap, _∙_}
-use mathlib.Core.Bool.{false, _||_}
-use mathlib.Core.List.{List, [], _∷_}
+use Prim.Native.Nat.{ℕ, _+_, _*_, _-_, _≤_, _<_}
+use mathlib.Core.Path.{_≡_, sym}
+use mathlib.Core.List.{List, _∷_}
 use native.Mathlib.Numerals.{add-one}
-use native.Mathlib.Omega.{arith}
-use lib.Dec.{eqb, ltb}
 use lib.ListN.{length, getD, drop, drop-of-length-le}
 use lib.Seq.{drop-cons}
 use borrow.Author.Tests.{lt-ltb, le-ltb, eq-eqb, ne-eqb}
-use Rattle.job.specs.Numbers.{Read, value, fault, numberMax, closed, thirdGroup, secondGroup, number, readOf}
+use Rattle.job.specs.Numbers.{value, fault, numberMax, closed, thirdGroup, secondGroup, number, readOf}
 use Rattle.job.specs.declared.number.Number.{Number}
 
 pub byte-at : (job : List ℕ) (at : ℕ) → at < length job → drop at job ≡ getD job at 0 ∷ drop (at + 1) job

@@ -1,12 +1,11 @@
 -- The records that stand in the words, and the marks copied from them.
-use Prim.Native.Nat.{ℕ, suc, _+_, _*_, _≤_, _<_}
-use mathlib.Core.Path.{_≡_, refl, sym, ap, _∙_}
+use Prim.Native.Nat.{ℕ, _+_, _*_, _≤_, _<_}
+use mathlib.Core.Path.{_≡_, sym, ap, _∙_}
 use mathlib.Core.List.{List, [], _∷_, _++_}
 use native.Mathlib.Numerals.{add-one}
 use native.Mathlib.Omega.{arith}
 use lib.ListN.{length, getD, take, set, length-take, List·getD-eq-default}
 use lib.Seq.{getD-take, take-suc, take-suc-set}
-use Rattle.answers.specs.declared.records.BufferRecord.{BufferRecord}
 use Rattle.job.specs.Fields.{bufferOf}
 
 module _ (words : List ℕ) (count i : ℕ) where

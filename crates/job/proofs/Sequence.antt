@@ -1,14 +1,13 @@
 -- Numbers read one after another.
-use Prim.Native.Nat.{ℕ, zero, suc, _+_, _-_, _≤_, _<_}
+use Prim.Native.Nat.{ℕ, suc, _+_, _-_, _≤_, _<_}
 use mathlib.Core.Path.{_≡_, refl, sym, ap, _∙_}
-use mathlib.Core.Bool.{Bool, true, false, cond}
 use mathlib.Core.List.{List, [], _∷_, _++_, append-nil}
 use native.Mathlib.Numerals.{add-one}
 use native.Mathlib.Omega.{arith}
-use lib.ListN.{length, getD, take, drop, set}
+use lib.ListN.{length, take, drop, set}
 use lib.Seq.{take-suc-set}
 use borrow.Author.Tests.{le-leb, lt-leb}
-use Rattle.job.specs.Numbers.{Read, value, fault, number, readOf}
+use Rattle.job.specs.Numbers.{value, fault, number, readOf}
 use Rattle.job.specs.Runs.{Run, values, refused, jobFault, prepend, oneMore, run, runOf}
 use Rattle.job.specs.declared.number.Number.{Number}
 use Rattle.job.specs.declared.series.Series.{Series}

@@ -1,8 +1,8 @@
 -- Each stage of the reading, by what was read there.
-use Prim.Native.Nat.{ℕ, _+_, _*_, _≤_, _<_}
-use mathlib.Core.Path.{_≡_, refl, sym, ap, _∙_}
-use mathlib.Core.Bool.{Bool, true, false, _||_, cond}
-use mathlib.Core.List.{List, [], _∷_}
+use Prim.Native.Nat.{ℕ, _*_, _≤_, _<_}
+use mathlib.Core.Path.{_≡_, sym, ap, _∙_}
+use mathlib.Core.Bool.{true, false, _||_}
+use mathlib.Core.List.{List}
 use native.Mathlib.Omega.{arith}
 use native.Mathlib.Nat.{mul-le-mul}
 use lib.Dec.{eqb, ltb}
@@ -13,10 +13,10 @@ use Rattle.plan.specs.Plan.{sideMax}
 use Rattle.plan.specs.Check.{gridFault}
 use Rattle.timing.specs.Ranges.{buffersMax}
 use Rattle.answers.specs.declared.records.Tables.{Tables}
-use Rattle.job.specs.Numbers.{Read, value, fault, numberMax, number, readOf}
+use Rattle.job.specs.Numbers.{value, fault, numberMax, number, readOf}
 use Rattle.job.specs.Runs.{Run, values, refused, jobFault, run, runOf}
-use Rattle.job.specs.Fields.{tablesOf, tableNumbers}
-use Rattle.job.specs.Job.{Reading, asks, refuses, sizeFault, cellsMax, marksMax, markFault, gridNumber, countFault, withNumber, withRun, askedOf, questionFrom, ended, buffersFrom, countFrom, tablesFrom, marksFrom, sized, readJob, marksOf, readingOf}
+use Rattle.job.specs.Fields.{tablesOf}
+use Rattle.job.specs.Job.{sizeFault, cellsMax, marksMax, markFault, gridNumber, countFault, withNumber, withRun, askedOf, ended, buffersFrom, countFrom, tablesFrom, marksFrom, sized, readJob, marksOf, readingOf}
 use Rattle.job.specs.declared.number.Number.{Number}
 use Rattle.job.specs.declared.series.Series.{Series}
 use Rattle.job.specs.declared.read.Asked.{Asked}

@@ -6,7 +6,7 @@ use job::buffers_of;
 use job::read_job;
 use router::route_with;
 use text::put_answer;
-use text::put_refused;
+use text::put_refusal;
 
 // The text of a job's answer, at the start of `out`; answers its length.
 pub fn print_job(
@@ -18,7 +18,7 @@ pub fn print_job(
 ) -> usize {
     let read = read_job(job, plan, scratch);
     match read {
-        Job::Refused(n) => put_refused(n, out),
+        Job::Refused(n) => put_refusal(n, out),
         Job::Asks(asked, count) => print_asked(asked, count, plan, scratch, visits, out),
     }
 }

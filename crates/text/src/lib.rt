@@ -3,4 +3,4 @@ mod answer;
 mod put;
 
 pub use answer::put_answer;
-pub use answer::put_refused;
+pub use answer::put_refusal;

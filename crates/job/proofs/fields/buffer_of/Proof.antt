@@ -1,64 +1,45 @@
-use Rattle.job.proofs.Records.{buffer-past, buffer-within}
-use Prim.Native.Nat.{ℕ, _+_, _*_, _-_, _<_, _≤_, max}
-use mathlib.Core.Path.{_≡_, refl, sym, ap, _∙_}
-use mathlib.Core.Logic.{⊎-elim}
 use native.Mathlib.Omega.{arith}
-use lib.ListN.{length, getD}
 use borrow.Author.Needs.{needs}
+use Rattle.job.proofs.Records.{buffer-past, buffer-within}
 use Rattle.job.proofs.fields.buffer_of.Statement.{statement}
 use Rattle.job.proofs.fields.buffer_of.Tie as tie
-use Rattle.job.proofs.fields.buffer_of.Reads as reads
-use Rattle.job.proofs.fields.buffer_of.Lts as lts
 
--- src/fields.rt:44:9
 returns : tie.Need-returns
 returns c = buffer-past _ _ _ (c .if1 .taken)
 
--- src/fields.rt:51:27
 mul-t5 : tie.Need-mul-t5
 mul-t5 c = search needs
 
--- src/fields.rt:51:21
 mul-t6 : tie.Need-mul-t6
 mul-t6 c = search needs
 
--- src/fields.rt:51:21
 shared-slice-read-t8 : tie.Need-shared-slice-read-t8
 shared-slice-read-t8 c = search needs
 
--- src/fields.rt:52:22
 mul-t9 : tie.Need-mul-t9
 mul-t9 c = search needs
 
--- src/fields.rt:52:22
 add-t10 : tie.Need-add-t10
 add-t10 c = search needs
 
--- src/fields.rt:52:16
 mul-t11 : tie.Need-mul-t11
 mul-t11 c = search needs
 
--- src/fields.rt:52:16
 shared-slice-read-t13 : tie.Need-shared-slice-read-t13
 shared-slice-read-t13 c = search needs
 
--- src/fields.rt:53:21
 mul-t14 : tie.Need-mul-t14
 mul-t14 c = search needs
 
--- src/fields.rt:53:21
 add-t15 : tie.Need-add-t15
 add-t15 c = search needs
 
--- src/fields.rt:53:15
 mul-t16 : tie.Need-mul-t16
 mul-t16 c = search needs
 
--- src/fields.rt:53:15
 shared-slice-read-t18 : tie.Need-shared-slice-read-t18
 shared-slice-read-t18 c = search needs
 
--- src/fields.rt:39:1
 returns-2 : tie.Need-returns-2
 returns-2 c = buffer-within (c .before .before .before .before .args .words .now) (c .before .before .before .before .args .count) (c .before .before .before .before .args .i) (omega arith)
 

@@ -1,73 +1,52 @@
-use Rattle.job.proofs.Groups.{second-short, second-last, second-third, ends-fault, ends-value}
-use Prim.Native.Nat.{ℕ, _+_, _*_, _-_, _<_, _≤_, max}
-use mathlib.Core.Path.{_≡_, refl, sym, ap, _∙_}
-use mathlib.Core.Logic.{⊎-elim}
+use mathlib.Core.Path.{sym, _∙_}
 use native.Mathlib.Omega.{arith}
-use lib.ListN.{length, getD}
 use borrow.Author.Needs.{needs}
+use Rattle.job.proofs.Groups.{second-short, second-last, second-third, ends-fault, ends-value}
 use Rattle.job.proofs.number.second_byte.Statement.{statement}
 use Rattle.job.proofs.number.second_byte.Tie as tie
-use Rattle.job.proofs.number.second_byte.Reads as reads
-use Rattle.job.proofs.number.second_byte.Lts as lts
-use Rattle.job.proofs.number.third_byte.Reads as third-byte-reads
 
--- src/number.rt:33:9
 returns : tie.Need-returns
 returns c = second-short _ _ _ (c .if1 .taken)
 
--- src/number.rt:35:16
 shared-slice-read-byte : tie.Need-shared-slice-read-byte
 shared-slice-read-byte c = search needs
 
--- src/number.rt:37:9
 returns-2 : tie.Need-returns-2
 returns-2 c = ends-fault _ 0 _ _ _ (c .if2 .taken) ∙ sym (second-last (c .before .before .before .before .args .job .now) (c .before .before .before .before .args .at) (c .before .before .before .before .args .low) (omega arith) (omega arith))
 
--- src/number.rt:40:42
 cast-t9 : tie.Need-cast-t9
 cast-t9 c = search needs
 
--- src/number.rt:40:36
 mul-t10 : tie.Need-mul-t10
 mul-t10 c = search needs
 
--- src/number.rt:40:30
 add-t11 : tie.Need-add-t11
 add-t11 c = search needs
 
--- src/number.rt:40:55
 add-t12 : tie.Need-add-t12
 add-t12 c = search needs
 
--- src/number.rt:40:9
 returns-3 : tie.Need-returns-3
 returns-3 c = ends-value _ _ _ _ (c .before .if2 .left) (omega arith) ∙ sym (second-last (c .before .before .before .before .before .args .job .now) (c .before .before .before .before .before .args .at) (c .before .before .before .before .before .args .low) (omega arith) (omega arith))
 
--- src/number.rt:42:21
 add-third-byte : tie.Need-add-third-byte
 add-third-byte c = search needs
 
--- src/number.rt:42:42
 cast-third-byte : tie.Need-cast-third-byte
 cast-third-byte c = omega (arith, c .before .before .shared-slice-known2 .given (c .before .before .before .before .before .args .at))
 
--- src/number.rt:42:42
 sub-third-byte : tie.Need-sub-third-byte
 sub-third-byte c = search needs
 
--- src/number.rt:42:35
 mul-third-byte : tie.Need-mul-third-byte
 mul-third-byte c = omega (arith, c .before .before .shared-slice-known2 .given (c .before .before .before .before .before .args .at))
 
--- src/number.rt:42:29
 add-third-byte-2 : tie.Need-add-third-byte-2
 add-third-byte-2 c = omega (arith, c .before .before .shared-slice-known2 .given (c .before .before .before .before .before .args .at))
 
--- src/number.rt:42:5
 third-byte-requires : tie.Need-third-byte-requires
 third-byte-requires c κs = omega (arith, c .before .before .shared-slice-known2 .given (c .before .before .before .before .before .args .at))
 
--- src/number.rt:28:1
 returns-4 : tie.Need-returns-4
 returns-4 c = c .third-byte .ensures ∙ sym (second-third (c .before .before .before .before .before .before .args .job .now) (c .before .before .before .before .before .before .args .at) (c .before .before .before .before .before .before .args .low) (omega arith) (c .before .if3 .left))
 

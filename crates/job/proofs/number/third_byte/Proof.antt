@@ -1,56 +1,40 @@
-use Rattle.job.proofs.Groups.{third-short, third-last, third-fourth, ends-fault, ends-large, ends-value}
-use Prim.Native.Nat.{ℕ, _+_, _*_, _-_, _<_, _≤_, max}
-use mathlib.Core.Path.{_≡_, refl, sym, ap, _∙_}
-use mathlib.Core.Logic.{⊎-elim}
+use mathlib.Core.Path.{sym, _∙_}
 use native.Mathlib.Omega.{arith}
-use lib.ListN.{length, getD}
 use borrow.Author.Needs.{needs}
+use Rattle.job.proofs.Groups.{third-short, third-last, third-fourth, ends-fault, ends-large, ends-value}
 use Rattle.job.proofs.number.third_byte.Statement.{statement}
 use Rattle.job.proofs.number.third_byte.Tie as tie
-use Rattle.job.proofs.number.third_byte.Reads as reads
-use Rattle.job.proofs.number.third_byte.Lts as lts
 
--- src/number.rt:51:9
 returns : tie.Need-returns
 returns c = third-short _ _ _ (c .if1 .taken)
 
--- src/number.rt:53:16
 shared-slice-read-byte : tie.Need-shared-slice-read-byte
 shared-slice-read-byte c = search needs
 
--- src/number.rt:55:9
 returns-2 : tie.Need-returns-2
 returns-2 c = ends-fault _ 0 _ _ _ (c .if2 .taken) ∙ sym (third-last (c .before .before .before .args .job .now) (c .before .before .before .args .at) (c .before .before .before .args .low) (omega arith) (omega arith))
 
--- src/number.rt:58:9
 returns-3 : tie.Need-returns-3
 returns-3 c = third-fourth _ _ _ (omega arith) (c .if3 .taken)
 
--- src/number.rt:60:38
 cast-value : tie.Need-cast-value
 cast-value c = search needs
 
--- src/number.rt:60:30
 mul-value : tie.Need-mul-value
 mul-value c = search needs
 
--- src/number.rt:60:17
 add-value : tie.Need-add-value
 add-value c = search needs
 
--- src/number.rt:62:9
 returns-4 : tie.Need-returns-4
 returns-4 c = ends-large _ 0 _ _ _ (c .before .before .if2 .left) (c .if4 .taken) ∙ sym (third-last (c .before .before .before .before .before .args .job .now) (c .before .before .before .before .before .args .at) (c .before .before .before .before .before .args .low) (omega arith) (omega arith))
 
--- src/number.rt:64:19
 cast-t13 : tie.Need-cast-t13
 cast-t13 c = search needs
 
--- src/number.rt:64:33
 add-t6 : tie.Need-add-t6
 add-t6 c = search needs
 
--- src/number.rt:46:1
 returns-5 : tie.Need-returns-5
 returns-5 c = ends-value _ _ _ _ (c .before .before .if2 .left) (omega arith) ∙ sym (third-last (c .before .before .before .before .before .args .job .now) (c .before .before .before .before .before .args .at) (c .before .before .before .before .before .args .low) (omega arith) (omega arith))
 

@@ -1,53 +1,35 @@
-use Rattle.job.proofs.Stages.{run-told, run-bad, buffers-refused, buffers-left, buffers-whole}
-use Prim.Native.Nat.{ℕ, _+_, _*_, _-_, _<_, _≤_, max}
-use mathlib.Core.Path.{_≡_, refl, sym, ap, _∙_}
-use mathlib.Core.Logic.{⊎-elim}
-use native.Mathlib.Omega.{arith}
-use lib.ListN.{length, getD}
 use borrow.Author.Needs.{needs}
+use Rattle.job.proofs.Stages.{run-told, run-bad, buffers-refused, buffers-left, buffers-whole}
 use Rattle.job.proofs.read.read_buffers.Statement.{statement}
 use Rattle.job.proofs.read.read_buffers.Tie as tie
-use Rattle.job.proofs.read.read_buffers.Reads as reads
-use Rattle.job.proofs.read.read_buffers.Lts as lts
-use Rattle.job.proofs.series.read_series.Reads as read-series-reads
 
--- src/read.rt:118:40
 mul-read-series : tie.Need-mul-read-series
 mul-read-series c = search needs
 
--- src/read.rt:118:9
 read-series-requires : tie.Need-read-series-requires
 read-series-requires c κs = search needs
 
--- src/read.rt:120:25
 enum-known-buffers : tie.Need-enum-known-buffers
 enum-known-buffers c = search needs
 
--- src/read.rt:121:22
 enum-known-buffers-2 : tie.Need-enum-known-buffers-2
 enum-known-buffers-2 c = search needs
 
--- src/read.rt:123:17
 same-length : tie.Need-same-length
 same-length c = search needs
 
--- src/read.rt:123:17
 returns : tie.Need-returns
 returns c = λ plan. buffers-left plan _ _ _ _ _ _ _ _ (run-told _ _ _ _ _ (c .before .before .before .before .before .before .read-series .ensures) (c .before .before .buffers2 .given .1)) (c .if1 .taken)
 
--- src/read.rt:114:1
 same-length-2 : tie.Need-same-length-2
 same-length-2 c = search needs
 
--- src/read.rt:114:1
 returns-2 : tie.Need-returns-2
 returns-2 c = λ plan. buffers-refused plan _ _ _ _ _ _ (run-bad _ _ _ _ _ (c .before .before .before .before .before .read-series .ensures) (c .before .buffers .given .1))
 
--- src/read.rt:114:1
 same-length-3 : tie.Need-same-length-3
 same-length-3 c = search needs
 
--- src/read.rt:114:1
 returns-3 : tie.Need-returns-3
 returns-3 c = λ plan. buffers-whole plan _ _ _ _ _ _ (run-told _ _ _ _ _ (c .before .before .before .before .before .before .read-series .ensures) (c .before .before .buffers2 .given .1)) (c .if1 .left)
 

@@ -1,51 +1,34 @@
 use mathlib.Core.List.{[]}
-use Rattle.job.proofs.Stages.{number-told, number-bad, count-bad, count-above, count-more}
-use Prim.Native.Nat.{ℕ, _+_, _*_, _-_, _<_, _≤_, max}
-use mathlib.Core.Path.{_≡_, refl, sym, ap, _∙_}
-use mathlib.Core.Logic.{⊎-elim}
-use native.Mathlib.Omega.{arith}
-use lib.ListN.{length, getD}
+use mathlib.Core.Path.{_∙_}
 use borrow.Author.Needs.{needs}
+use Rattle.job.proofs.Stages.{number-told, number-bad, count-bad, count-above, count-more}
 use Rattle.job.proofs.read.read_count.Statement.{statement}
 use Rattle.job.proofs.read.read_count.Tie as tie
-use Rattle.job.proofs.read.read_count.Reads as reads
-use Rattle.job.proofs.read.read_count.Lts as lts
-use Rattle.job.proofs.number.read_number.Reads as read-number-reads
-use Rattle.job.proofs.read.read_buffers.Reads as read-buffers-reads
 
--- src/read.rt:104:38
 read-number-requires : tie.Need-read-number-requires
 read-number-requires c κs = search needs
 
--- src/read.rt:104:23
 enum-known-count : tie.Need-enum-known-count
 enum-known-count c = search needs
 
--- src/read.rt:105:9
 enum-told : tie.Need-enum-told
 enum-told c = search needs
 
--- src/read.rt:105:9
 returns : tie.Need-returns
 returns c = λ plan. count-bad plan _ _ _ _ (number-bad _ _ _ (c .before .before .read-number .ensures) (c .enum-told .given .1))
 
--- src/read.rt:108:9
 returns-2 : tie.Need-returns-2
 returns-2 c = λ plan. count-above plan _ _ _ _ _ _ (number-told _ _ _ _ _ (c .before .before .before .before .read-number .ensures) (c .before .before .count .given .1)) (c .if1 .taken)
 
--- src/read.rt:110:36
 cast-read-buffers : tie.Need-cast-read-buffers
 cast-read-buffers c = search needs
 
--- src/read.rt:110:5
 read-buffers-requires : tie.Need-read-buffers-requires
 read-buffers-requires c κs = search needs
 
--- src/read.rt:100:1
 same-length : tie.Need-same-length
 same-length c = search needs
 
--- src/read.rt:100:1
 returns-3 : tie.Need-returns-3
 returns-3 c = λ plan. c .before .before .read-buffers .ensures plan ∙ count-more plan [] _ _ _ _ _ (number-told _ _ _ _ _ (c .before .before .before .before .before .before .before .before .read-number .ensures) (c .before .before .before .before .before .before .count .given .1)) (c .before .before .before .before .if1 .left)
 

@@ -1,88 +1,62 @@
 use mathlib.Core.List.{[]}
-use Rattle.job.proofs.Stages.{number-told, number-bad, job-bad, job-short, job-sides, sized-grid, sized-large, sized-marks, grid-cells}
-use Prim.Native.Nat.{ℕ, _+_, _*_, _-_, _<_, _≤_, max}
-use mathlib.Core.Path.{_≡_, refl, sym, ap, _∙_}
-use mathlib.Core.Logic.{⊎-elim}
+use mathlib.Core.Path.{sym, _∙_}
 use native.Mathlib.Omega.{arith}
-use lib.ListN.{length, getD}
 use borrow.Author.Needs.{needs}
+use Rattle.job.proofs.Stages.{number-told, number-bad, job-bad, job-short, job-sides, sized-grid, sized-large, sized-marks, grid-cells}
 use Rattle.job.proofs.read.read_job.Statement.{statement}
 use Rattle.job.proofs.read.read_job.Tie as tie
-use Rattle.job.proofs.read.read_job.Reads as reads
-use Rattle.job.proofs.read.read_job.Lts as lts
-use Rattle.job.proofs.number.read_number.Reads as read-number-reads
-use Rattle.job.proofs.read.read_marks.Reads as read-marks-reads
-use Rattle.plan.proofs.grid_fault.Reads as grid-fault-reads
 
--- src/read.rt:40:40
 read-number-requires : tie.Need-read-number-requires
 read-number-requires c κs = search needs
 
--- src/read.rt:40:23
 enum-known-width : tie.Need-enum-known-width
 enum-known-width c = search needs
 
--- src/read.rt:41:9
 enum-told : tie.Need-enum-told
 enum-told c = search needs
 
--- src/read.rt:41:9
 returns : tie.Need-returns
 returns c = job-bad _ _ _ (number-bad _ _ _ (c .before .before .read-number .ensures) (c .enum-told .given .1))
 
--- src/read.rt:43:37
 read-number-requires-2 : tie.Need-read-number-requires-2
 read-number-requires-2 c κs = search needs
 
--- src/read.rt:43:23
 enum-known-height : tie.Need-enum-known-height
 enum-known-height c = search needs
 
--- src/read.rt:44:9
 enum-told-2 : tie.Need-enum-told-2
 enum-told-2 c = search needs
 
--- src/read.rt:44:9
 returns-2 : tie.Need-returns-2
 returns-2 c = job-short _ _ _ _ _ (number-told _ _ _ _ _ (c .before .before .before .before .before .before .read-number .ensures) (c .before .before .before .before .width .given .1)) (number-bad _ _ _ (c .before .before .read-number2 .ensures) (c .enum-told2 .given .1))
 
--- src/read.rt:46:8
 grid-fault-requires : tie.Need-grid-fault-requires
 grid-fault-requires c κs = search needs
 
--- src/read.rt:47:9
 returns-3 : tie.Need-returns-3
 returns-3 c = sized-grid _ _ _ _ _ (sym (c .before .grid-fault .ensures) ∙ c .if1 .taken) ∙ (job-sides [] [] _ _ _ _ _ (number-told _ _ _ _ _ (c .before .before .before .before .before .before .before .before .before .read-number .ensures) (c .before .before .before .before .before .before .before .width .given .1)) (number-told _ _ _ _ _ (c .before .before .before .before .before .read-number2 .ensures) (c .before .before .before .height .given .1)))
 
--- src/read.rt:49:20
 cast-if2 : tie.Need-cast-if2
 cast-if2 c = search needs
 
--- src/read.rt:49:37
 cast-if2-2 : tie.Need-cast-if2-2
 cast-if2-2 c = search needs
 
--- src/read.rt:49:20
 mul-if2 : tie.Need-mul-if2
 mul-if2 c = omega (arith, grid-cells _ _ (sym (c .before .grid-fault .ensures) ∙ c .if1 .left))
 
--- src/read.rt:50:9
 returns-4 : tie.Need-returns-4
 returns-4 c = sized-large _ _ _ _ _ (sym (c .before .before .grid-fault .ensures) ∙ c .before .if1 .left) (c .if2 .taken) ∙ (job-sides [] [] _ _ _ _ _ (number-told _ _ _ _ _ (c .before .before .before .before .before .before .before .before .before .before .read-number .ensures) (c .before .before .before .before .before .before .before .before .width .given .1)) (number-told _ _ _ _ _ (c .before .before .before .before .before .before .read-number2 .ensures) (c .before .before .before .before .height .given .1)))
 
--- src/read.rt:52:5
 read-marks-requires : tie.Need-read-marks-requires
 read-marks-requires c κs = search needs
 
--- src/read.rt:36:1
 same-length : tie.Need-same-length
 same-length c = search needs
 
--- src/read.rt:36:1
 same-length-2 : tie.Need-same-length-2
 same-length-2 c = search needs
 
--- src/read.rt:36:1
 returns-5 : tie.Need-returns-5
 returns-5 c = c .before .before .before .before .read-marks .ensures ∙ (sized-marks [] [] _ _ _ (sym (c .before .before .before .before .before .before .before .before .before .grid-fault .ensures) ∙ c .before .before .before .before .before .before .before .before .if1 .left) (c .before .before .before .before .before .before .before .if2 .left) ∙ (job-sides [] [] _ _ _ _ _ (number-told _ _ _ _ _ (c .before .before .before .before .before .before .before .before .before .before .before .before .before .before .before .before .before .read-number .ensures) (c .before .before .before .before .before .before .before .before .before .before .before .before .before .before .before .width .given .1)) (number-told _ _ _ _ _ (c .before .before .before .before .before .before .before .before .before .before .before .before .before .read-number2 .ensures) (c .before .before .before .before .before .before .before .before .before .before .before .height .given .1))))
 

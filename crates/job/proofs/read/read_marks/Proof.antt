@@ -1,61 +1,41 @@
-use Rattle.job.specs.Job.{tablesFrom}
-use mathlib.Core.List.{List, []}
-use Rattle.job.proofs.Stages.{run-told, run-bad, marks-refused, marks-more, marks-small}
-use Prim.Native.Nat.{ℕ, _+_, _*_, _-_, _<_, _≤_, max}
-use mathlib.Core.Path.{_≡_, refl, sym, ap, _∙_}
-use mathlib.Core.Logic.{⊎-elim}
+use mathlib.Core.List.{[]}
+use mathlib.Core.Path.{_∙_}
 use native.Mathlib.Omega.{arith}
-use lib.ListN.{length, getD}
 use borrow.Author.Needs.{needs}
+use Rattle.job.proofs.Stages.{run-told, run-bad, marks-refused, marks-more, marks-small}
 use Rattle.job.proofs.read.read_marks.Statement.{statement}
 use Rattle.job.proofs.read.read_marks.Tie as tie
-use Rattle.job.proofs.read.read_marks.Reads as reads
-use Rattle.job.proofs.read.read_marks.Lts as lts
-use Rattle.job.proofs.fields.copy_marks.Reads as copy-marks-reads
-use Rattle.job.proofs.read.read_tables.Reads as read-tables-reads
-use Rattle.job.proofs.series.read_series.Reads as read-series-reads
 
--- src/read.rt:67:17
 mul-cells : tie.Need-mul-cells
 mul-cells c = search needs
 
--- src/read.rt:68:9
 read-series-requires : tie.Need-read-series-requires
 read-series-requires c κs = search needs
 
--- src/read.rt:70:25
 enum-known-marks : tie.Need-enum-known-marks
 enum-known-marks c = search needs
 
--- src/read.rt:71:22
 enum-known-marks-2 : tie.Need-enum-known-marks-2
 enum-known-marks-2 c = search needs
 
--- src/read.rt:72:13
 copy-marks-requires : tie.Need-copy-marks-requires
 copy-marks-requires c κs = ((omega arith, omega arith), marks-small _ _ _ _ _ (run-told _ _ _ _ _ (c .before .before .before .before .before .before .before .read-series .ensures) (c .before .before .before .marks2 .given .1)))
 
--- src/read.rt:73:13
 read-tables-requires : tie.Need-read-tables-requires
 read-tables-requires c κs = search needs
 
--- src/read.rt:56:1
 same-length : tie.Need-same-length
 same-length c = search needs
 
--- src/read.rt:56:1
 returns : tie.Need-returns
 returns c = marks-refused _ _ [] _ _ _ _ (run-bad _ _ _ _ _ (c .before .before .before .before .before .read-series .ensures) (c .before .marks .given .1))
 
--- src/read.rt:56:1
 same-length-2 : tie.Need-same-length-2
 same-length-2 c = search needs
 
--- src/read.rt:56:1
 same-length-3 : tie.Need-same-length-3
 same-length-3 c = search needs
 
--- src/read.rt:56:1
 returns-2 : tie.Need-returns-2
 returns-2 c = c .before .before .read-tables .ensures _ ∙ marks-more _ _ _ _ _ _ (c .before .before .before .before .before .before .copy-marks .ensures) (run-told _ _ _ _ _ (c .before .before .before .before .before .before .before .before .before .before .before .before .before .before .read-series .ensures) (c .before .before .before .before .before .before .before .before .before .before .marks2 .given .1))
 

@@ -1,59 +1,39 @@
-use Rattle.job.proofs.Stages.{run-told, run-bad, tables-refused, tables-whole}
-use Prim.Native.Nat.{ℕ, _+_, _*_, _-_, _<_, _≤_, max}
-use mathlib.Core.Path.{_≡_, refl, sym, ap, _∙_}
-use mathlib.Core.Logic.{⊎-elim}
-use native.Mathlib.Omega.{arith}
-use lib.ListN.{length, getD}
+use mathlib.Core.Path.{refl, _∙_}
 use borrow.Author.Needs.{needs}
+use Rattle.job.proofs.Stages.{run-told, run-bad, tables-refused, tables-whole}
 use Rattle.job.proofs.read.read_tables.Statement.{statement}
 use Rattle.job.proofs.read.read_tables.Tie as tie
-use Rattle.job.proofs.read.read_tables.Reads as reads
-use Rattle.job.proofs.read.read_tables.Lts as lts
-use Rattle.job.proofs.fields.tables_of.Reads as tables-of-reads
-use Rattle.job.proofs.read.read_count.Reads as read-count-reads
-use Rattle.job.proofs.series.read_series.Reads as read-series-reads
 
--- src/read.rt:83:9
 read-series-requires : tie.Need-read-series-requires
 read-series-requires c κs = search needs
 
--- src/read.rt:85:25
 enum-known-tables : tie.Need-enum-known-tables
 enum-known-tables c = search needs
 
--- src/read.rt:86:22
 enum-known-tables-2 : tie.Need-enum-known-tables-2
 enum-known-tables-2 c = search needs
 
--- src/read.rt:90:25
 tables-of-requires : tie.Need-tables-of-requires
 tables-of-requires c κs = search needs
 
--- src/read.rt:91:25
 slice-read-t17 : tie.Need-slice-read-t17
 slice-read-t17 c = search needs
 
--- src/read.rt:92:23
 slice-read-t19 : tie.Need-slice-read-t19
 slice-read-t19 c = search needs
 
--- src/read.rt:94:13
 read-count-requires : tie.Need-read-count-requires
 read-count-requires c κs = search needs
 
--- src/read.rt:79:1
 same-length : tie.Need-same-length
 same-length c = search needs
 
--- src/read.rt:79:1
 returns : tie.Need-returns
 returns c = λ plan. tables-refused _ _ _ _ plan _ _ (run-bad _ _ _ _ _ (c .before .before .before .before .before .read-series .ensures) (c .before .tables .given .1))
 
--- src/read.rt:79:1
 same-length-2 : tie.Need-same-length-2
 same-length-2 c = search needs
 
--- src/read.rt:79:1
 returns-2 : tie.Need-returns-2
 returns-2 c = λ plan. c .before .before .read-count .ensures plan ∙ tables-whole _ _ plan _ _ _ _ (c .before .before .before .before .before .before .tables-of .ensures) (run-told _ _ _ _ _ (c .before .before .before .before .before .before .before .before .before .before .before .before .before .read-series .ensures) (c .before .before .before .before .before .before .before .before .before .tables2 .given .1)) _ refl
 
