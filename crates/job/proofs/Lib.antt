@@ -3,3 +3,4 @@ pub mod Records
 pub mod Sequence
 pub mod Bounded
 pub mod Stages
+pub mod Sound

@@ -37,9 +37,9 @@ figures-length f a b c =
     let l = decimal (f .latency) in
     omega (arith, short (f .registers) a, long (f .steps) b, long (f .latency) c, length-append routeWord r, length-append (routeWord ++ r) space, length-append (routeWord ++ r ++ space) s, length-append (routeWord ++ r ++ space ++ s) space, length-append (routeWord ++ r ++ space ++ s ++ space) l, length-append (routeWord ++ r ++ space ++ s ++ space ++ l) newline)
 
-pub lines-none : (visits old : List ℕ) (at : ℕ) → Put (visitLines visits 0) at at old old
+pub lines-none : (visits old : List ℕ) (at : ℕ) → at ≤ length old → Put (visitLines visits 0) at at old old
 unfolding visitLines
-lines-none visits old at = put-none at old
+lines-none visits old at h = put-none at old h
 
 pub lines-more : (visits : List ℕ) (i : ℕ) {old mid new : List ℕ} {start at r : ℕ} → Put (visitLines visits i) start at old mid → Put (visitLine (getD visits (2 * i) 0) (getD visits (2 * i + 1) 0)) at r mid new → Put (visitLines visits (i + 1)) start r old new
 unfolding visitLines

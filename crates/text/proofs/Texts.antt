@@ -16,30 +16,31 @@ sets-append (x ∷ a) b old at =
     let e : at + suc (length a) ≡ suc at + length a = omega arith in
     ap (λ (k : ℕ). sets (sets (set old at x) (suc at) a) k b) e ∙ sets-append a b (set old at x) (suc at)
 
+pub put-length : {a old new : List ℕ} {at r : ℕ} → Put a at r old new → length new ≡ length old
+put-length {a} {old} {new} {at} p = ap length (p .holds) ∙ length-sets old at a
+
 pub put-then : {a b old mid new : List ℕ} {at r s : ℕ} → Put a at r old mid → Put b r s mid new → Put (a ++ b) at s old new
 put-then {a} {b} {old} {mid} {new} {at} {r} {s} p q =
     record {
       next = omega (arith, p .next, q .next, length-append a b);
+      within = omega (arith, q .within, put-length p);
       holds =
         q .holds
         ∙ (ap (λ (xs : List ℕ). sets xs r b) (p .holds)
         ∙ (ap (λ (k : ℕ). sets (sets old at a) k b) (p .next) ∙ sets-append a b old at));
     }
 
-pub put-length : {a old new : List ℕ} {at r : ℕ} → Put a at r old new → length new ≡ length old
-put-length {a} {old} {new} {at} p = ap length (p .holds) ∙ length-sets old at a
+pub put-none : (at : ℕ) (old : List ℕ) → at ≤ length old → Put [] at at old old
+put-none at old h = record { next = omega arith; within = h; holds = refl }
 
-pub put-none : (at : ℕ) (old : List ℕ) → Put [] at at old old
-put-none at old = record { next = omega arith; holds = refl }
-
-pub put-one : (x at : ℕ) (old : List ℕ) → Put (x ∷ []) at (at + 1) old (set old at x)
-put-one x at old = record { next = refl; holds = refl }
+put-one : (x at : ℕ) (old : List ℕ) → at < length old → Put (x ∷ []) at (at + 1) old (set old at x)
+put-one x at old h = record { next = refl; within = omega arith; holds = refl }
 
 -- one more byte of a word
-pub put-more : (word old new : List ℕ) (at i : ℕ) → i < length word → Put (take i word) at (at + i) old new → Put (take (i + 1) word) at (at + (i + 1)) old (set new (at + i) (getD word i 0))
-put-more word old new at i h p =
+pub put-more : (word old new : List ℕ) (at i : ℕ) → i < length word → at + i < length new → Put (take i word) at (at + i) old new → Put (take (i + 1) word) at (at + (i + 1)) old (set new (at + i) (getD word i 0))
+put-more word old new at i h room p =
     let e : at + i + 1 ≡ at + (i + 1) = omega arith in
-    rw (add-one i, take-suc word i 0 h) (rw (add-one i) at (rw e at (put-then p (put-one (getD word i 0) (at + i) new))))
+    rw (add-one i, take-suc word i 0 h) (rw (add-one i) at (rw e at (put-then p (put-one (getD word i 0) (at + i) new room))))
 
 -- a number's text, by its last digit
 module _ {old new : List ℕ} {at r : ℕ} (n : ℕ) where

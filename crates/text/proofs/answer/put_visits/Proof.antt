@@ -16,7 +16,7 @@ abbrev μ-loop : tie.MeasureT-loop
 μ-loop visits n out₀ start at₀ i₀ out at i = n - i
 
 loop-holds : tie.Need-loop-holds Inv-loop μ-loop
-loop-holds c = (omega arith, (omega arith, lines-none _ _ _))
+loop-holds c = (omega arith, (omega arith, lines-none _ (c .before .before .args .out .now) (c .before .before .args .start) (omega arith)))
 
 mul-put-visit : tie.Need-mul-put-visit Inv-loop μ-loop
 mul-put-visit c = omega arith

@@ -15,7 +15,7 @@ abbrev μ-loop : tie.MeasureT-loop
 μ-loop word out₀ at i₀ out i = length word - i
 
 loop-holds : tie.Need-loop-holds Inv-loop μ-loop
-loop-holds c = (omega arith, record { next = omega arith; holds = refl })
+loop-holds c = (omega arith, record { next = omega arith; within = omega arith; holds = refl })
 
 shared-slice-read-out : tie.Need-shared-slice-read-out Inv-loop μ-loop
 shared-slice-read-out c = omega arith
@@ -33,7 +33,7 @@ loop-less : tie.Need-loop-less Inv-loop μ-loop
 loop-less c = omega arith
 
 loop-again : tie.Need-loop-again Inv-loop μ-loop
-loop-again c = (omega arith, put-more _ _ _ _ _ (c .before .loop-test .taken) (c .before .before .loop .inv .1))
+loop-again c = (omega arith, put-more _ _ (c .before .before .loop .out) (c .before .before .before .args .at) (c .before .before .loop .i) (c .before .loop-test .taken) (omega (arith, put-length (c .before .before .loop .inv .1))) (c .before .before .loop .inv .1))
 
 add-result : tie.Need-add-result Inv-loop μ-loop
 add-result c = omega arith
