@@ -4,3 +4,5 @@ pub mod Sequence
 pub mod Bounded
 pub mod Stages
 pub mod Sound
+pub mod Cut
+pub mod Decides
