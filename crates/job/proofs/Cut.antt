@@ -7,19 +7,12 @@ use mathlib.Core.List.{List, [], _∷_}
 use native.Mathlib.Nat.{zero-mul, suc-mul}
 use native.Mathlib.Omega.{arith}
 use lib.Dec.{eqb, leb, ltb}
-use lib.ListN.{length, take}
-use lib.Seq.{take-nil}
-use borrow.Author.Tests.{lt-ltb, le-ltb, ltb-true, ltb-false, leb-true, eqb-false}
-use Rattle.plan.specs.Plan.{sideMax}
-use Rattle.plan.specs.Check.{gridFault}
+use lib.ListN.{take}
+use borrow.Author.Tests.{lt-ltb, le-ltb, ltb-true, leb-true, eqb-false}
 use Rattle.plan.proofs.Truth.{or-false}
-use Rattle.timing.specs.Ranges.{buffersMax}
-use Rattle.router.specs.Route.{Question}
 use Rattle.job.specs.Numbers.{Read, value, fault, numberMax, closed, thirdGroup, secondGroup, number}
 use Rattle.job.specs.Runs.{Run, values, refused, jobFault, prepend, oneMore, run}
-use Rattle.job.specs.Job.{Reading, asks, refuses, sizeFault, cellsMax, marksMax, markFault, gridNumber, countFault, withNumber, withRun, askedOf, questionFrom, ended, buffersFrom, countFrom, tablesFrom, marksFrom, sized, readJob}
-use Rattle.job.specs.declared.read.Asked.{Asked}
-use Rattle.job.proofs.Stages.{grid-sides}
+use Rattle.job.specs.Job.{Reading, withNumber, withRun}
 
 -- bytes that a number takes, at most
 unfoldable pub size : ℕ → ℕ

@@ -1,7 +1,7 @@
 -- The first 222 bytes of a job decide its reading.
 -- Each stage is local: one that goes on has taken few bytes, and one that refuses has looked at few. The longest job that reads whole has
 -- 2 + 128 + 36 + 1 + 54 = 221 bytes (width and height, marks, twelve numbers, the count, eighteen numbers), and one byte more says whether any is left over.
-use Prim.Native.Nat.{ℕ, zero, suc, _+_, _*_, _≤_, _<_}
+use Prim.Native.Nat.{ℕ, zero, suc, _+_, _*_, _≤_}
 use mathlib.Core.Path.{_≡_, refl}
 use mathlib.Core.Bool.{Bool, true, false, cond}
 use mathlib.Core.List.{List, [], _∷_}
@@ -14,7 +14,7 @@ use Rattle.timing.specs.Ranges.{buffersMax}
 use Rattle.router.specs.Route.{Question}
 use Rattle.job.specs.Numbers.{numberMax, number}
 use Rattle.job.specs.Runs.{jobFault, run}
-use Rattle.job.specs.Job.{Reading, asks, refuses, sizeFault, cellsMax, marksMax, markFault, gridNumber, countFault, withNumber, withRun, askedOf, questionFrom, ended, buffersFrom, countFrom, tablesFrom, marksFrom, sized, readJob}
+use Rattle.job.specs.Job.{Reading, refuses, sizeFault, cellsMax, marksMax, markFault, gridNumber, countFault, withNumber, askedOf, questionFrom, ended, buffersFrom, countFrom, tablesFrom, marksFrom, sized, readJob}
 use Rattle.job.specs.declared.read.Asked.{Asked}
 use Rattle.job.proofs.Stages.{grid-sides}
 use Rattle.job.proofs.Cut.{size, size-small, size-most, with-number, RunCut, with-run, bytesOf, bytes-are, run-cut}
@@ -49,8 +49,8 @@ unfolding countFrom
 count-cut marks a m bytes h =
     with-number m bytes (λ n rest. cond (ltb buffersMax n) (refuses countFault) (buffersFrom marks a n rest)) (omega arith)
     (λ n rest k most. unless (ltb buffersMax n) countFault (buffersFrom marks a n (take k rest)) (buffersFrom marks a n rest) (λ e.
-      let few : n ≤ buffersMax = ltb-false buffersMax n e in
-      buffers-cut marks a n k rest few (omega (arith, size-small n (omega arith)))))
+    let few : n ≤ buffersMax = ltb-false buffersMax n e in
+    buffers-cut marks a n k rest few (omega (arith, size-small n (omega arith)))))
 
 tables-cut : (w h : ℕ) (marks : List ℕ) (m : ℕ) (bytes : List ℕ) → 92 ≤ m → tablesFrom w h marks (take m bytes) ≡ tablesFrom w h marks bytes
 unfolding tablesFrom
@@ -68,9 +68,9 @@ sized-cut : (w h m : ℕ) (bytes : List ℕ) → 222 ≤ m + size w + size h →
 unfolding sized
 sized-cut w h m bytes long =
     unless (gridFault w h) gridNumber (cond (ltb cellsMax (w * h)) (refuses sizeFault) (marksFrom w h (take m bytes))) (cond (ltb cellsMax (w * h)) (refuses sizeFault) (marksFrom w h bytes)) (λ g.
-      let sides = grid-sides w h g in
-      unless (ltb cellsMax (w * h)) sizeFault (marksFrom w h (take m bytes)) (marksFrom w h bytes) (λ e.
-        marks-cut w h m bytes (ltb-false cellsMax (w * h) e) (omega (arith, size-small w (omega (arith, sides .0)), size-small h (omega (arith, sides .1))))))
+    let sides = grid-sides w h g in
+    unless (ltb cellsMax (w * h)) sizeFault (marksFrom w h (take m bytes)) (marksFrom w h bytes) (λ e.
+    marks-cut w h m bytes (ltb-false cellsMax (w * h) e) (omega (arith, size-small w (omega (arith, sides .0)), size-small h (omega (arith, sides .1))))))
 
 -- the bytes that decide
 abbrev pub jobBytes : ℕ
@@ -81,4 +81,4 @@ unfolding readJob
 job-decided bytes =
     with-number jobBytes bytes (λ w rest. withNumber (number rest) (λ h left. sized w h left)) (omega arith)
     (λ w rest k most. with-number k rest (λ h left. sized w h left) (omega (arith, size-most w))
-      (λ h left j more. sized-cut w h j left (omega arith)))
+    (λ h left j more. sized-cut w h j left (omega arith)))

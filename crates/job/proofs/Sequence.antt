@@ -64,10 +64,10 @@ module _ (n top refusal : ℕ) (job words : List ℕ) (start : ℕ) where
   going-more at i v next x g h room e told most =
       record {
         more =
-          ap (λ (vs : List ℕ). prependAll vs (run (n - (i + 1)) top refusal (drop next job))) (rw add-one (take-suc-set words i v room))
-          ∙ (prepend-last (take i words) v (run (n - (i + 1)) top refusal (drop next job))
-          ∙ (ap (prependAll (take i words)) (sym (run-next (n - (i + 1)) top refusal (drop at job) v (drop next job) (sym e ∙ ap (readOf job) told) most))
-          ∙ (ap (λ (k : ℕ). prependAll (take i words) (run k top refusal (drop at job))) (sym (one-left i h)) ∙ g .more)))
+            ap (λ (vs : List ℕ). prependAll vs (run (n - (i + 1)) top refusal (drop next job))) (rw add-one (take-suc-set words i v room))
+            ∙ (prepend-last (take i words) v (run (n - (i + 1)) top refusal (drop next job))
+            ∙ (ap (prependAll (take i words)) (sym (run-next (n - (i + 1)) top refusal (drop at job) v (drop next job) (sym e ∙ ap (readOf job) told) most))
+            ∙ (ap (λ (k : ℕ). prependAll (take i words) (run k top refusal (drop at job))) (sym (one-left i h)) ∙ g .more)));
       }
 
   refused-here : (at i k : ℕ) (vs : List ℕ) → Going n top refusal job words start at i → i < n → run (suc (n - (i + 1))) top refusal (drop at job) ≡ refused k → runOf vs job (Series.Refused k) ≡ run n top refusal (drop start job)

@@ -1,7 +1,7 @@
 -- The first 222 bytes decide what is printed.
+use Prim.Native.Nat.{ℕ}
 use mathlib.Core.Path.{_≡_, ap}
 use mathlib.Core.List.{List}
-use Prim.Native.Nat.{ℕ}
 use lib.ListN.{take}
 use Rattle.job.proofs.Decides.{jobBytes, job-decided}
 use Rattle.printing.specs.Printed.{readingText, printed}

@@ -5,7 +5,7 @@ use mathlib.Core.Bool.{Bool, true, false, cond}
 use mathlib.Core.List.{List, [], _∷_, _++_}
 use native.Mathlib.Omega.{arith}
 use lib.Dec.{leb}
-use lib.ListN.{length, getD, drop, length-append, length-replicate, List·getD-append}
+use lib.ListN.{length, getD, drop, length-replicate, List·getD-append}
 use borrow.Author.Tests.{leb-true}
 use Rattle.rules.specs.Rules.{Rules}
 use Rattle.rules.specs.Legal.{Route}
@@ -14,7 +14,7 @@ use Rattle.best.specs.Search.{Found, figures, nothing, search}
 use Rattle.best.specs.Best.{routeOf, Outcome, found, none, outcome, best}
 use Rattle.answers.specs.declared.answer.Answer.{Answer}
 use Rattle.router.specs.Route.{Question, rulesAsked, Check, passes, fails, checks, figuresOf, answerFor, visitsFor, answerAfter, answerOf, visitsAfter, visitsOf}
-use Rattle.text.specs.Answers.{figuresLine, visitLine, visitLines, answerText, Within}
+use Rattle.text.specs.Answers.{figuresLine, visitLines, answerText, Within}
 use Rattle.printing.specs.Printed.{blank}
 
 -- the lines of the first visits read no later words
@@ -56,6 +56,7 @@ outcome-text period (found r) v a b e = rw e (go (leb (2 * (steps r + 1)) (lengt
   where
     front : (x : List ℕ) → visitLines (written r ++ drop (length (written r)) x) (steps r + 1) ≡ visitLines (written r) (steps r + 1)
     front x = lines-front (written r) (drop (length (written r)) x) (steps r + 1) (omega (arith, written-length r, steps-are r v))
+
     go : (room : Bool) → answerText (cond room (Answer.Found (figuresOf period r)) (Answer.NoRoom (figuresOf period r))) (cond room (written r ++ drop (length (written r)) a) a) ≡ answerText (cond room (Answer.Found (figuresOf period r)) (Answer.NoRoom (figuresOf period r))) (cond room (written r ++ drop (length (written r)) b) b)
     go true = ap (λ (ls : List ℕ). figuresLine (figuresOf period r) ++ ls) (front a ∙ sym (front b))
     go false = refl

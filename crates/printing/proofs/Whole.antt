@@ -1,21 +1,21 @@
 -- From what the reading and the route call gave to the printed text.
 use Prim.Native.Nat.{ℕ, _+_, _*_, _≤_}
-use mathlib.Core.Path.{_≡_, refl, sym, ap, _∙_}
-use mathlib.Core.List.{List, [], _∷_, _++_}
+use mathlib.Core.Path.{_≡_, sym, ap, _∙_}
+use mathlib.Core.List.{List, _++_}
 use native.Mathlib.Omega.{arith}
 use lib.ListN.{length, take, drop}
-use lib.Seq.{sets, sets-eq}
+use lib.Seq.{sets-eq, length-sets, length-take-le}
 use Rattle.answers.specs.declared.records.BufferList.{BufferList}
 use Rattle.answers.specs.declared.answer.Answer.{Answer}
 use Rattle.router.specs.Route.{Question, questionOf, answerOf, visitsOf}
 use Rattle.job.specs.Fields.{buffersOf}
-use Rattle.job.specs.Job.{Reading, asks, refuses, questionFrom, marksOf, readJob, readingOf}
+use Rattle.job.specs.Job.{asks, questionFrom, marksOf, readJob, readingOf}
 use Rattle.job.specs.declared.read.Asked.{Asked}
 use Rattle.job.specs.declared.read.Job.{Job}
 use Rattle.job.proofs.Sound.{Small, asked-small}
 use Rattle.text.specs.Put.{Put}
 use Rattle.text.specs.Answers.{refusalText, answerText, Within}
-use Rattle.printing.specs.Printed.{scratchWords, visitWords, blank, readingText, printed}
+use Rattle.printing.specs.Printed.{scratchWords, visitWords, blank, readingText, printed, Prints}
 use Rattle.printing.proofs.Lent.{same-text, within-lent, blank-length}
 
 pub within-answer : (r : Answer) (q : Question) (s a : List ℕ) (n : ℕ) → r ≡ answerOf q s a → n ≡ length a → Within r n
@@ -50,14 +50,17 @@ unfolding questionFrom buffersOf
 small-count marks a n vs s = (s .buffers, s .cells)
 
 -- a text put at the start is the start, and the rest stays
-pub put-start : (text whole old new : List ℕ) (r : ℕ) → Put text 0 r old new → text ≡ whole → (r ≡ length whole) × (new ≡ whole ++ drop (length whole) old)
-put-start text whole old new r p e =
-    rw (← e) (
-      omega (arith, p .next),
-      p .holds ∙ (sets-eq text old 0 (omega (arith, p .next, p .within)) ∙ start),
-    )
-  where
-    start : take 0 old ++ text ++ drop (0 + length text) old ≡ text ++ drop (length text) old
-    start =
-        let z : 0 + length text ≡ length text = omega arith in
-        ap (λ (k : ℕ). text ++ drop k old) z
+put-start : {text old new : List ℕ} {r : ℕ} → Put text 0 r old new → new ≡ text ++ drop (length text) old
+put-start {text} {old} p =
+    let z : 0 + length text ≡ length text = omega arith in
+    p .holds ∙ (sets-eq text old 0 (omega (arith, p .next, p .within)) ∙ ap (λ (k : ℕ). text ++ drop k old) z)
+
+pub put-prints : {text old new : List ℕ} {r : ℕ} (job : List ℕ) → Put text 0 r old new → text ≡ printed job → Prints job r old new
+put-prints {text} {old} {new} {r} job p e =
+    let fits : r ≤ length new = omega (arith, p .within, ap length (p .holds), length-sets old 0 text) in
+    record {
+      count = rw (← e) (omega (arith, p .next));
+      holds = rw (← e) (put-start p);
+      within = fits;
+      part = sym (length-take-le r new fits);
+    }

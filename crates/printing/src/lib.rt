@@ -1,12 +1,11 @@
 // From the bytes of a job to the printed bytes: all that the route printer does but read and write.
 ghost use mathlib.Core.Path.{_≡_};
-ghost use mathlib.Core.List.{_++_};
 ghost use Prim.Native.Nat.{_*_, _≤_};
-ghost use lib.ListN.{length, take, drop};
+ghost use lib.ListN.{length, take};
 ghost use Rattle.timing.specs.Ranges.{buffersMax};
 ghost use Rattle.job.specs.Job.{asks, cellsMax, questionFrom, marksOf};
 ghost use Rattle.text.specs.Put.{Put};
-ghost use Rattle.printing.specs.Printed.{scratchWords, visitWords, textBytes, readingText, printed};
+ghost use Rattle.printing.specs.Printed.{scratchWords, visitWords, textBytes, readingText, Prints};
 use job::Asked;
 use job::Job;
 use job::buffers_of;
@@ -25,7 +24,7 @@ pub fn print_job(
     out: &mut [u8],
 ) -> usize
     requires { ⌜ (cellsMax ≤ length (now plan)) × ((length (now scratch) ≡ scratchWords) × ((length (now visits) ≡ visitWords) × (textBytes ≤ length (now out)))) ⌝ }
-    ensures { λ r. ⌜ (r ≡ length (printed (now (job .entry)))) × (now (out .exit) ≡ printed (now (job .entry)) ++ drop (length (printed (now (job .entry)))) (now (out .entry))) ⌝ }
+    ensures { λ r. ⌜ Prints (now (job .entry)) r (now (out .entry)) (now (out .exit)) ⌝ }
 {
     let read = read_job(job, plan, scratch);
     match read {

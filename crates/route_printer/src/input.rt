@@ -21,10 +21,11 @@ pub fn read_input(space: &mut [u8]) -> Input
     let mut left = INTERRUPTIONS;
     while done < space.len() {
         let got = libc::read(STDIN_FILENO, &mut space[done..]);
-        if got == 0 {
-            return Input::Bytes(done);
-        }
-        if got < 0 {
+        let more = io::count(got, &space[done..]);
+        if more == 0 {
+            if got == 0 {
+                return Input::Bytes(done);
+            }
             if os::errno() != EINTR {
                 return Input::Failed;
             }
@@ -33,7 +34,7 @@ pub fn read_input(space: &mut [u8]) -> Input
             }
             left -= 1;
         }
-        done += io::count(got, &space[done..]);
+        done += more;
     }
     Input::Bytes(done)
 }

@@ -28,7 +28,9 @@ fn answer(job: &[u8]) {
     let mut visits = [0u16; VISITS];
     let mut text = [0u8; TEXT];
     let n = print_job(job, &mut plan, &mut scratch, &mut visits, &mut text);
-    write_text(&text[..n]);
+    if !write_text(&text[..n]) {
+        os::fail(b"route_printer: standard output");
+    }
 }
 
 fn main() {

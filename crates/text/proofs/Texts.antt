@@ -25,9 +25,9 @@ put-then {a} {b} {old} {mid} {new} {at} {r} {s} p q =
       next = omega (arith, p .next, q .next, length-append a b);
       within = omega (arith, q .within, put-length p);
       holds =
-        q .holds
-        ∙ (ap (λ (xs : List ℕ). sets xs r b) (p .holds)
-        ∙ (ap (λ (k : ℕ). sets (sets old at a) k b) (p .next) ∙ sets-append a b old at));
+          q .holds
+          ∙ (ap (λ (xs : List ℕ). sets xs r b) (p .holds)
+          ∙ (ap (λ (k : ℕ). sets (sets old at a) k b) (p .next) ∙ sets-append a b old at));
     }
 
 pub put-none : (at : ℕ) (old : List ℕ) → at ≤ length old → Put [] at at old old

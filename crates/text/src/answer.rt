@@ -3,11 +3,11 @@ ghost use Prim.Native.Nat.{_+_, _*_, _≤_};
 ghost use lib.ListN.{length};
 ghost use Rattle.text.specs.Put.{Put};
 ghost use Rattle.text.specs.Answers.{refusalText, figuresLine, visitLine, visitLines, answerText, Within, textRoom};
-use answers::Answer;
-use answers::Figures;
 use crate::put::put_byte;
 use crate::put::put_decimal;
 use crate::put::put_word;
+use answers::Answer;
+use answers::Figures;
 
 // The number of "no route".
 const NO_ROUTE: u16 = 7;

@@ -1,60 +1,42 @@
-use Rattle.printing.proofs.Whole.{within-answer, asked-text}
-use lib.Seq.{length-take-le}
-use Prim.Native.Nat.{ℕ, _+_, _*_, _-_, _<_, _≤_, max}
-use mathlib.Core.Path.{_≡_, refl, sym, ap, _∙_}
-use mathlib.Core.Logic.{⊎-elim}
+use Prim.Native.Nat.{_*_}
+use mathlib.Core.Path.{sym}
 use native.Mathlib.Omega.{arith}
-use lib.ListN.{length, getD}
+use lib.Seq.{length-take-le}
 use borrow.Author.Needs.{needs}
+use Rattle.printing.proofs.Whole.{within-answer, asked-text}
 use Rattle.printing.proofs.print_asked.Statement.{statement}
 use Rattle.printing.proofs.print_asked.Tie as tie
-use Rattle.printing.proofs.print_asked.Reads as reads
-use Rattle.printing.proofs.print_asked.Lts as lts
-use Rattle.job.proofs.buffers_of.Reads as buffers-of-reads
-use Rattle.router.proofs.route_with.Reads as route-with-reads
-use Rattle.text.proofs.put_answer.Reads as put-answer-reads
 
--- src/lib.rt:49:9
 buffers-of-requires : tie.Need-buffers-of-requires
 buffers-of-requires c κs = search needs
 
--- src/lib.rt:51:17
 cast-cells : tie.Need-cast-cells
 cast-cells c = search needs
 
--- src/lib.rt:51:40
 cast-cells-2 : tie.Need-cast-cells-2
 cast-cells-2 c = search needs
 
--- src/lib.rt:51:17
 mul-cells : tie.Need-mul-cells
 mul-cells c = search needs
 
--- src/lib.rt:53:9
 slice-aggregate-route-with : tie.Need-slice-aggregate-route-with
 slice-aggregate-route-with c = sym (length-take-le (c .before .before .before .before .before .before .before .before .before .before .args .asked .width * c .before .before .before .before .before .before .before .before .before .before .args .asked .height) (c .before .before .before .before .before .before .before .before .before .before .args .plan .now) (omega arith))
 
--- src/lib.rt:52:9
 route-with-requires : tie.Need-route-with-requires
 route-with-requires c κs = search needs
 
--- src/lib.rt:63:5
 put-answer-requires : tie.Need-put-answer-requires
 put-answer-requires c κs = (within-answer _ _ _ _ _ (c .before .before .before .before .before .before .route-with .ensures .0) (c .before .before .before .before .before .before .route-with .kept .1 .1 .1 .1 .1 .1 .1 .1 .0), omega (arith, c .before .before .before .before .before .before .route-with .kept .1 .1 .1 .1 .1 .1 .1 .1 .0, c .before .before .before .before .before .before .before .before .before .before .before .before .before .before .before .before .before .before .before .pre .1 .1 .1 .1 .0, c .before .before .before .before .before .before .before .before .before .before .before .before .before .before .before .before .before .before .before .pre .1 .1 .1 .1 .1))
 
--- src/lib.rt:38:1
 same-length : tie.Need-same-length
 same-length c = search needs
 
--- src/lib.rt:38:1
 same-length-2 : tie.Need-same-length-2
 same-length-2 c = search needs
 
--- src/lib.rt:38:1
 same-length-3 : tie.Need-same-length-3
 same-length-3 c = search needs
 
--- src/lib.rt:38:1
 returns : tie.Need-returns
 returns c = let a = c .before .before .before .before .before .before .before .before .before .before .before .before .before .before .before .before .before .before .before .before .before .before .args in
     rw (asked-text (a .plan .now) (a .scratch .now) (a .visits .now) (a .asked) (a .count) _ _ _ (c .before .before .before .before .before .before .before .before .before .before .before .before .before .before .before .before .buffers-of .ensures) (c .before .before .before .before .before .before .before .before .before .before .before .before .before .before .before .before .before .before .before .before .before .before .pre .1 .1 .1 .0) (c .before .before .before .before .before .before .before .before .before .before .before .before .before .before .before .before .before .before .before .before .before .before .pre .1 .1 .1 .1 .0) (c .before .before .before .before .before .before .before .before .before .route-with .ensures .0) (c .before .before .before .before .before .before .before .before .before .route-with .ensures .1 .1))

@@ -34,9 +34,13 @@ loop-less : tie.Need-loop-less Inv-loop μ-loop
 loop-less c = omega arith
 
 loop-again : tie.Need-loop-again Inv-loop μ-loop
-loop-again c = (omega arith,
-    (omega (arith, length-set (c .before .before .loop .plan) (c .before .before .loop .i) (getD (c .before .before .before .args .words .now) (c .before .before .loop .i) 0)),
-    copied-more (c .before .before .before .args .words .now) (c .before .before .loop .plan) (c .before .before .loop .i) (omega arith) (omega arith) (c .before .before .loop .inv .1 .1)))
+loop-again c = (
+  omega arith,
+  (
+    omega (arith, length-set (c .before .before .loop .plan) (c .before .before .loop .i) (getD (c .before .before .before .args .words .now) (c .before .before .loop .i) 0)),
+    copied-more (c .before .before .before .args .words .now) (c .before .before .loop .plan) (c .before .before .loop .i) (omega arith) (omega arith) (c .before .before .loop .inv .1 .1),
+  ),
+)
 
 same-length : tie.Need-same-length Inv-loop μ-loop
 same-length c = omega arith

@@ -50,9 +50,13 @@ loop-less : tie.Need-loop-less Inv-loop μ-loop
 loop-less c = omega arith
 
 loop-again : tie.Need-loop-again Inv-loop μ-loop
-loop-again c = (omega arith,
-    (omega (arith, length-set (c .before .before .before .before .before .before .loop .words) (c .before .before .before .before .before .before .loop .i) (c .before .before .value .given .0 .0)),
-    going-more _ _ _ _ _ _ _ _ _ _ _ (c .before .before .before .before .before .before .loop .inv .1 .1) (c .before .before .before .before .before .loop-test .taken) (omega arith) (c .before .before .before .before .read-number .ensures) (c .before .before .value .given .1) (c .if1 .left)))
+loop-again c = (
+  omega arith,
+  (
+    omega (arith, length-set (c .before .before .before .before .before .before .loop .words) (c .before .before .before .before .before .before .loop .i) (c .before .before .value .given .0 .0)),
+    going-more _ _ _ _ _ _ _ _ _ _ _ (c .before .before .before .before .before .before .loop .inv .1 .1) (c .before .before .before .before .before .loop-test .taken) (omega arith) (c .before .before .before .before .read-number .ensures) (c .before .before .value .given .1) (c .if1 .left),
+  ),
+)
 
 same-length-3 : tie.Need-same-length-3 Inv-loop μ-loop
 same-length-3 c = omega arith

@@ -50,10 +50,13 @@ loop-less c = omega arith
 
 loop-again : tie.Need-loop-again Inv-loop μ-loop
 loop-again c = let visits = c .before .before .before .before .before .before .before .before .before .before .args .visits .now in
-    let i = c .before .before .before .before .before .before .before .loop .i in
-    (omega arith,
-    (omega (arith, c .before .before .put-visit .ensures .next, visit-length (getD visits (2 * i) 0) (getD visits (2 * i + 1) 0) (omega (arith, c .before .before .before .before .before .shared-slice-known2 .given (2 * i))) (omega (arith, c .before .before .before .before .before .shared-slice-known2 .given (2 * i + 1)))),
-    lines-more visits i (c .before .before .before .before .before .before .before .loop .inv .1 .1) (c .before .before .put-visit .ensures)))
+    let i = c .before .before .before .before .before .before .before .loop .i in (
+      omega arith,
+      (
+        omega (arith, c .before .before .put-visit .ensures .next, visit-length (getD visits (2 * i) 0) (getD visits (2 * i + 1) 0) (omega (arith, c .before .before .before .before .before .shared-slice-known2 .given (2 * i))) (omega (arith, c .before .before .before .before .before .shared-slice-known2 .given (2 * i + 1)))),
+        lines-more visits i (c .before .before .before .before .before .before .before .loop .inv .1 .1) (c .before .before .put-visit .ensures),
+      ),
+    )
 
 same-length : tie.Need-same-length Inv-loop μ-loop
 same-length c = put-length (c .before .loop .inv .1 .1)
