@@ -12,12 +12,26 @@ use borrow.Author.Tests.{ltb-false}
 use Rattle.plan.specs.Check.{gridFault}
 use Rattle.timing.specs.Ranges.{buffersMax}
 use Rattle.router.specs.Route.{Question}
-use Rattle.job.specs.Numbers.{numberMax, number}
-use Rattle.job.specs.Runs.{jobFault, run}
-use Rattle.job.specs.Job.{Reading, refuses, sizeFault, cellsMax, marksMax, markFault, gridNumber, countFault, withNumber, askedOf, questionFrom, ended, buffersFrom, countFrom, tablesFrom, marksFrom, sized, readJob}
+use Rattle.numbers.specs.Numbers.{Read, numberMax, number}
+use Rattle.numbers.specs.Runs.{Run, jobFault, run}
+use Rattle.job.specs.Job.{Reading, refuses, sizeFault, cellsMax, marksMax, markFault, gridNumber, countFault, withNumber, withRun, askedOf, questionFrom, ended, buffersFrom, countFrom, tablesFrom, marksFrom, sized, readJob}
 use Rattle.job.specs.declared.read.Asked.{Asked}
 use Rattle.job.proofs.Stages.{grid-sides}
-use Rattle.job.proofs.Cut.{size, size-small, size-most, with-number, RunCut, with-run, bytesOf, bytes-are, run-cut}
+use Rattle.numbers.proofs.Cut.{size, size-small, size-most, Cut, both-fault, both-value, number-cut, RunCut, both-refused, both-values, bytesOf, bytes-are, run-cut}
+
+-- what follows a number, or a run
+with-number : (m : ℕ) (bytes : List ℕ) (next : ℕ → List ℕ → Reading) → 3 ≤ m → ((v : ℕ) (rest : List ℕ) (k : ℕ) → m ≤ k + size v → next v (take k rest) ≡ next v rest) → withNumber (number (take m bytes)) next ≡ withNumber (number bytes) next
+unfolding withNumber
+with-number m bytes next h same = go (number-cut m bytes h)
+  where
+    go : {x y : Read} → Cut m x y → withNumber x next ≡ withNumber y next
+    go both-fault = refl
+    go (both-value v rest k most) = same v rest k most
+
+with-run : {m t : ℕ} {x y : Run} (next : List ℕ → List ℕ → Reading) → RunCut m t x y → ((vs rest : List ℕ) (k : ℕ) → m ≤ k + t → next vs (take k rest) ≡ next vs rest) → withRun x next ≡ withRun y next
+unfolding withRun
+with-run next (both-refused k) same = refl
+with-run next (both-values vs rest k most) same = same vs rest k most
 
 -- a run of numbers of any size, and a run of marks
 numbers-cut : (n m : ℕ) (bytes : List ℕ) → n * 3 ≤ m → RunCut m (bytesOf n 3) (run n numberMax jobFault (take m bytes)) (run n numberMax jobFault bytes)

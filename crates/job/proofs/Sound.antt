@@ -8,8 +8,8 @@ use borrow.Author.Tests.{ltb-false}
 use Rattle.plan.specs.Check.{gridFault}
 use Rattle.timing.specs.Ranges.{buffersMax}
 use Rattle.router.specs.Route.{Question}
-use Rattle.job.specs.Numbers.{Read, value, fault, numberMax, number}
-use Rattle.job.specs.Runs.{Run, values, refused, jobFault, run}
+use Rattle.numbers.specs.Numbers.{Read, value, fault, numberMax, number}
+use Rattle.numbers.specs.Runs.{Run, values, refused, jobFault, run}
 use Rattle.job.specs.Fields.{buffersOf}
 use Rattle.job.specs.Job.{Reading, asks, refuses, sizeFault, cellsMax, marksMax, markFault, gridNumber, countFault, withNumber, withRun, askedOf, questionFrom, ended, buffersFrom, countFrom, tablesFrom, marksFrom, sized, readJob}
 use Rattle.job.specs.declared.read.Asked.{Asked}

@@ -13,17 +13,17 @@ use Rattle.plan.specs.Plan.{sideMax}
 use Rattle.plan.specs.Check.{gridFault}
 use Rattle.timing.specs.Ranges.{buffersMax}
 use Rattle.answers.specs.declared.records.Tables.{Tables}
-use Rattle.job.specs.Numbers.{value, fault, numberMax, number, readOf}
-use Rattle.job.specs.Runs.{Run, values, refused, jobFault, run, runOf}
+use Rattle.numbers.specs.Numbers.{value, fault, numberMax, number, readOf}
+use Rattle.numbers.specs.Runs.{Run, values, refused, jobFault, run, runOf}
 use Rattle.job.specs.Fields.{tablesOf}
 use Rattle.job.specs.Job.{sizeFault, cellsMax, marksMax, markFault, gridNumber, countFault, withNumber, withRun, askedOf, ended, buffersFrom, countFrom, tablesFrom, marksFrom, sized, readJob, marksOf, readingOf}
-use Rattle.job.specs.declared.number.Number.{Number}
-use Rattle.job.specs.declared.series.Series.{Series}
+use Rattle.numbers.specs.declared.number.Number.{Number}
+use Rattle.numbers.specs.declared.series.Series.{Series}
 use Rattle.job.specs.declared.read.Asked.{Asked}
 use Rattle.job.specs.declared.read.Job.{Job}
 use Rattle.plan.proofs.Truth.{or-false}
-use Rattle.job.proofs.Groups.{byte-at}
-use Rattle.job.proofs.Bounded.{Bounded, All, run-bounded}
+use Rattle.numbers.proofs.Groups.{byte-at}
+use Rattle.numbers.proofs.Bounded.{Bounded, All, run-bounded}
 
 -- what an answer of the code says of the definition
 pub number-told : (job bytes : List ℕ) (x : Number) (v next : ℕ) → readOf job x ≡ number bytes → x ≡ Number.Value v next → number bytes ≡ value v (drop next job)

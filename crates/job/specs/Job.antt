@@ -11,8 +11,8 @@ use Rattle.answers.specs.Numbers.{refusalNumber}
 use Rattle.answers.specs.declared.answer.Refusal.{Refusal}
 use Rattle.answers.specs.declared.answer.Fault.{Fault}
 use Rattle.router.specs.Route.{Question, questionOf}
-use Rattle.job.specs.Numbers.{Read, value, fault, numberMax, number}
-use Rattle.job.specs.Runs.{Run, values, refused, jobFault, run}
+use Rattle.numbers.specs.Numbers.{Read, value, fault, numberMax, number}
+use Rattle.numbers.specs.Runs.{Run, values, refused, jobFault, run}
 use Rattle.job.specs.Fields.{tablesOf, tableNumbers, buffersOf}
 use Rattle.job.specs.declared.read.Asked.{Asked}
 use Rattle.job.specs.declared.read.Job.{Job}

@@ -1,4 +1,2 @@
-pub mod Numbers
-pub mod Runs
 pub mod Fields
 pub mod Job

@@ -1,8 +1,6 @@
 // The reading of a job: document 01, "The job and its printed sheet". Part of the program; outsiders have no such call.
 mod fields;
-mod number;
 mod read;
-mod series;
 
 pub use fields::buffers_of;
 pub use read::Asked;

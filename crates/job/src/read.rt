@@ -7,11 +7,11 @@ ghost use Rattle.timing.specs.Ranges.{buffersMax};
 ghost use Rattle.job.specs.Job.{cellsMax, readJob, marksFrom, tablesFrom, countFrom, buffersFrom, marksOf, readingOf};
 use crate::fields::copy_marks;
 use crate::fields::tables_of;
-use crate::number::Number;
-use crate::number::read_number;
-use crate::series::Series;
-use crate::series::read_series;
 use answers::Tables;
+use numbers::Number;
+use numbers::Series;
+use numbers::read_number;
+use numbers::read_series;
 use plan::grid_fault;
 
 // The program takes plans of at most this many cells.

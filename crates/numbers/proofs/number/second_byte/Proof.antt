@@ -1,15 +1,15 @@
 use mathlib.Core.Path.{sym, _∙_}
 use native.Mathlib.Omega.{arith}
 use borrow.Author.Needs.{needs}
-use Rattle.job.proofs.Groups.{second-short, second-last, second-third, ends-fault, ends-value}
-use Rattle.job.proofs.number.second_byte.Statement.{statement}
-use Rattle.job.proofs.number.second_byte.Tie as tie
+use Rattle.numbers.proofs.Groups.{second-short, second-last, second-third, ends-fault, ends-value}
+use Rattle.numbers.proofs.number.second_byte.Statement.{statement}
+use Rattle.numbers.proofs.number.second_byte.Tie as tie
 
 returns : tie.Need-returns
 returns c = second-short _ _ _ (c .if1 .taken)
 
-shared-slice-read-byte : tie.Need-shared-slice-read-byte
-shared-slice-read-byte c = search needs
+shared-slice-read-second : tie.Need-shared-slice-read-second
+shared-slice-read-second c = search needs
 
 returns-2 : tie.Need-returns-2
 returns-2 c = ends-fault _ 0 _ _ _ (c .if2 .taken) ∙ sym (second-last (c .before .before .before .before .args .job .now) (c .before .before .before .before .args .at) (c .before .before .before .before .args .low) (omega arith) (omega arith))
@@ -55,7 +55,7 @@ second-byte-spec =
     tie.close
     (tie.spec
     returns
-    shared-slice-read-byte
+    shared-slice-read-second
     returns-2
     cast-t9
     mul-t10

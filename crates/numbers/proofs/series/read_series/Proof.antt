@@ -3,9 +3,9 @@ use mathlib.Core.Path.{_≡_, refl}
 use native.Mathlib.Omega.{arith}
 use lib.ListN.{length, length-set}
 use borrow.Author.Needs.{needs}
-use Rattle.job.proofs.Sequence.{Going, going-start, going-more, going-fault, going-above, going-done}
-use Rattle.job.proofs.series.read_series.Statement.{statement}
-use Rattle.job.proofs.series.read_series.Tie as tie
+use Rattle.numbers.proofs.Sequence.{Going, going-start, going-more, going-fault, going-above, going-done}
+use Rattle.numbers.proofs.series.read_series.Statement.{statement}
+use Rattle.numbers.proofs.series.read_series.Tie as tie
 
 abbrev Inv-loop : tie.InvT-loop
 Inv-loop job start n top refusal words₀ at₀ i₀ words at i = (i ≤ n) × ((length words ≡ length words₀) × Going n top refusal job words start at i)

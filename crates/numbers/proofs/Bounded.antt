@@ -7,8 +7,8 @@ use native.Mathlib.Omega.{arith}
 use lib.Dec.{leb}
 use lib.ListN.{length, getD}
 use borrow.Author.Tests.{leb-true}
-use Rattle.job.specs.Numbers.{Read, value, fault, number}
-use Rattle.job.specs.Runs.{Run, values, refused, prepend, oneMore, run}
+use Rattle.numbers.specs.Numbers.{Read, value, fault, number}
+use Rattle.numbers.specs.Runs.{Run, values, refused, prepend, oneMore, run}
 
 pub record Bounded (n top : ℕ) (vs : List ℕ) : Type 0 where
   pub many : length vs ≡ n

@@ -4,9 +4,9 @@ use mathlib.Core.Bool.{cond}
 use mathlib.Core.List.{List, [], _∷_}
 use lib.Dec.{leb}
 use lib.ListN.{drop}
-use Rattle.job.specs.Numbers.{Read, value, fault, number}
-use Rattle.job.specs.declared.series.Series.{Series}
-use Rattle.job.specs.declared.series.Series.the-variants.{Read as ReadTo, Refused}
+use Rattle.numbers.specs.Numbers.{Read, value, fault, number}
+use Rattle.numbers.specs.declared.series.Series.{Series}
+use Rattle.numbers.specs.declared.series.Series.the-variants.{Read as ReadTo, Refused}
 
 -- refusal 15
 abbrev pub jobFault : ℕ

@@ -10,9 +10,8 @@ use lib.Dec.{eqb, leb, ltb}
 use lib.ListN.{take}
 use borrow.Author.Tests.{lt-ltb, le-ltb, ltb-true, leb-true, eqb-false}
 use Rattle.plan.proofs.Truth.{or-false}
-use Rattle.job.specs.Numbers.{Read, value, fault, numberMax, closed, thirdGroup, secondGroup, number}
-use Rattle.job.specs.Runs.{Run, values, refused, jobFault, prepend, oneMore, run}
-use Rattle.job.specs.Job.{Reading, withNumber, withRun}
+use Rattle.numbers.specs.Numbers.{Read, value, fault, numberMax, closed, thirdGroup, secondGroup, number}
+use Rattle.numbers.specs.Runs.{Run, values, refused, jobFault, prepend, oneMore, run}
 
 -- bytes that a number takes, at most
 unfoldable pub size : ℕ → ℕ
@@ -74,28 +73,15 @@ first-cut k (byte ∷ rest) = go (ltb byte 128) refl
     go true e = both-value byte rest (suc (suc k)) (omega (arith, size-small byte (ltb-true byte 128 e)))
     go false e = second-cut (byte - 128) (suc (suc (suc k))) k rest (omega arith)
 
-number-cut : (m : ℕ) (bytes : List ℕ) → 3 ≤ m → Cut m (number (take m bytes)) (number bytes)
+pub number-cut : (m : ℕ) (bytes : List ℕ) → 3 ≤ m → Cut m (number (take m bytes)) (number bytes)
 number-cut m bytes h =
     let e : suc (suc (suc (m - 3))) ≡ m = omega arith in
     rw e at (first-cut (m - 3) bytes)
-
-pub with-number : (m : ℕ) (bytes : List ℕ) (next : ℕ → List ℕ → Reading) → 3 ≤ m → ((v : ℕ) (rest : List ℕ) (k : ℕ) → m ≤ k + size v → next v (take k rest) ≡ next v rest) → withNumber (number (take m bytes)) next ≡ withNumber (number bytes) next
-unfolding withNumber
-with-number m bytes next h same = go (number-cut m bytes h)
-  where
-    go : {x y : Read} → Cut m x y → withNumber x next ≡ withNumber y next
-    go both-fault = refl
-    go (both-value v rest k most) = same v rest k most
 
 -- the same for a run: after the numbers there are at least m bytes less t
 pub data RunCut (m t : ℕ) : Run → Run → Type 0 where
   both-refused : (k : ℕ) → RunCut m t (refused k) (refused k)
   both-values : (vs rest : List ℕ) (k : ℕ) → m ≤ k + t → RunCut m t (values vs (take k rest)) (values vs rest)
-
-pub with-run : {m t : ℕ} {x y : Run} (next : List ℕ → List ℕ → Reading) → RunCut m t x y → ((vs rest : List ℕ) (k : ℕ) → m ≤ k + t → next vs (take k rest) ≡ next vs rest) → withRun x next ≡ withRun y next
-unfolding withRun
-with-run next (both-refused k) same = refl
-with-run next (both-values vs rest k most) same = same vs rest k most
 
 prepend-cut : (s : ℕ) {m k t : ℕ} {x y : Run} (v : ℕ) → m ≤ k + s → RunCut k t x y → RunCut m (t + s) (prepend v x) (prepend v y)
 unfolding prepend

@@ -5,8 +5,8 @@ use mathlib.Core.Bool.{_||_, cond}
 use mathlib.Core.List.{List, [], _∷_}
 use lib.Dec.{eqb, ltb}
 use lib.ListN.{drop}
-use Rattle.job.specs.declared.number.Number.{Number}
-use Rattle.job.specs.declared.number.Number.the-variants.{Value, Fault}
+use Rattle.numbers.specs.declared.number.Number.{Number}
+use Rattle.numbers.specs.declared.number.Number.the-variants.{Value, Fault}
 
 -- a number with the bytes after it, or refusal 15
 pub data Read : Type 0 where

@@ -2,7 +2,7 @@
 ghost use mathlib.Core.Path.{_≡_};
 ghost use Prim.Native.Nat.{_≤_};
 ghost use lib.ListN.{length, take, drop};
-ghost use Rattle.job.specs.Runs.{run, runOf};
+ghost use Rattle.numbers.specs.Runs.{run, runOf};
 use crate::number::Number;
 use crate::number::read_number;
 

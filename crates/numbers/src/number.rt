@@ -2,7 +2,7 @@
 ghost use mathlib.Core.Path.{_≡_};
 ghost use Prim.Native.Nat.{_<_};
 ghost use lib.ListN.{drop};
-ghost use Rattle.job.specs.Numbers.{number, secondGroup, thirdGroup, readOf};
+ghost use Rattle.numbers.specs.Numbers.{number, secondGroup, thirdGroup, readOf};
 
 // The number that starts at a place, with the place after it; Fault is refusal 15.
 pub enum Number {
@@ -17,11 +17,11 @@ pub fn read_number(job: &[u8], at: usize) -> Number
     if job.len() <= at {
         return Number::Fault;
     }
-    let byte = job[at];
-    if byte < 128 {
-        return Number::Value(byte as u16, at + 1);
+    let first = job[at];
+    if first < 128 {
+        return Number::Value(first as u16, at + 1);
     }
-    second_byte(job, at + 1, byte as u16 - 128)
+    second_byte(job, at + 1, first as u16 - 128)
 }
 
 // The rest of a number whose first group is `low`.
@@ -32,14 +32,14 @@ fn second_byte(job: &[u8], at: usize, low: u16) -> Number
     if job.len() <= at {
         return Number::Fault;
     }
-    let byte = job[at];
-    if byte == 0 {
+    let second = job[at];
+    if second == 0 {
         return Number::Fault;
     }
-    if byte < 128 {
-        return Number::Value(low + 128 * byte as u16, at + 1);
+    if second < 128 {
+        return Number::Value(low + 128 * second as u16, at + 1);
     }
-    third_byte(job, at + 1, low + 128 * (byte as u16 - 128))
+    third_byte(job, at + 1, low + 128 * (second as u16 - 128))
 }
 
 // The rest of a number whose first two groups are `low`.
@@ -50,14 +50,14 @@ fn third_byte(job: &[u8], at: usize, low: u16) -> Number
     if job.len() <= at {
         return Number::Fault;
     }
-    let byte = job[at];
-    if byte == 0 {
+    let third = job[at];
+    if third == 0 {
         return Number::Fault;
     }
-    if 128 <= byte {
+    if 128 <= third {
         return Number::Fault;
     }
-    let value = low as u32 + 16384 * byte as u32;
+    let value = low as u32 + 16384 * third as u32;
     if 65535 < value {
         return Number::Fault;
     }

@@ -7,10 +7,10 @@ use native.Mathlib.Omega.{arith}
 use lib.ListN.{length, take, drop, set}
 use lib.Seq.{take-suc-set}
 use borrow.Author.Tests.{le-leb, lt-leb}
-use Rattle.job.specs.Numbers.{value, fault, number, readOf}
-use Rattle.job.specs.Runs.{Run, values, refused, jobFault, prepend, oneMore, run, runOf}
-use Rattle.job.specs.declared.number.Number.{Number}
-use Rattle.job.specs.declared.series.Series.{Series}
+use Rattle.numbers.specs.Numbers.{value, fault, number, readOf}
+use Rattle.numbers.specs.Runs.{Run, values, refused, jobFault, prepend, oneMore, run, runOf}
+use Rattle.numbers.specs.declared.number.Number.{Number}
+use Rattle.numbers.specs.declared.series.Series.{Series}
 
 module _ (n top refusal : ℕ) (bytes : List ℕ) where
   pub run-next : (v : ℕ) (rest : List ℕ) → number bytes ≡ value v rest → v ≤ top → run (suc n) top refusal bytes ≡ prepend v (run n top refusal rest)

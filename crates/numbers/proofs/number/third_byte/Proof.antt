@@ -1,15 +1,15 @@
 use mathlib.Core.Path.{sym, _∙_}
 use native.Mathlib.Omega.{arith}
 use borrow.Author.Needs.{needs}
-use Rattle.job.proofs.Groups.{third-short, third-last, third-fourth, ends-fault, ends-large, ends-value}
-use Rattle.job.proofs.number.third_byte.Statement.{statement}
-use Rattle.job.proofs.number.third_byte.Tie as tie
+use Rattle.numbers.proofs.Groups.{third-short, third-last, third-fourth, ends-fault, ends-large, ends-value}
+use Rattle.numbers.proofs.number.third_byte.Statement.{statement}
+use Rattle.numbers.proofs.number.third_byte.Tie as tie
 
 returns : tie.Need-returns
 returns c = third-short _ _ _ (c .if1 .taken)
 
-shared-slice-read-byte : tie.Need-shared-slice-read-byte
-shared-slice-read-byte c = search needs
+shared-slice-read-third : tie.Need-shared-slice-read-third
+shared-slice-read-third c = search needs
 
 returns-2 : tie.Need-returns-2
 returns-2 c = ends-fault _ 0 _ _ _ (c .if2 .taken) ∙ sym (third-last (c .before .before .before .args .job .now) (c .before .before .before .args .at) (c .before .before .before .args .low) (omega arith) (omega arith))
@@ -43,7 +43,7 @@ third-byte-spec =
     tie.close
     (tie.spec
     returns
-    shared-slice-read-byte
+    shared-slice-read-third
     returns-2
     returns-3
     cast-value

@@ -1,15 +1,15 @@
 use mathlib.Core.Path.{sym, _∙_}
 use native.Mathlib.Omega.{arith}
 use borrow.Author.Needs.{needs}
-use Rattle.job.proofs.Groups.{number-short, number-last, number-second}
-use Rattle.job.proofs.number.read_number.Statement.{statement}
-use Rattle.job.proofs.number.read_number.Tie as tie
+use Rattle.numbers.proofs.Groups.{number-short, number-last, number-second}
+use Rattle.numbers.proofs.number.read_number.Statement.{statement}
+use Rattle.numbers.proofs.number.read_number.Tie as tie
 
 returns : tie.Need-returns
 returns c = number-short _ _ (c .if1 .taken)
 
-shared-slice-read-byte : tie.Need-shared-slice-read-byte
-shared-slice-read-byte c = search needs
+shared-slice-read-first : tie.Need-shared-slice-read-first
+shared-slice-read-first c = search needs
 
 cast-t8 : tie.Need-cast-t8
 cast-t8 c = search needs
@@ -40,7 +40,7 @@ read-number-spec =
     tie.close
     (tie.spec
     returns
-    shared-slice-read-byte
+    shared-slice-read-first
     cast-t8
     add-t9
     returns-2

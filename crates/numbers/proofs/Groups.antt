@@ -6,8 +6,8 @@ use native.Mathlib.Numerals.{add-one}
 use lib.ListN.{length, getD, drop, drop-of-length-le}
 use lib.Seq.{drop-cons}
 use borrow.Author.Tests.{lt-ltb, le-ltb, eq-eqb, ne-eqb}
-use Rattle.job.specs.Numbers.{value, fault, numberMax, closed, thirdGroup, secondGroup, number, readOf}
-use Rattle.job.specs.declared.number.Number.{Number}
+use Rattle.numbers.specs.Numbers.{value, fault, numberMax, closed, thirdGroup, secondGroup, number, readOf}
+use Rattle.numbers.specs.declared.number.Number.{Number}
 
 pub byte-at : (job : List ℕ) (at : ℕ) → at < length job → drop at job ≡ getD job at 0 ∷ drop (at + 1) job
 byte-at job at h = rw (add-one, drop-cons job at 0)
