@@ -1,0 +1,128 @@
+// A whole job, read in document 01's order; the first fault met decides.
+ghost use mathlib.Core.Path.{_≡_};
+ghost use mathlib.Core.List.{List};
+ghost use Prim.Native.Nat.{ℕ, _*_, _≤_};
+ghost use lib.ListN.{length, take, drop};
+ghost use Rattle.timing.specs.Ranges.{buffersMax};
+ghost use Rattle.job.specs.Job.{cellsMax, readJob, marksFrom, tablesFrom, countFrom, buffersFrom, marksOf, readingOf};
+use crate::fields::copy_marks;
+use crate::fields::tables_of;
+use answers::Tables;
+use numbers::Number;
+use numbers::Series;
+use numbers::read_number;
+use numbers::read_series;
+use plan::grid_fault;
+
+// The program takes plans of at most this many cells.
+const CELLS_MAX: usize = 128;
+
+// What a job asks, but for the marks and the buffers, which stand in the words lent.
+pub struct Asked {
+    pub width: u16,
+    pub height: u16,
+    pub tables: Tables,
+    pub source: u16,
+    pub sink: u16,
+}
+
+// The question with its count of buffers, or the refusal's number.
+pub enum Job {
+    Asks(Asked, usize),
+    Refused(u16),
+}
+
+// The job: its marks go to the plan, its buffers' numbers to the words.
+pub fn read_job(job: &[u8], plan: &mut [u8], words: &mut [u16]) -> Job
+    requires { ⌜ (cellsMax ≤ length (now plan)) × (cellsMax ≤ length (now words)) ⌝ }
+    ensures { λ r. ⌜ readingOf (now (plan .exit)) (now (words .exit)) r ≡ readJob (now (job .entry)) ⌝ }
+{
+    let Number::Value(width, second) = read_number(job, 0) else {
+        return Job::Refused(15);
+    };
+    let Number::Value(height, at) = read_number(job, second) else {
+        return Job::Refused(15);
+    };
+    if grid_fault(width, height) {
+        return Job::Refused(1);
+    }
+    if CELLS_MAX < width as usize * height as usize {
+        return Job::Refused(16);
+    }
+    read_marks(job, at, width, height, plan, words)
+}
+
+// From the marks on.
+fn read_marks(
+    job: &[u8],
+    at: usize,
+    width: u16,
+    height: u16,
+    plan: &mut [u8],
+    words: &mut [u16],
+) -> Job
+    requires { ⌜ (width * height ≤ cellsMax) × ((cellsMax ≤ length (now plan)) × (cellsMax ≤ length (now words))) ⌝ }
+    ensures { λ r. ⌜ readingOf (now (plan .exit)) (now (words .exit)) r ≡ marksFrom width height (drop at (now (job .entry))) ⌝ }
+{
+    let cells = width as usize * height as usize;
+    let marks = read_series(job, at, cells, 15, 3, words);
+    match marks {
+        Series::Refused(n) => Job::Refused(n),
+        Series::Read(next) => {
+            copy_marks(words, cells, plan);
+            read_tables(job, next, width, height, words)
+        }
+    }
+}
+
+// From the tables on.
+fn read_tables(job: &[u8], at: usize, width: u16, height: u16, words: &mut [u16]) -> Job
+    requires { ⌜ cellsMax ≤ length (now words) ⌝ }
+    ensures { λ r. ⌜ ((plan : List ℕ) → readingOf plan (now (words .exit)) r ≡ tablesFrom width height (take (width * height) plan) (drop at (now (job .entry)))) ⌝ }
+{
+    let tables = read_series(job, at, 12, 65535, 15, words);
+    match tables {
+        Series::Refused(n) => Job::Refused(n),
+        Series::Read(next) => {
+            let asked = Asked {
+                width: width,
+                height: height,
+                tables: tables_of(words),
+                source: words[10],
+                sink: words[11],
+            };
+            read_count(job, next, asked, words)
+        }
+    }
+}
+
+// From the count of the buffers on.
+fn read_count(job: &[u8], at: usize, asked: Asked, words: &mut [u16]) -> Job
+    requires { ⌜ cellsMax ≤ length (now words) ⌝ }
+    ensures { λ r. ⌜ ((plan : List ℕ) → readingOf plan (now (words .exit)) r ≡ countFrom (marksOf plan asked) asked (drop at (now (job .entry)))) ⌝ }
+{
+    let Number::Value(count, next) = read_number(job, at) else {
+        return Job::Refused(15);
+    };
+    if 6 < count {
+        return Job::Refused(4);
+    }
+    read_buffers(job, next, asked, count as usize, words)
+}
+
+// From the buffers on. No byte may be left over.
+fn read_buffers(job: &[u8], at: usize, asked: Asked, count: usize, words: &mut [u16]) -> Job
+    requires { ⌜ (count ≤ buffersMax) × (cellsMax ≤ length (now words)) ⌝ }
+    ensures { λ r. ⌜ ((plan : List ℕ) → readingOf plan (now (words .exit)) r ≡ buffersFrom (marksOf plan asked) asked count (drop at (now (job .entry)))) ⌝ }
+{
+    let buffers = read_series(job, at, 3 * count, 65535, 15, words);
+    match buffers {
+        Series::Refused(n) => Job::Refused(n),
+        Series::Read(next) => {
+            if next < job.len() {
+                return Job::Refused(15);
+            }
+            Job::Asks(asked, count)
+        }
+    }
+}

@@ -1,0 +1,4 @@
+pub mod Groups
+pub mod Sequence
+pub mod Bounded
+pub mod Cut
