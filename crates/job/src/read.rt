@@ -8,6 +8,7 @@ ghost use Rattle.job.specs.Job.{cellsMax, readJob, marksFrom, tablesFrom
 use crate::fields::copy_marks;
 use crate::fields::tables_of;
 use answers::Tables;
+use numbers::JOB_FAULT;
 use numbers::Number;
 use numbers::Series;
 use numbers::read_number;
@@ -16,6 +17,19 @@ use plan::grid_fault;
 
 // The program takes plans of at most this many cells.
 const CELLS_MAX: usize = 128;
+
+const MARKS_MAX: u16 = 15;
+
+const BUFFERS_MAX: u16 = 6;
+
+// The refusals that reading gives, by document 01's numbers; JOB_FAULT is 15.
+const GRID: u16 = 1;
+
+const MARK: u16 = 3;
+
+const COUNT: u16 = 4;
+
+const SIZE: u16 = 16;
 
 // What a job asks, but for the marks and the buffers, which stand in the words lent.
 pub struct Asked {
@@ -38,16 +52,16 @@ pub fn read_job(job: &[u8], plan: &mut [u8], words: &mut [u16]) -> Job
     ensures { λ r. ⌜ readingOf (now (plan .exit)) (now (words .exit)) r ≡ readJob (now (job .entry)) ⌝ }
 {
     let Number::Value(width, second) = read_number(job, 0) else {
-        return Job::Refused(15);
+        return Job::Refused(JOB_FAULT);
     };
     let Number::Value(height, at) = read_number(job, second) else {
-        return Job::Refused(15);
+        return Job::Refused(JOB_FAULT);
     };
     if grid_fault(width, height) {
-        return Job::Refused(1);
+        return Job::Refused(GRID);
     }
     if CELLS_MAX < width as usize * height as usize {
-        return Job::Refused(16);
+        return Job::Refused(SIZE);
     }
     read_marks(job, at, width, height, plan, words)
 }
@@ -65,7 +79,7 @@ fn read_marks(
     ensures { λ r. ⌜ readingOf (now (plan .exit)) (now (words .exit)) r ≡ marksFrom width height (drop at (now (job .entry))) ⌝ }
 {
     let cells = width as usize * height as usize;
-    let marks = read_series(job, at, cells, 15, 3, words);
+    let marks = read_series(job, at, cells, MARKS_MAX, MARK, words);
     match marks {
         Series::Refused(n) => Job::Refused(n),
         Series::Read(next) => {
@@ -80,7 +94,7 @@ fn read_tables(job: &[u8], at: usize, width: u16, height: u16, words: &mut [u16]
     requires { ⌜ cellsMax ≤ length (now words) ⌝ }
     ensures { λ r. ⌜ ((plan : List ℕ) → readingOf plan (now (words .exit)) r ≡ tablesFrom width height (take (width * height) plan) (drop at (now (job .entry)))) ⌝ }
 {
-    let tables = read_series(job, at, 12, 65535, 15, words);
+    let tables = read_series(job, at, 12, u16::MAX, JOB_FAULT, words);
     match tables {
         Series::Refused(n) => Job::Refused(n),
         Series::Read(next) => {
@@ -102,10 +116,10 @@ fn read_count(job: &[u8], at: usize, asked: Asked, words: &mut [u16]) -> Job
     ensures { λ r. ⌜ ((plan : List ℕ) → readingOf plan (now (words .exit)) r ≡ countFrom (marksOf plan asked) asked (drop at (now (job .entry)))) ⌝ }
 {
     let Number::Value(count, next) = read_number(job, at) else {
-        return Job::Refused(15);
+        return Job::Refused(JOB_FAULT);
     };
-    if 6 < count {
-        return Job::Refused(4);
+    if BUFFERS_MAX < count {
+        return Job::Refused(COUNT);
     }
     read_buffers(job, next, asked, count as usize, words)
 }
@@ -115,12 +129,12 @@ fn read_buffers(job: &[u8], at: usize, asked: Asked, count: usize, words: &mut [
     requires { ⌜ (count ≤ buffersMax) × (cellsMax ≤ length (now words)) ⌝ }
     ensures { λ r. ⌜ ((plan : List ℕ) → readingOf plan (now (words .exit)) r ≡ buffersFrom (marksOf plan asked) asked count (drop at (now (job .entry)))) ⌝ }
 {
-    let buffers = read_series(job, at, 3 * count, 65535, 15, words);
+    let buffers = read_series(job, at, 3 * count, u16::MAX, JOB_FAULT, words);
     match buffers {
         Series::Refused(n) => Job::Refused(n),
         Series::Read(next) => {
             if next < job.len() {
-                return Job::Refused(15);
+                return Job::Refused(JOB_FAULT);
             }
             Job::Asks(asked, count)
         }

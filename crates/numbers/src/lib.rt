@@ -4,5 +4,6 @@ mod series;
 
 pub use number::Number;
 pub use number::read_number;
+pub use series::JOB_FAULT;
 pub use series::Series;
 pub use series::read_series;

@@ -4,6 +4,9 @@ ghost use Prim.Native.Nat.{_<_};
 ghost use lib.ListN.{drop};
 ghost use Rattle.numbers.specs.Numbers.{number, secondGroup, thirdGroup, readOf};
 
+// The largest number of a job.
+const NUMBER_MAX: u32 = 65535;
+
 // The number that starts at a place, with the place after it; Fault is refusal 15.
 pub enum Number {
     Value(u16, usize),
@@ -58,7 +61,7 @@ fn third_byte(job: &[u8], at: usize, low: u16) -> Number
         return Number::Fault;
     }
     let value = low as u32 + 16384 * third as u32;
-    if 65535 < value {
+    if NUMBER_MAX < value {
         return Number::Fault;
     }
     Number::Value(value as u16, at + 1)

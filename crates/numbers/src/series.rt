@@ -6,6 +6,9 @@ ghost use Rattle.numbers.specs.Runs.{run, runOf};
 use crate::number::Number;
 use crate::number::read_number;
 
+// Refusal 15.
+pub const JOB_FAULT: u16 = 15;
+
 // The place after the numbers, or the refusal.
 pub enum Series {
     Read(usize),
@@ -28,7 +31,7 @@ pub fn read_series(
     let mut i = 0;
     while i < n {
         let Number::Value(value, next) = read_number(job, at) else {
-            return Series::Refused(15);
+            return Series::Refused(JOB_FAULT);
         };
         if top < value {
             return Series::Refused(refusal);

@@ -1,3 +1,4 @@
 pub mod Lent
 pub mod Whole
 pub mod Decides
+pub mod Example

@@ -1,3 +1,4 @@
+-- `job_cases::ended` is safe.
 use mathlib.Core.Path.{sym}
 use lib.Seq.{length-take-le}
 use borrow.Author.Needs.{needs}

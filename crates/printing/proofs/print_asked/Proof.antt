@@ -1,3 +1,4 @@
+-- `printing::print_asked` meets its contract: the route call answers the question that was read.
 use Prim.Native.Nat.{_*_}
 use mathlib.Core.Path.{sym}
 use native.Mathlib.Omega.{arith}

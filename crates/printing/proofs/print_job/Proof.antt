@@ -1,3 +1,4 @@
+-- `printing::print_job` meets its contract: a refusal while reading, or the text of the answer.
 use native.Mathlib.Omega.{arith}
 use borrow.Author.Needs.{needs}
 use Rattle.printing.proofs.Whole.{refused-text, asks-text, asks-small, small-count, put-prints}

@@ -1,3 +1,4 @@
+-- `route_printer::main` is safe and ends: no more bytes are read than were lent.
 use mathlib.Core.Path.{sym}
 use lib.Seq.{length-take-le}
 use borrow.Author.Needs.{needs}

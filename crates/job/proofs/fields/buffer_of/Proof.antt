@@ -1,3 +1,4 @@
+-- `job::fields::buffer_of` meets its contract: three words, or zeros past the count.
 use native.Mathlib.Omega.{arith}
 use borrow.Author.Needs.{needs}
 use Rattle.job.proofs.Records.{buffer-past, buffer-within}

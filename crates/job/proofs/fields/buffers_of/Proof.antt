@@ -1,3 +1,4 @@
+-- `job::fields::buffers_of` meets its contract: the six places.
 use borrow.Author.Needs.{needs}
 use Rattle.job.specs.Fields.{buffersOf}
 use Rattle.job.proofs.fields.buffers_of.Statement.{statement}

@@ -1,3 +1,4 @@
+-- `job::fields::copy_marks` meets its contract. The invariant: the first i bytes are the first i words.
 use Prim.Native.Nat.{_-_, _≤_}
 use mathlib.Core.Path.{_≡_, refl}
 use native.Mathlib.Omega.{arith}

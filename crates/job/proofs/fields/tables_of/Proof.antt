@@ -1,3 +1,4 @@
+-- `job::fields::tables_of` meets its contract: ten words in the order of the fields.
 use mathlib.Core.Path.{refl}
 use borrow.Author.Needs.{needs}
 use Rattle.job.specs.Fields.{tablesOf}

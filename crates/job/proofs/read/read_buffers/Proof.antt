@@ -1,3 +1,4 @@
+-- `job::read::read_buffers` meets its contract: a refusal, a byte left over, or the question.
 use borrow.Author.Needs.{needs}
 use Rattle.job.proofs.Stages.{run-told, run-bad, buffers-refused, buffers-left, buffers-whole}
 use Rattle.job.proofs.read.read_buffers.Statement.{statement}

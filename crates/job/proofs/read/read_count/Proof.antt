@@ -1,3 +1,4 @@
+-- `job::read::read_count` meets its contract: no number, a count above six, or the buffers.
 use mathlib.Core.List.{[]}
 use mathlib.Core.Path.{_∙_}
 use borrow.Author.Needs.{needs}

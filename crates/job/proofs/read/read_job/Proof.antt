@@ -1,3 +1,4 @@
+-- `job::read::read_job` meets its contract: width, height, refusals 1 and 16, then the marks.
 use mathlib.Core.List.{[]}
 use mathlib.Core.Path.{sym, _∙_}
 use native.Mathlib.Omega.{arith}

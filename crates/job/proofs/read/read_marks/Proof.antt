@@ -1,3 +1,4 @@
+-- `job::read::read_marks` meets its contract: a refusal, or the marks copied to the plan.
 use mathlib.Core.List.{[]}
 use mathlib.Core.Path.{_∙_}
 use native.Mathlib.Omega.{arith}

@@ -1,3 +1,4 @@
+-- `numbers::number::read_number` meets its contract: a number of one byte, or the groups that follow.
 use mathlib.Core.Path.{sym, _∙_}
 use native.Mathlib.Omega.{arith}
 use borrow.Author.Needs.{needs}

@@ -1,3 +1,4 @@
+-- `numbers::number::second_byte` meets its contract: the second group ends the number, or a third follows.
 use mathlib.Core.Path.{sym, _∙_}
 use native.Mathlib.Omega.{arith}
 use borrow.Author.Needs.{needs}

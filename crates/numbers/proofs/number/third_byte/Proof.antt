@@ -1,3 +1,4 @@
+-- `numbers::number::third_byte` meets its contract: the third group, by the byte that ends it.
 use mathlib.Core.Path.{sym, _∙_}
 use native.Mathlib.Omega.{arith}
 use borrow.Author.Needs.{needs}

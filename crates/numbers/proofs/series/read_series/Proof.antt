@@ -1,3 +1,4 @@
+-- `numbers::series::read_series` meets its contract. The invariant: the numbers read so far, before those still to be read, are the run.
 use Prim.Native.Nat.{_-_, _≤_}
 use mathlib.Core.Path.{_≡_, refl}
 use native.Mathlib.Omega.{arith}

@@ -1,3 +1,4 @@
+-- `route_printer::input::read_input` meets its contract. Each turn fills a byte or uses up an interruption.
 use Prim.Native.Nat.{_+_, _-_, _≤_}
 use mathlib.Core.Path.{_≡_}
 use mathlib.Core.Logic.{⊎-elim}

@@ -1,3 +1,4 @@
+-- `route_printer::output::write_text` is safe and ends. Each turn writes a byte or uses up an interruption.
 use Prim.Native.Nat.{_+_, _-_, _≤_}
 use mathlib.Core.Logic.{⊎-elim}
 use native.Mathlib.Omega.{arith}

@@ -1,3 +1,4 @@
+-- `text::answer::put_answer` meets its contract, by the cases of the answer.
 use Prim.Native.Nat.{_+_, _*_, _≤_}
 use native.Mathlib.Omega.{arith}
 use lib.ListN.{length}

@@ -1,3 +1,4 @@
+-- `text::answer::put_figures` meets its contract: the parts of the line, one after another.
 use native.Mathlib.Omega.{arith}
 use borrow.Author.Needs.{needs}
 use Rattle.text.specs.Answers.{figuresLine}

@@ -1,3 +1,4 @@
+-- `text::answer::put_refusal` meets its contract: `none`, or `refused`, the number and a newline.
 use native.Mathlib.Omega.{arith}
 use borrow.Author.Needs.{needs}
 use Rattle.text.proofs.Lines.{refusal-none, refusal-line}

@@ -1,3 +1,4 @@
+-- `text::answer::put_visit` meets its contract: the parts of the line, one after another.
 use native.Mathlib.Omega.{arith}
 use Rattle.text.specs.Answers.{visitLine}
 use Rattle.text.proofs.Texts.{put-then, put-length, short}

@@ -1,3 +1,4 @@
+-- `text::answer::put_visits` meets its contract. The invariant: the lines of the first i visits are put, in at most 12 bytes each.
 use Prim.Native.Nat.{_+_, _*_, _-_, _≤_}
 use mathlib.Core.Path.{_≡_}
 use native.Mathlib.Omega.{arith}

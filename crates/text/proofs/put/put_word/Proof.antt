@@ -1,3 +1,4 @@
+-- `text::put::put_word` meets its contract. The invariant: the first i bytes of the word are put.
 use Prim.Native.Nat.{ℕ, _+_, _-_, _≤_}
 use mathlib.Core.Path.{_≡_, refl, ap, _∙_}
 use native.Mathlib.Omega.{arith}
