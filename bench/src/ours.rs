@@ -1,0 +1,102 @@
+//! The proved route call: `route_c` of crates/route_c, linked from target/staticlib/libroute_c.a.
+
+use crate::problem::Problem;
+
+#[link(name = "route_c", kind = "static")]
+unsafe extern "C" {
+    fn route_c(
+        plan: *const u8,
+        plan_len: usize,
+        width: u16,
+        height: u16,
+        tables: *const u16,
+        tables_len: usize,
+        buffers: *const u16,
+        buffers_len: usize,
+        source: u16,
+        sink: u16,
+        scratch: *mut u16,
+        scratch_len: usize,
+        visits: *mut u16,
+        visits_len: usize,
+        figures: *mut u32,
+        figures_len: usize,
+    ) -> u16;
+}
+
+#[derive(Clone, Copy, PartialEq, Debug)]
+pub struct Answer {
+    pub number: u16,
+    pub registers: u32,
+    pub steps: u32,
+    pub latency: u32,
+}
+
+/// What is lent to the call, once for all calls.
+pub struct Ours {
+    pub scratch: Vec<u16>,
+    visits: Vec<u16>,
+    tables: [u16; 10],
+    buffers: Vec<u16>,
+}
+
+impl Ours {
+    pub fn new() -> Ours {
+        Ours { scratch: vec![0; 256 * 1024 + 1], visits: vec![0; 1 << 16], tables: [0; 10], buffers: Vec::new() }
+    }
+
+    /// Puts the tables into words; not part of what is timed.
+    pub fn load(&mut self, p: &Problem) {
+        let (g, h, v) = (p.register, p.horizontal, p.vertical);
+        self.tables = [g.r, g.k, g.c, g.setup, h.r, h.c, v.r, v.c, p.period, p.limit];
+        self.buffers = p.buffers.iter().flat_map(|b| [b.r, b.k, b.c]).collect();
+    }
+
+    pub fn route(&mut self, p: &Problem) -> Answer {
+        self.call(p, self.visits.len())
+    }
+
+    /// With no visits lent: the figures come with number 8, and no route is written.
+    pub fn search(&mut self, p: &Problem) -> Answer {
+        self.call(p, 0)
+    }
+
+    /// The words of the route that an answer of 0 has written.
+    pub fn written(&self, a: Answer) -> &[u16] {
+        &self.visits[..2 * (a.steps as usize + 1)]
+    }
+
+    fn call(&mut self, p: &Problem, room: usize) -> Answer {
+        let mut figures = [0u32; 4];
+        let number = unsafe {
+            route_c(
+                p.marks.as_ptr(),
+                p.marks.len(),
+                p.width as u16,
+                p.height as u16,
+                self.tables.as_ptr(),
+                self.tables.len(),
+                self.buffers.as_ptr(),
+                self.buffers.len(),
+                p.source as u16,
+                p.sink as u16,
+                self.scratch.as_mut_ptr(),
+                self.scratch.len(),
+                self.visits.as_mut_ptr(),
+                room,
+                figures.as_mut_ptr(),
+                figures.len(),
+            )
+        };
+        Answer { number, registers: figures[0], steps: figures[1], latency: figures[2] }
+    }
+}
+
+/// The registers, or none; any other refusal is a fault of the benchmark.
+pub fn registers(a: Answer) -> Option<u32> {
+    match a.number {
+        0 => Some(a.registers),
+        7 => None,
+        n => panic!("the route call refused with {n}"),
+    }
+}

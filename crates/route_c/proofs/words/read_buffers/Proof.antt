@@ -1,0 +1,40 @@
+-- The length by three, and six places.
+-- Assumes nothing.
+use borrow.Author.Needs.{needs}
+use Rattle.route_c.specs.Words.{buffersIn}
+use Rattle.route_c.proofs.words.read_buffers.Statement.{statement}
+use Rattle.route_c.proofs.words.read_buffers.Tie as tie
+
+read-buffer-requires : tie.Need-read-buffer-requires
+read-buffer-requires c κs = search needs
+
+read-buffer-requires-2 : tie.Need-read-buffer-requires-2
+read-buffer-requires-2 c κs = search needs
+
+read-buffer-requires-3 : tie.Need-read-buffer-requires-3
+read-buffer-requires-3 c κs = search needs
+
+read-buffer-requires-4 : tie.Need-read-buffer-requires-4
+read-buffer-requires-4 c κs = search needs
+
+read-buffer-requires-5 : tie.Need-read-buffer-requires-5
+read-buffer-requires-5 c κs = search needs
+
+read-buffer-requires-6 : tie.Need-read-buffer-requires-6
+read-buffer-requires-6 c κs = search needs
+
+returns : tie.Need-returns
+unfolding buffersIn
+returns c = cc
+
+pub read-buffers-spec : {M : Type 1} → statement M
+read-buffers-spec =
+    tie.close
+    (tie.spec
+    read-buffer-requires
+    read-buffer-requires-2
+    read-buffer-requires-3
+    read-buffer-requires-4
+    read-buffer-requires-5
+    read-buffer-requires-6
+    returns)

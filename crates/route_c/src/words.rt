@@ -1,0 +1,70 @@
+// Tables and buffers read from words.
+ghost use mathlib.Core.Path.{_≡_};
+ghost use lib.ListN.{getD};
+ghost use Prim.Native.Nat.{_<_};
+ghost use Rattle.route_c.specs.Words.{tablesIn, bufferIn, buffersIn};
+use answers::BufferList;
+use answers::BufferRecord;
+use answers::RegisterRecord;
+use answers::Tables;
+use answers::WireRecord;
+
+// The word at i, or 0 past the end.
+fn word(words: &[u16], i: usize) -> u16
+    ensures { λ r. ⌜ r ≡ getD (now (words .entry)) i 0 ⌝ }
+{
+    if i < words.len() { words[i] } else { 0 }
+}
+
+pub fn read_tables(words: &[u16]) -> Tables
+    ensures { λ r. ⌜ r ≡ tablesIn (now (words .entry)) ⌝ }
+{
+    let register = RegisterRecord {
+        resistance: word(words, 0),
+        delay: word(words, 1),
+        load: word(words, 2),
+        setup: word(words, 3),
+    };
+    let horizontal = WireRecord {
+        resistance: word(words, 4),
+        load: word(words, 5),
+    };
+    let vertical = WireRecord {
+        resistance: word(words, 6),
+        load: word(words, 7),
+    };
+    Tables {
+        register: register,
+        horizontal: horizontal,
+        vertical: vertical,
+        period: word(words, 8),
+        limit: word(words, 9),
+    }
+}
+
+// The buffer whose three words start at i.
+fn read_buffer(words: &[u16], i: usize) -> BufferRecord
+    requires { ⌜ i < 16 ⌝ }
+    ensures { λ r. ⌜ r ≡ bufferIn (now (words .entry)) i ⌝ }
+{
+    BufferRecord {
+        resistance: word(words, i),
+        delay: word(words, i + 1),
+        load: word(words, i + 2),
+    }
+}
+
+pub fn read_buffers(words: &[u16]) -> BufferList
+    ensures { λ r. ⌜ r ≡ buffersIn (now (words .entry)) ⌝ }
+{
+    let b0 = read_buffer(words, 0);
+    let b1 = read_buffer(words, 3);
+    let b2 = read_buffer(words, 6);
+    let b3 = read_buffer(words, 9);
+    let b4 = read_buffer(words, 12);
+    let b5 = read_buffer(words, 15);
+    BufferList {
+        n: words.len() / 3,
+        items: [b0, b1, b2, b3, b4, b5],
+    }
+}
