@@ -14,7 +14,8 @@ use Rattle.rules.specs.Ranking.{codeSevens, registers, steps, latency, written}
 use Rattle.budget.specs.Table.{loadAt, delayAt, bufferCost, loadOf, closeCost, only, maxBelow, viaBuffer, arrival, given}
 use Rattle.budget.specs.Done.{seedAt}
 use Rattle.budget.specs.Emission.{exactSeed, goesOn, afterLoad, afterDelay, afterRegisters, firstFrom, nextCode, nextCell, emit}
-use Rattle.best.specs.Rows.{listFrom, sumBelow, tableOf, rowsOf, layerRows, total}
+use Rattle.lists.specs.Lists.{sumBelow}
+use Rattle.best.specs.Rows.{listFrom, tableOf, rowsOf, layerRows, total}
 use Rattle.best.specs.Labels.{isKnown, registersOf, stepsOf, labelsOf, relabelAt, relabel, least, leastBelow, isPending, isOfWave, nextPending, firstOfWave}
 use Rattle.best.specs.Search.{layerTurn, quietTurn, turn, searchFrom, mostSteps, mostTurns, search}
 use Rattle.best.specs.Best.{reachRows, routeOf, outcome, best}
