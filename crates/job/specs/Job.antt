@@ -1,6 +1,6 @@
 -- The reading of a whole job, in document 01's order: width, height, the marks of each cell, register R K C setup,
 -- horizontal R C, vertical R C, T, L, source, sink, buffer count, then R K C of each. The first fault met decides.
-use Prim.Native.Nat.{ℕ, _*_}
+use Prim.Native.Nat.{ℕ, _+_, _*_}
 use mathlib.Core.Bool.{cond}
 use mathlib.Core.List.{List, [], _∷_}
 use lib.Dec.{ltb}
@@ -54,7 +54,7 @@ withRun (refused k) next = refuses k
 
 -- the tables and, after them, source and sink
 unfoldable pub askedOf : ℕ → ℕ → List ℕ → Asked
-askedOf w h vs = record { width = w; height = h; tables = tablesOf vs; source = getD vs tableNumbers 0; sink = getD vs 11 0 }
+askedOf w h vs = record { width = w; height = h; tables = tablesOf vs; source = getD vs tableNumbers 0; sink = getD vs (tableNumbers + 1) 0 }
 
 unfoldable pub questionFrom : List ℕ → Asked → ℕ → List ℕ → Question
 questionFrom marks a n vs = questionOf marks (a .width) (a .height) (a .tables) (buffersOf n vs) (a .source) (a .sink)
@@ -71,7 +71,7 @@ unfoldable pub countFrom : List ℕ → Asked → List ℕ → Reading
 countFrom marks a bytes = withNumber (number bytes) (λ n rest. cond (ltb buffersMax n) (refuses countFault) (buffersFrom marks a n rest))
 
 unfoldable pub tablesFrom : ℕ → ℕ → List ℕ → List ℕ → Reading
-tablesFrom w h marks bytes = withRun (run 12 numberMax jobFault bytes) (λ vs rest. countFrom marks (askedOf w h vs) rest)
+tablesFrom w h marks bytes = withRun (run (tableNumbers + 2) numberMax jobFault bytes) (λ vs rest. countFrom marks (askedOf w h vs) rest)
 
 unfoldable pub marksFrom : ℕ → ℕ → List ℕ → Reading
 marksFrom w h bytes = withRun (run (w * h) marksMax markFault bytes) (λ marks rest. tablesFrom w h marks rest)
