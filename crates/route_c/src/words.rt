@@ -2,7 +2,8 @@
 ghost use mathlib.Core.Path.{_≡_};
 ghost use lib.ListN.{getD};
 ghost use Prim.Native.Nat.{_<_};
-ghost use Rattle.route_c.specs.Words.{tablesIn, bufferIn, buffersIn};
+ghost use Rattle.job.specs.Fields.{tablesOf, bufferOf};
+ghost use Rattle.route_c.specs.Words.{buffersIn};
 use answers::BufferList;
 use answers::BufferRecord;
 use answers::RegisterRecord;
@@ -17,7 +18,7 @@ fn word(words: &[u16], i: usize) -> u16
 }
 
 pub fn read_tables(words: &[u16]) -> Tables
-    ensures { λ r. ⌜ r ≡ tablesIn (now (words .entry)) ⌝ }
+    ensures { λ r. ⌜ r ≡ tablesOf (now (words .entry)) ⌝ }
 {
     let register = RegisterRecord {
         resistance: word(words, 0),
@@ -42,15 +43,15 @@ pub fn read_tables(words: &[u16]) -> Tables
     }
 }
 
-// The buffer whose three words start at i.
+// The buffer at index i, from three words each.
 fn read_buffer(words: &[u16], i: usize) -> BufferRecord
-    requires { ⌜ i < 16 ⌝ }
-    ensures { λ r. ⌜ r ≡ bufferIn (now (words .entry)) i ⌝ }
+    requires { ⌜ i < 6 ⌝ }
+    ensures { λ r. ⌜ r ≡ bufferOf (now (words .entry)) i ⌝ }
 {
     BufferRecord {
-        resistance: word(words, i),
-        delay: word(words, i + 1),
-        load: word(words, i + 2),
+        resistance: word(words, 3 * i),
+        delay: word(words, 3 * i + 1),
+        load: word(words, 3 * i + 2),
     }
 }
 
@@ -58,11 +59,11 @@ pub fn read_buffers(words: &[u16]) -> BufferList
     ensures { λ r. ⌜ r ≡ buffersIn (now (words .entry)) ⌝ }
 {
     let b0 = read_buffer(words, 0);
-    let b1 = read_buffer(words, 3);
-    let b2 = read_buffer(words, 6);
-    let b3 = read_buffer(words, 9);
-    let b4 = read_buffer(words, 12);
-    let b5 = read_buffer(words, 15);
+    let b1 = read_buffer(words, 1);
+    let b2 = read_buffer(words, 2);
+    let b3 = read_buffer(words, 1);
+    let b4 = read_buffer(words, 4);
+    let b5 = read_buffer(words, 5);
     BufferList {
         n: words.len() / 3,
         items: [b0, b1, b2, b3, b4, b5],

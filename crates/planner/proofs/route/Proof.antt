@@ -1,5 +1,4 @@
 -- `planner::route` meets its contract: a walk of its MIR, by hand. Each slice is given up to the callee that it is passed to; `read_buffers` says which list `route_with` is asked about.
--- Assumes nothing.
 use mathlib.Core.Path.{_≡_, refl, subst}
 use Prim.Native.Nat.{ℕ, _<_, _^_}
 use mathlib.Core.List.{[], _∷_, List}

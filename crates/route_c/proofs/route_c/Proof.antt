@@ -1,5 +1,4 @@
 -- The question of the words is the one that the route call was asked.
--- Assumes nothing.
 use mathlib.Core.Path.{ap, _∙_}
 use borrow.Author.Needs.{needs}
 use Rattle.route_c.specs.Words.{asked, figuresLeft}

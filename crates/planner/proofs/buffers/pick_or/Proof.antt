@@ -1,5 +1,4 @@
 -- `planner::buffers::pick_or` meets its contract: a walk of its MIR, by hand. Below the length the slice is looked into and the record is read at its place, i records of 6 bytes past the pointer; past the end it is the record of zeros.
--- Assumes nothing.
 use mathlib.Core.Path.{_≡_, refl, sym}
 use Prim.Native.Nat.{ℕ, _<_, _^_}
 use mathlib.Core.List.{List, [], _∷_}

@@ -1,5 +1,4 @@
 -- `planner::buffers::read_buffers` meets its contract: a walk of its MIR, by hand. The slice reference is copied for each of the six calls; `list-is` puts the six records together.
--- Assumes nothing.
 use mathlib.Core.Path.{_≡_, refl, _∙_}
 use Prim.Native.Nat.{ℕ, _<_, _^_}
 use mathlib.Core.List.{List, [], _∷_}

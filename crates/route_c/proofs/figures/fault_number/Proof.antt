@@ -1,5 +1,4 @@
 -- The place of each case; a buffer's is 6 and the place that it holds.
--- Assumes nothing.
 use mathlib.Core.Path.{sym, ap}
 use borrow.Author.Needs.{needs}
 use Rattle.route_c.specs.Words.{faultNumber}

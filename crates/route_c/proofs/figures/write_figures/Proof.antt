@@ -1,5 +1,4 @@
 -- Four stores from the start, if four words are lent.
--- Assumes nothing.
 use native.Mathlib.Omega.{arith}
 use lib.ListN.{length-set}
 use borrow.Author.Needs.{needs}

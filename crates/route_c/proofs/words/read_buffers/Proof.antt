@@ -1,6 +1,6 @@
 -- The length by three, and six places.
--- Assumes nothing.
 use borrow.Author.Needs.{needs}
+use Rattle.job.specs.Fields.{buffersOf}
 use Rattle.route_c.specs.Words.{buffersIn}
 use Rattle.route_c.proofs.words.read_buffers.Statement.{statement}
 use Rattle.route_c.proofs.words.read_buffers.Tie as tie
@@ -24,7 +24,7 @@ read-buffer-requires-6 : tie.Need-read-buffer-requires-6
 read-buffer-requires-6 c κs = search needs
 
 returns : tie.Need-returns
-unfolding buffersIn
+unfolding buffersIn buffersOf
 returns c = cc
 
 pub read-buffers-spec : {M : Type 1} → statement M

@@ -1,7 +1,6 @@
 -- Each field is its word.
--- Assumes nothing.
 use borrow.Author.Needs.{needs}
-use Rattle.route_c.specs.Words.{tablesIn}
+use Rattle.job.specs.Fields.{tablesOf}
 use Rattle.route_c.proofs.words.read_tables.Statement.{statement}
 use Rattle.route_c.proofs.words.read_tables.Tie as tie
 
@@ -36,7 +35,7 @@ word-requires-10 : tie.Need-word-requires-10
 word-requires-10 c κs = search needs
 
 returns : tie.Need-returns
-unfolding tablesIn
+unfolding tablesOf
 returns c = cc
 
 pub read-tables-spec : {M : Type 1} → statement M

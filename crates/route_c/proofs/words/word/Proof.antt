@@ -1,5 +1,4 @@
 -- Below the length it is the word itself, past the end 0.
--- Assumes nothing.
 use mathlib.Core.Path.{sym}
 use lib.ListN.{List·getD-eq-default}
 use borrow.Author.Needs.{needs}
