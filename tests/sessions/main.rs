@@ -22,6 +22,7 @@ mod plan;
 mod player;
 mod question;
 mod script;
+mod stories;
 mod worked;
 
 use make::Script;
