@@ -65,6 +65,16 @@ fn same(expected: &str, line: &str) -> bool {
     expected == line || (expected.starts_with("bad script: ") && line.starts_with(expected))
 }
 
+// A line, or of a long one only the word where two differ.
+fn clip(line: &str, word: usize) -> String {
+    if line.len() <= 160 {
+        return line.to_string();
+    }
+    let mut words = line.split(' ');
+    let name = words.next().unwrap_or("");
+    format!("{name} .. word {word}: {}", words.nth(word - 1).unwrap_or("(nothing)"))
+}
+
 // The first line that differs.
 fn difference(script: &Script, text: &str) -> Option<String> {
     let printed: Vec<&str> = text.lines().collect();
@@ -72,12 +82,10 @@ fn difference(script: &Script, text: &str) -> Option<String> {
         let got = printed.get(at).copied().unwrap_or("(nothing)");
         if !same(&line.text, got) {
             let command = script.commands[line.command].text();
-            return Some(format!(
-                "line {} of the output, command {}: {command}\n  the model {}\n  printed   {got}",
-                at + 1,
-                line.command + 1,
-                line.text,
-            ));
+            let same = line.text.split(' ').zip(got.split(' ')).take_while(|(a, b)| a == b).count();
+            let (model, printed) = (clip(&line.text, same.max(1)), clip(got, same.max(1)));
+            let place = format!("line {} of the output, command {}: {command}", at + 1, line.command + 1);
+            return Some(format!("{place}\n  the model {model}\n  printed   {printed}"));
         }
     }
     let more = printed.get(script.lines.len())?;
