@@ -1,0 +1,197 @@
+// Random scripts: each command is drawn with the model's state in view, and played on the model at once.
+
+use crate::draw;
+use crate::mix::Mix;
+use crate::player::{Player, Trouble};
+use crate::question::{self, Answer, Question};
+use crate::random::Random;
+use crate::script::{self, Command};
+use crate::stories::Kind;
+
+pub const LONGEST: usize = 45_000; // bytes, before a free layout; the program reads fewer than 65,536
+
+pub struct Line {
+    pub text: String,
+    pub command: usize, // its place in the script
+}
+
+pub struct Script {
+    pub commands: Vec<Command>,
+    pub lines: Vec<Line>,
+    pub text: String,
+}
+
+pub struct Maker<'a> {
+    pub r: Random,
+    pub mix: &'a mut Mix,
+    pub player: Player,
+    commands: Vec<Command>,
+    pub lines: Vec<Line>,
+    pub bytes: usize,
+    pub sides: (u32, u32),
+    pub large: bool,
+    pub asked: Option<Question>,
+    path: Vec<u32>, // the cells of the last route
+}
+
+pub type Made = Result<(), String>;
+
+impl Maker<'_> {
+    // Adds a command. A question that is too large for the search is left out.
+    pub fn put(&mut self, command: Command) -> Made {
+        let size = command.text().len() + 3;
+        if self.bytes + size > LONGEST {
+            return Ok(());
+        }
+        match self.player.play(&command, self.mix) {
+            Ok(lines) => {
+                let at = self.commands.len();
+                self.lines.extend(lines.into_iter().map(|text| Line { text, command: at }));
+                self.mix.calls += command.is_call() as u64;
+                self.commands.push(command);
+                self.bytes += size;
+                Ok(())
+            }
+            Err(Trouble::TooLarge) => {
+                self.mix.left_out += 1;
+                self.asked = None;
+                Ok(())
+            }
+            Err(Trouble::Models(what)) => {
+                self.commands.push(command);
+                Err(what)
+            }
+        }
+    }
+
+    pub fn set(&mut self) -> Made {
+        let (w, h) = self.sides;
+        let plan = &self.player.session.plan;
+        let (cell, marks) = if !self.path.is_empty() && self.r.chance(30) {
+            draw::set_on(&mut self.r, &self.path, plan)
+        } else {
+            draw::set(&mut self.r, w, h, plan)
+        };
+        self.put(Command::Move(cell, marks))
+    }
+
+    pub fn new_tables(&mut self) -> Made {
+        self.asked = None;
+        let tables = draw::tables(&mut self.r);
+        self.put(Command::Tables(tables))
+    }
+
+    // The period taken down below what the best route needs, some times over: then few marks decide the answer.
+    fn tighten(&mut self, q: &Question) -> Made {
+        let mut tables = self.player.tables.clone();
+        for _ in 0..self.r.within(1, 4) {
+            match question::needed_period(&self.player.session.plan, &tables, q) {
+                Some(needed) if needed > 1 => tables.numbers[8] = needed - 1,
+                _ => break,
+            }
+        }
+        let none = question::needed_period(&self.player.session.plan, &tables, q).is_none();
+        if none && self.r.chance(80) {
+            tables.numbers[8] = (tables.numbers[8] + 1).min(30_000); // just met
+        }
+        self.put(Command::Tables(tables))
+    }
+
+    // Room for the visits: ample, or about as much as they need.
+    fn room(&mut self, q: &mut Question) {
+        if self.r.chance(65) {
+            return;
+        }
+        let ample = Question { room: 2_048, ..*q };
+        q.room = match self.player.answer(&ample) {
+            Ok(Answer::Found(route)) => {
+                let need = 2 * route.len() as u32;
+                self.r.pick(&[need, need, need - 1, need - 2, need + 1, 0, need / 2])
+            }
+            _ => self.r.below(2_049),
+        };
+    }
+
+    // Keeps the question, to be asked again, and the cells of its route; one without a route is mostly forgotten.
+    fn look(&mut self, q: &Question, percent: u32) {
+        self.asked = Some(*q);
+        self.path.clear();
+        match self.player.answer(q) {
+            Ok(Answer::Found(route) | Answer::NoRoom(route)) => self.path = route.iter().map(|v| v.0).collect(),
+            _ if self.r.chance(percent) => {}
+            _ => self.asked = None,
+        }
+    }
+
+    pub fn route(&mut self) -> Made {
+        if let Some(q) = self.asked {
+            if self.r.chance(75) {
+                self.look(&q, 60);
+                return self.put(Command::Route(q));
+            }
+        }
+        if self.r.chance(40) {
+            self.new_tables()?;
+        }
+        let mut q = draw::question(&mut self.r, self.sides, self.large);
+        if self.r.chance(60) {
+            self.tighten(&q)?;
+        }
+        self.room(&mut q);
+        self.look(&q, 20);
+        self.put(Command::Route(q))?;
+        if self.r.chance(8) {
+            return self.spoilt_tables(q);
+        }
+        Ok(())
+    }
+
+    // A number outside its range, the question (its ends spoilt too, now and then), and the number put right.
+    fn spoilt_tables(&mut self, q: Question) -> Made {
+        let good = self.player.tables.clone();
+        let bad = draw::spoilt(&mut self.r, &good);
+        self.put(Command::Tables(bad))?;
+        let sink = if self.r.chance(30) { q.source } else { q.sink };
+        self.put(Command::Route(Question { sink, ..q }))?;
+        self.put(Command::Tables(good))
+    }
+}
+
+// One script. The error tells where the models differ.
+pub fn script(mut r: Random, mix: &mut Mix) -> (Script, Made) {
+    let kind = match r.below(12) {
+        0..3 => Kind::Ledger,
+        3 => Kind::Climb,
+        4..7 => Kind::Tamper,
+        7 => Kind::Openings,
+        8..10 => Kind::Large,
+        _ => Kind::Questions,
+    };
+    let sides = draw::sides(&mut r, kind == Kind::Large);
+    let free = r.chance(10);
+    let mut maker = Maker {
+        r,
+        mix,
+        player: Player::new(),
+        commands: Vec::new(),
+        lines: Vec::new(),
+        bytes: 0,
+        sides,
+        large: kind == Kind::Large,
+        asked: None,
+        path: Vec::new(),
+    };
+    let made = maker.whole(kind);
+    let Maker { mut r, mix, mut commands, mut lines, .. } = maker;
+    mix.scripts += 1;
+    mix.add_if(free, "free layout");
+    let bad = commands.iter().position(|c| matches!(c, Command::Bad(_)));
+    if bad.is_some() {
+        commands.extend([Command::Undo, Command::Show]); // not played
+    }
+    let (text, ends) = script::write(&commands, free, &mut r);
+    if let Some(at) = bad {
+        lines.last_mut().unwrap().text += &format!("{}: ", ends[at]);
+    }
+    (Script { commands, lines, text }, made)
+}

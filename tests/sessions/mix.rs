@@ -1,0 +1,191 @@
+// What a run's calls were, so that a poor mix shows.
+
+use crate::calls::Record;
+use crate::plan::{Fault, BELOW, RIGHT};
+use crate::question::Question;
+use crate::rules::{registers, Visit};
+use std::collections::BTreeMap;
+
+#[derive(Default)]
+pub struct Mix {
+    pub scripts: u64,
+    pub calls: u64,
+    pub left_out: u64, // questions whose search would follow too many states
+    counts: BTreeMap<String, u64>,
+}
+
+// Every number of document 01 that a script can bring about. 6 cannot come: the scratch words are always enough.
+const NUMBERS: [(&str, &[u32]); 4] = [
+    ("open", &[0, 1, 2, 3, 9]),
+    ("move", &[0, 1, 2, 3, 9, 10, 11, 14]),
+    ("undo", &[0, 1, 2, 3, 9, 10, 12, 13]),
+    ("route", &[0, 1, 2, 3, 4, 5, 7, 8]),
+];
+
+// What may be at fault, in the order of the call; two at once show the order.
+const ORDERS: [(&str, &[&str]); 4] = [
+    ("open", &["grid", "length", "plan", "journal"]),
+    ("move", &["grid", "length", "plan", "journal", "depth", "cell", "marks", "full"]),
+    ("undo", &["grid", "length", "plan", "journal", "depth", "empty", "torn"]),
+    ("route", &["grid", "length", "plan", "element", "ends"]),
+];
+
+// Two that cannot hold at once: depths that differ.
+const APART: [(&str, &str); 4] = [("depth", "full"), ("depth", "empty"), ("depth", "torn"), ("empty", "torn")];
+
+const KINDS: [(&str, &[&str]); 6] = [
+    (
+        "move",
+        &[
+            "to other marks",
+            "to the marks already there",
+            "0 at depth 255",
+            "0 on a cell above 255",
+            "3: above 15",
+            "3: a 4 in the last column",
+            "3: an 8 in the last row",
+        ],
+    ),
+    (
+        "undo",
+        &[
+            "of a move to the marks already there",
+            "0 at depth 256",
+            "0 of a tampered session",
+            "13: cell",
+            "13: old marks",
+            "13: new marks",
+            "13: old and new marks",
+        ],
+    ),
+    ("route 4: fault", &["1", "2", "3", "4", "5", "7 1", "7 2", "7 3", "7 4", "7 5", "7 6"]),
+    ("route", &["with registers", "with buffers", "that passes a cell twice", "on sides not the session's"]),
+    ("asked again,", &["the same answer", "another answer"]),
+    ("", &["1 by 1", "32 by 32", "1 by 32", "32 by 1", "second sessions", "bad scripts", "free layout", "restored"]),
+];
+
+const PLACES: [&str; 4] =
+    ["before any opening", "after a refused opening", "in step with the ledger", "after tampering"];
+
+fn pairs() -> Vec<String> {
+    let mut out = Vec::new();
+    for (call, order) in ORDERS {
+        for (i, a) in order.iter().enumerate() {
+            for b in order[i + 1..].iter().filter(|b| !APART.contains(&(*a, *b))) {
+                out.push(format!("{call} {a} before {b}"));
+            }
+        }
+    }
+    out
+}
+
+fn kinds(head: &str, tails: &[&str]) -> Vec<String> {
+    tails.iter().map(|tail| format!("{head} {tail}").trim().to_string()).collect()
+}
+
+fn numbers(call: &str, list: &[u32]) -> Vec<String> {
+    list.iter().map(|n| format!("{call} {n}")).collect()
+}
+
+fn places() -> Vec<String> {
+    ["move", "undo", "route"].iter().flat_map(|call| kinds(call, &PLACES)).collect()
+}
+
+impl Mix {
+    pub fn add(&mut self, class: &str) {
+        match self.counts.get_mut(class) {
+            Some(n) => *n += 1,
+            None => {
+                self.counts.insert(class.to_string(), 1);
+            }
+        }
+    }
+
+    pub fn add_if(&mut self, holds: bool, class: &str) {
+        if holds {
+            self.add(class);
+        }
+    }
+
+    // A call with all that is at fault.
+    pub fn faults(&mut self, call: &str, faults: &[Fault]) {
+        match faults {
+            [] => self.add(&format!("{call} 0")),
+            [first, later @ ..] => {
+                self.add(&format!("{call} {}", first.0));
+                for fault in later {
+                    self.add(&format!("{call} {} before {}", first.1, fault.1));
+                }
+            }
+        }
+    }
+
+    // A move, with the record and the cell's marks before it.
+    pub fn set(&mut self, record: Record, cell: u32, old: Option<u8>, marks: u8, faults: &[Fault]) {
+        match faults.first() {
+            None => {
+                let same = old == Some(marks);
+                self.add(if same { "move to the marks already there" } else { "move to other marks" });
+                self.add_if(record.depth == 255, "move 0 at depth 255");
+                self.add_if(cell > 255, "move 0 on a cell above 255");
+            }
+            Some((3, "marks")) => {
+                let cut_right = marks & RIGHT != 0 && cell % record.width == record.width - 1;
+                let cut_below = marks & BELOW != 0 && cell / record.width == record.height - 1;
+                self.add_if(marks > 15, "move 3: above 15");
+                self.add_if(marks <= 15 && !cut_below, "move 3: a 4 in the last column");
+                self.add_if(marks <= 15 && !cut_right, "move 3: an 8 in the last row");
+            }
+            _ => {}
+        }
+    }
+
+    pub fn sides(&mut self, width: u32, height: u32) {
+        self.add(&format!("{width} by {height}"));
+    }
+
+    pub fn route(&mut self, q: &Question, record: Record, route: &[Visit]) {
+        let mut cells: Vec<u32> = route.iter().map(|visit| visit.0).collect();
+        cells.sort();
+        self.add_if(registers(route) > 0, "route with registers");
+        self.add_if(route.iter().any(|visit| (1..7).contains(&visit.1)), "route with buffers");
+        self.add_if(cells.windows(2).any(|two| two[0] == two[1]), "route that passes a cell twice");
+        self.add_if((q.width, q.height) != (record.width, record.height), "route on sides not the session's");
+    }
+
+    fn count(&self, class: &str) -> u64 {
+        *self.counts.get(class).unwrap_or(&0)
+    }
+
+    fn print_line(&self, head: &str, classes: Vec<String>) {
+        let list: Vec<String> = classes
+            .iter()
+            .map(|class| format!("{}: {}", class.strip_prefix(head).unwrap_or(class).trim(), self.count(class)))
+            .collect();
+        println!("{:<15} {}", if head.is_empty() { "besides" } else { head }, list.join(", "));
+    }
+
+    pub fn print(&self) {
+        for (call, list) in NUMBERS {
+            self.print_line(call, numbers(call, list));
+        }
+        for (head, tails) in KINDS {
+            self.print_line(head, kinds(head, tails));
+        }
+        self.print_line("places", places());
+        let counts: Vec<u64> = pairs().iter().map(|pair| self.count(pair)).collect();
+        let least = counts.iter().min().unwrap();
+        println!("orders          {} pairs of faults at once, each {least} times or oftener", counts.len());
+        println!("left out        {} questions whose search would follow too many states", self.left_out);
+    }
+
+    // The classes that this mix lacks.
+    pub fn lacks(&self) -> Vec<String> {
+        let mut classes = pairs();
+        classes.extend(places());
+        classes.extend(NUMBERS.iter().flat_map(|(call, list)| numbers(call, list)));
+        classes.extend(KINDS.iter().flat_map(|(head, tails)| kinds(head, tails)));
+        classes.retain(|class| self.count(class) == 0);
+        classes
+    }
+}

@@ -1,0 +1,192 @@
+// What the program prints for each command: by the calls' own rules, and by the ledger while nothing was tampered with.
+
+use crate::calls::{number, Record, Session};
+use crate::ledger::Ledger;
+use crate::mix::Mix;
+use crate::question::{self, Answer, Question, Tables};
+use crate::script::Command;
+use crate::search::TooLarge;
+use std::collections::BTreeMap;
+
+const FILL: u8 = 7; // the journal's bytes before the first call
+
+pub enum Trouble {
+    TooLarge,       // a question that the search cannot answer within its bound: it is left out
+    Models(String), // the ledger and the calls' rules differ: one of the two is wrong
+}
+
+impl Trouble {
+    pub fn text(&self) -> String {
+        match self {
+            Trouble::TooLarge => "a question is too large for the search".to_string(),
+            Trouble::Models(what) => what.clone(),
+        }
+    }
+}
+
+#[derive(Clone)]
+pub struct Player {
+    pub session: Session,
+    pub ledger: Option<Ledger>, // of the last opening that answered 0
+    pub in_step: bool,          // record, plan and journal are the ledger's
+    pub tables: Tables,
+    refused: bool, // the last opening was
+    opened: bool,
+    asked: BTreeMap<String, String>, // questions since the last opening, with their answers
+}
+
+impl Player {
+    pub fn new() -> Player {
+        let session = Session { record: Record::default(), plan: Vec::new(), journal: vec![FILL; 1_100], lent: 1_024 };
+        Player {
+            session,
+            ledger: None,
+            in_step: false,
+            tables: Tables::default(),
+            refused: false,
+            opened: false,
+            asked: BTreeMap::new(),
+        }
+    }
+
+    fn is_the_ledgers(&self) -> bool {
+        let Some(ledger) = &self.ledger else { return false };
+        let record = Record { width: ledger.width, height: ledger.height, depth: ledger.depth() };
+        let (plan, history) = ledger.state();
+        let s = &self.session;
+        s.lent >= 1_024 && s.record == record && s.plan == plan && s.journal[..1_024] == history[..]
+    }
+
+    // The number by the ledger must be the number by the rules, and so must all that is left.
+    fn stays_in_step(&self, by_ledger: u32, by_rules: u32) -> Result<(), Trouble> {
+        if by_ledger != by_rules {
+            return Err(Trouble::Models(format!("number {by_ledger} by the ledger, {by_rules} by the calls' rules")));
+        }
+        if !self.is_the_ledgers() {
+            return Err(Trouble::Models("record, plan or journal are not the ledger's".to_string()));
+        }
+        Ok(())
+    }
+
+    fn line(&self, name: &str, number: u32) -> Vec<String> {
+        vec![format!("{name} {number} depth {}", self.session.record.depth)]
+    }
+
+    fn open(&mut self, width: u32, height: u32, mix: &mut Mix) -> Result<Vec<String>, Trouble> {
+        let faults = self.session.open(width, height);
+        let number = number(&faults);
+        mix.faults("open", &faults);
+        self.opened = true;
+        self.asked.clear();
+        self.refused = number != 0;
+        if number == 0 {
+            self.ledger = Some(Ledger::new(width, height, &self.session.plan));
+            mix.sides(width, height);
+        }
+        self.in_step = number == 0;
+        if self.in_step {
+            self.stays_in_step(0, number)?;
+        }
+        Ok(self.line("open", number))
+    }
+
+    // Where a call stands: on what kind of session.
+    fn note_place(&self, name: &str, mix: &mut Mix) {
+        let place = match (self.opened, self.refused, self.in_step) {
+            (false, _, _) => "before any opening",
+            (_, true, _) => "after a refused opening",
+            (_, _, true) => "in step with the ledger",
+            _ => "after tampering",
+        };
+        mix.add(&format!("{name} {place}"));
+    }
+
+    fn set(&mut self, cell: u32, marks: u8, mix: &mut Mix) -> Result<Vec<String>, Trouble> {
+        self.note_place("move", mix);
+        let (record, old) = (self.session.record, self.session.plan.get(cell as usize).copied());
+        let faults = self.session.set(cell, marks);
+        mix.faults("move", &faults);
+        mix.set(record, cell, old, marks, &faults);
+        if self.in_step {
+            let by_ledger = self.ledger.as_mut().unwrap().set(cell, marks);
+            self.stays_in_step(by_ledger, number(&faults))?;
+        }
+        Ok(self.line("move", number(&faults)))
+    }
+
+    fn undo(&mut self, mix: &mut Mix) -> Result<Vec<String>, Trouble> {
+        self.note_place("undo", mix);
+        let (torn, newest) = (self.session.torn(), self.session.newest());
+        let same = newest.is_some_and(|at| self.session.journal[at + 2] == self.session.journal[at + 3]);
+        let faults = self.session.undo();
+        mix.faults("undo", &faults);
+        match number(&faults) {
+            0 => {
+                mix.add_if(same, "undo of a move to the marks already there");
+                mix.add_if(self.session.record.depth == 255, "undo 0 at depth 256");
+                mix.add_if(!self.in_step, "undo 0 of a tampered session");
+            }
+            13 if torn.len() == 1 => mix.add(&format!("undo 13: {}", torn[0])),
+            13 => mix.add("undo 13: old and new marks"),
+            _ => {}
+        }
+        if self.in_step {
+            let by_ledger = self.ledger.as_mut().unwrap().undo();
+            self.stays_in_step(by_ledger, number(&faults))?;
+        }
+        Ok(self.line("undo", number(&faults)))
+    }
+
+    fn route(&mut self, q: &Question, mix: &mut Mix) -> Result<Vec<String>, Trouble> {
+        let answer = self.answer(q)?;
+        self.note_place("route", mix);
+        match &answer {
+            Answer::Refused(faults, _) => mix.faults("route", faults),
+            other => mix.add(&format!("route {}", other.number())),
+        }
+        if let Some(place) = answer.fault() {
+            mix.add(&format!("route 4: fault {place}"));
+        }
+        if let Answer::Found(route) | Answer::NoRoom(route) = &answer {
+            mix.route(q, self.session.record, route);
+        }
+        let text = answer.text(&self.tables, q);
+        let before = self.asked.insert(format!("{q:?} {:?}", self.tables), text.clone());
+        if let Some(before) = before {
+            mix.add(if before == text { "asked again, the same answer" } else { "asked again, another answer" });
+        }
+        Ok(vec![format!("route {} depth {} {text}", answer.number(), self.session.record.depth)])
+    }
+
+    pub fn answer(&self, q: &Question) -> Result<Answer, Trouble> {
+        question::answer(&self.session.plan, &self.tables, q).map_err(|_: TooLarge| Trouble::TooLarge)
+    }
+
+    fn show(&self) -> Vec<String> {
+        let list = |name: &str, bytes: &[u8]| bytes.iter().fold(name.to_string(), |text, b| text + &format!(" {b}"));
+        let s = &self.session;
+        vec![list("plan", &s.plan), list("journal", &s.journal[..s.lent.min(1_024)])]
+    }
+
+    // Plays one command: the lines that it prints.
+    pub fn play(&mut self, command: &Command, mix: &mut Mix) -> Result<Vec<String>, Trouble> {
+        match command {
+            Command::Open(w, h) => return self.open(*w, *h, mix),
+            Command::Move(cell, marks) => return self.set(*cell, *marks as u8, mix),
+            Command::Undo => return self.undo(mix),
+            Command::Route(q) => return self.route(q, mix),
+            Command::Show => return Ok(self.show()),
+            Command::Bad(_) => return Ok(vec!["bad script: line ".to_string()]),
+            Command::Tables(t) => self.tables = t.clone(),
+            Command::Plan(marks) => {
+                self.session.plan = marks.clone();
+                self.asked.clear();
+            }
+            Command::Journal(n) => self.session.lent = *n as usize,
+            Command::Depth(d) => self.session.record.depth = *d,
+            Command::Byte(at, value) => self.session.journal[*at as usize] = *value as u8,
+        }
+        self.in_step = self.is_the_ledgers();
+        Ok(Vec::new())
+    }
+}

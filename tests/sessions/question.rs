@@ -1,0 +1,126 @@
+// The route question: document 01's refusals, then the answer of the brute force's search (tests/brute, which shares
+// nothing with the planner either).
+
+use crate::plan::{self, Fault};
+use crate::rules::{self, legal, registers, Buffer, Problem, Register, Visit, Wire};
+use crate::search::{self, TooLarge};
+
+const STATES: usize = 10_000; // the most states that one search may follow
+
+#[derive(Clone, Debug, Default)]
+pub struct Tables {
+    pub numbers: [u32; 10], // register R K C setup, horizontal R C, vertical R C, T, L
+    pub buffers: Vec<[u32; 3]>,
+}
+
+#[derive(Clone, Copy, Debug)]
+pub struct Question {
+    pub width: u32,
+    pub height: u32,
+    pub source: u32,
+    pub sink: u32,
+    pub room: u32, // visit words lent
+}
+
+pub enum Answer {
+    Refused(Vec<Fault>, Option<rules::Fault>),
+    None,
+    NoRoom(Vec<Visit>),
+    Found(Vec<Visit>),
+}
+
+fn problem(plan: &[u8], t: &Tables, q: &Question) -> Problem {
+    let n = t.numbers;
+    Problem {
+        width: q.width,
+        height: q.height,
+        marks: plan.iter().map(|&marks| marks as u32).collect(),
+        register: Register { r: n[0], k: n[1], c: n[2], setup: n[3] },
+        horizontal: Wire { r: n[4], c: n[5] },
+        vertical: Wire { r: n[6], c: n[7] },
+        period: n[8],
+        limit: n[9],
+        source: q.source,
+        sink: q.sink,
+        buffers: t.buffers.iter().map(|b| Buffer { r: b[0], k: b[1], c: b[2] }).collect(),
+    }
+}
+
+pub fn answer(plan: &[u8], t: &Tables, q: &Question) -> Result<Answer, TooLarge> {
+    let p = problem(plan, t, q);
+    let mut faults = plan::faults(q.width, q.height, plan);
+    let element = p.fault();
+    if element.is_some() {
+        faults.push((4, "element"));
+    }
+    if p.ends_fail() {
+        faults.push((5, "ends"));
+    }
+    // Refusal 6 cannot come: the program lends scratch words for the largest plan.
+    if !faults.is_empty() {
+        return Ok(Answer::Refused(faults, element));
+    }
+    Ok(match search::best(&p, STATES)? {
+        None => Answer::None,
+        Some(route) if 2 * route.len() > q.room as usize => Answer::NoRoom(route),
+        Some(route) => Answer::Found(route),
+    })
+}
+
+// The least period with which the best route of now stays legal, where there is one.
+pub fn needed_period(plan: &[u8], t: &Tables, q: &Question) -> Option<u32> {
+    let Ok(Answer::Found(route) | Answer::NoRoom(route)) = answer(plan, t, q) else { return None };
+    let closings = legal(&problem(plan, t, q), &route).expect("the search's route is legal").closings;
+    closings.iter().max().map(|&most| most.div_ceil(2) as u32)
+}
+
+// The fault's place in document 01's order, and a buffer's place.
+fn place(fault: rules::Fault) -> String {
+    match fault {
+        rules::Fault::Period => "1".to_string(),
+        rules::Fault::Limit => "2".to_string(),
+        rules::Fault::Horizontal => "3".to_string(),
+        rules::Fault::Vertical => "4".to_string(),
+        rules::Fault::Register => "5".to_string(),
+        rules::Fault::Count => "6".to_string(),
+        rules::Fault::Buffer(place) => format!("7 {place}"),
+    }
+}
+
+impl Answer {
+    pub fn number(&self) -> u32 {
+        match self {
+            Answer::Refused(faults, _) => faults[0].0,
+            Answer::None => 7,
+            Answer::NoRoom(_) => 8,
+            Answer::Found(_) => 0,
+        }
+    }
+
+    pub fn fault(&self) -> Option<String> {
+        match self {
+            Answer::Refused(faults, Some(fault)) if faults[0].0 == 4 => Some(place(*fault)),
+            _ => None,
+        }
+    }
+
+    // What the program prints after the depth.
+    pub fn text(&self, t: &Tables, q: &Question) -> String {
+        let mut text = self.fault().map_or(String::new(), |place| format!("fault {place} "));
+        text += &match self {
+            Answer::Found(route) | Answer::NoRoom(route) => {
+                let k = registers(route);
+                format!("figures {k} {} {}", route.len() - 1, t.numbers[8] * (k + 1))
+            }
+            _ => "figures 0 0 0".to_string(),
+        };
+        text += " visits";
+        if let Answer::Found(route) = self {
+            for (cell, code) in route {
+                text += &format!(" {cell} {code}");
+            }
+        }
+        let zeroed = if let Answer::Refused(..) = self { 0 } else { 256 * q.width * q.height };
+        text + &format!(" zeroed {zeroed}")
+    }
+}

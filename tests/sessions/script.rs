@@ -1,0 +1,119 @@
+// A script's commands as text; crates/session_player/src/main.rt tells the format.
+
+use crate::question::{Question, Tables};
+use crate::random::Random;
+
+#[derive(Clone, Debug)]
+pub enum Command {
+    Plan(Vec<u8>),
+    Journal(u32),
+    Open(u32, u32),
+    Move(u32, u32),
+    Undo,
+    Depth(u32),
+    Byte(u32, u32),
+    Tables(Tables), // two commands: tables, buffers
+    Route(Question),
+    Show,
+    Bad(&'static str), // a command that is no command; its wrong word comes last
+}
+
+fn numbers(name: &str, list: &[u32]) -> String {
+    list.iter().fold(name.to_string(), |text, n| text + &format!(" {n}"))
+}
+
+impl Command {
+    pub fn text(&self) -> String {
+        match self {
+            Command::Plan(marks) => {
+                let list: Vec<u32> = marks.iter().map(|&m| m as u32).collect();
+                numbers(&format!("plan {}", list.len()), &list)
+            }
+            Command::Journal(n) => numbers("journal", &[*n]),
+            Command::Open(w, h) => numbers("open", &[*w, *h]),
+            Command::Move(cell, marks) => numbers("move", &[*cell, *marks]),
+            Command::Undo => "undo".to_string(),
+            Command::Depth(d) => numbers("depth", &[*d]),
+            Command::Byte(at, value) => numbers("byte", &[*at, *value]),
+            Command::Tables(t) => {
+                let buffers = numbers(&format!("buffers {}", t.buffers.len()), &t.buffers.concat());
+                format!("{} {buffers}", numbers("tables", &t.numbers))
+            }
+            Command::Route(q) => numbers("route", &[q.width, q.height, q.source, q.sink, q.room]),
+            Command::Show => "show".to_string(),
+            Command::Bad(text) => text.to_string(),
+        }
+    }
+
+    pub fn is_call(&self) -> bool {
+        matches!(self, Command::Open(..) | Command::Move(..) | Command::Undo | Command::Route(_))
+    }
+}
+
+// Reads a script of good commands, as `write` gives it; None where one is not.
+pub fn read(text: &str) -> Option<Vec<Command>> {
+    let mut words = text.split_whitespace();
+    let mut out = Vec::new();
+    let mut tables = Tables::default();
+    while let Some(word) = words.next() {
+        let mut next = || words.next()?.parse::<u32>().ok();
+        out.push(match word {
+            "plan" => {
+                let n = next()?;
+                Command::Plan((0..n).map(|_| next().map(|m| m as u8)).collect::<Option<_>>()?)
+            }
+            "journal" => Command::Journal(next()?),
+            "open" => Command::Open(next()?, next()?),
+            "move" => Command::Move(next()?, next()?),
+            "undo" => Command::Undo,
+            "depth" => Command::Depth(next()?),
+            "byte" => Command::Byte(next()?, next()?),
+            "tables" => {
+                for number in &mut tables.numbers {
+                    *number = next()?;
+                }
+                Command::Tables(tables.clone())
+            }
+            "buffers" => {
+                let n = next()?;
+                tables.buffers = (0..n).map(|_| Some([next()?, next()?, next()?])).collect::<Option<_>>()?;
+                Command::Tables(tables.clone())
+            }
+            "route" => Command::Route(Question {
+                width: next()?,
+                height: next()?,
+                source: next()?,
+                sink: next()?,
+                room: next()?,
+            }),
+            "show" => Command::Show,
+            _ => return None,
+        });
+    }
+    Some(out)
+}
+
+// The whole script: a command a line, or (free) with spaces and line ends anywhere. Also the line in which each
+// command's last word stands.
+pub fn write(commands: &[Command], free: bool, r: &mut Random) -> (String, Vec<usize>) {
+    let (mut text, mut line, mut ends) = (String::new(), 1, Vec::new());
+    for command in commands {
+        let words = command.text();
+        let mut words = words.split(' ').peekable();
+        while let Some(word) = words.next() {
+            text += word;
+            let last = words.peek().is_none();
+            if last {
+                ends.push(line);
+            }
+            let gap = match (free, last) {
+                (true, _) => r.pick(&[" ", " ", " ", "\n", "  ", "\n\n", " \n "]),
+                (false, true) => "\n",
+                (false, false) => " ",
+            };
+            line += gap.matches('\n').count();
+            text += gap;
+        }
+    }
+    (text, ends)
+}

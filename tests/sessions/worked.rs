@@ -1,0 +1,98 @@
+// Scripts with known lines, worked out by hand from document 01: the model must give them, and so must the program.
+
+pub struct Case {
+    pub name: &'static str,
+    pub script: String,
+    pub lines: String,
+}
+
+fn case(name: &'static str, script: &str, lines: &str) -> Case {
+    Case { name, script: script.to_string(), lines: lines.to_string() }
+}
+
+// The entries of a journal, then zeros.
+fn journal(entries: &[[u8; 4]]) -> String {
+    let mut bytes = entries.concat();
+    bytes.resize(1_024, 0);
+    bytes.iter().fold("journal".to_string(), |text, byte| text + &format!(" {byte}")) + "\n"
+}
+
+const STRIP: &str = "plan 3 0 2 0 tables 1 2 1 1 2 3 2 3 25 63 open 3 1 ";
+
+// R1 to R13, as far as moves lead from one to the other.
+fn routes() -> Case {
+    let script = STRIP.to_string()
+        + "route 3 1 0 2 6 route 3 1 0 2 5 move 1 1 route 3 1 0 2 6 undo route 3 1 0 2 6 "
+        + "tables 1 2 1 1 2 3 2 3 26 63 route 3 1 0 2 6 tables 1 2 1 1 2 3 2 3 11 63 route 3 1 0 2 6 "
+        + "buffers 1 1 1 1 tables 1 2 1 1 2 3 2 3 22 63 route 3 1 0 2 6 move 1 3 route 3 1 0 2 6 "
+        + "buffers 0 plan 6 0 1 0 0 2 0 tables 1 2 1 1 2 3 0 0 12 63 open 3 2 "
+        + "route 3 2 0 2 10 move 4 0 route 3 2 0 2 10";
+    let lines = "open 0 depth 0\n\
+        route 0 depth 0 figures 1 2 50 visits 2 7 1 7 0 7 zeroed 768\n\
+        route 8 depth 0 figures 1 2 50 visits zeroed 768\n\
+        move 0 depth 1\n\
+        route 7 depth 1 figures 0 0 0 visits zeroed 768\n\
+        undo 0 depth 0\n\
+        route 0 depth 0 figures 1 2 50 visits 2 7 1 7 0 7 zeroed 768\n\
+        route 0 depth 0 figures 0 2 26 visits 2 7 1 0 0 7 zeroed 768\n\
+        route 7 depth 0 figures 0 0 0 visits zeroed 768\n\
+        route 0 depth 0 figures 0 2 22 visits 2 7 1 1 0 7 zeroed 768\n\
+        move 0 depth 1\n\
+        route 0 depth 1 figures 1 2 44 visits 2 7 1 7 0 7 zeroed 768\n\
+        open 0 depth 0\n\
+        route 0 depth 0 figures 1 4 24 visits 2 7 1 0 4 7 1 0 0 7 zeroed 1536\n\
+        move 0 depth 1\n\
+        route 7 depth 1 figures 0 0 0 visits zeroed 1536\n";
+    case("document 01's routes, by moves", &script, lines)
+}
+
+// 256 moves and one more, all undone and one more.
+fn full() -> Case {
+    let mut script = STRIP.to_string();
+    let mut lines = "open 0 depth 0\n".to_string();
+    let mut entries = Vec::new();
+    let mut plan = [0, 2, 0];
+    for i in 0..256 {
+        let (cell, marks) = (i % 3, (i % 4) as u8);
+        script += &format!("move {cell} {marks} ");
+        lines += &format!("move 0 depth {}\n", i + 1);
+        entries.push([cell as u8, 0, plan[cell], marks]);
+        plan[cell] = marks;
+    }
+    script += "move 0 0 move 2 4 move 3 0 show ";
+    lines += "move 11 depth 256\nmove 3 depth 256\nmove 14 depth 256\n";
+    lines += &format!("plan {} {} {}\n{}", plan[0], plan[1], plan[2], journal(&entries));
+    for i in (0..256).rev() {
+        script += "undo ";
+        lines += &format!("undo 0 depth {i}\n");
+    }
+    script += "undo show";
+    lines += &format!("undo 12 depth 0\nplan 0 2 0\n{}", journal(&[]));
+    case("256 moves and one more", &script, &lines)
+}
+
+pub fn cases() -> Vec<Case> {
+    let same = format!("open 0 depth 0\nmove 0 depth 1\n{}", "plan 0 2 0\n") + &journal(&[[1, 0, 2, 2]]);
+    let undone = format!("undo 0 depth 0\nplan 0 2 0\n{}", journal(&[]));
+    vec![
+        routes(),
+        full(),
+        case("a move of 2 onto a cell of 2", &(STRIP.to_string() + "move 1 2 show undo show"), &(same + &undone)),
+        case(
+            "a torn journal, the depth",
+            &(STRIP.to_string()
+                + "move 0 1 byte 3 2 undo byte 3 1 byte 2 16 undo byte 2 8 undo byte 2 0 byte 1 1 undo byte 1 0 "
+                + "depth 257 move 0 1 undo depth 256 move 0 1 depth 1 undo undo"),
+            "open 0 depth 0\nmove 0 depth 1\nundo 13 depth 1\nundo 13 depth 1\nundo 13 depth 1\nundo 13 depth 1\n\
+             move 10 depth 257\nundo 10 depth 257\nmove 11 depth 256\nundo 0 depth 0\nundo 12 depth 0\n",
+        ),
+        case(
+            "refused openings",
+            "move 0 0 undo plan 3 0 2 0 open 0 1 move 0 0 undo open 1 33 undo open 3 2 move 0 0 plan 3 0 2 4 open 3 1 \
+             plan 3 0 2 0 journal 1023 open 3 1 move 0 0 journal 1024 open 3 1 move 0 0",
+            "move 1 depth 0\nundo 1 depth 0\nopen 1 depth 0\nmove 1 depth 0\nundo 1 depth 0\nopen 1 depth 0\n\
+             undo 1 depth 0\nopen 2 depth 0\nmove 1 depth 0\nopen 3 depth 0\nopen 9 depth 0\nmove 1 depth 0\n\
+             open 0 depth 0\nmove 0 depth 1\n",
+        ),
+    ]
+}
