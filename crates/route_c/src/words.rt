@@ -61,7 +61,7 @@ pub fn read_buffers(words: &[u16]) -> BufferList
     let b0 = read_buffer(words, 0);
     let b1 = read_buffer(words, 1);
     let b2 = read_buffer(words, 2);
-    let b3 = read_buffer(words, 1);
+    let b3 = read_buffer(words, 3);
     let b4 = read_buffer(words, 4);
     let b5 = read_buffer(words, 5);
     BufferList {

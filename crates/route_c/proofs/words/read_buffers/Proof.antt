@@ -1,4 +1,5 @@
 -- The length by three, and six places.
+use mathlib.Core.Path.{refl}
 use borrow.Author.Needs.{needs}
 use Rattle.job.specs.Fields.{buffersOf}
 use Rattle.route_c.specs.Words.{buffersIn}
@@ -25,7 +26,10 @@ read-buffer-requires-6 c κs = search needs
 
 returns : tie.Need-returns
 unfolding buffersIn buffersOf
-returns c = cc
+returns c =
+    simp
+    (c .before .before .before .before .before .read-buffer .ensures, c .before .before .before .before .read-buffer2 .ensures, c .before .before .before .read-buffer3 .ensures, c .before .before .read-buffer4 .ensures, c .before .read-buffer5 .ensures, c .read-buffer6 .ensures)
+    refl
 
 pub read-buffers-spec : {M : Type 1} → statement M
 read-buffers-spec =
