@@ -2,43 +2,32 @@
 use mathlib.Core.Path.{refl, _∙_}
 use native.Mathlib.Omega.{arith}
 use borrow.Author.Needs.{needs}
+use Rattle.table.specs.Problem.{rulesFor}
 use Rattle.table.proofs.Spreads.{few-cells}
 use Rattle.router.proofs.Splice.{zeroed-is}
-use Rattle.router.proofs.BestRoute.{best-is}
+use Rattle.router.proofs.BestRoute.{BestIs, best-is}
 use Rattle.router.proofs.Outcomes.{done-no-room, done-found}
 use Rattle.router.proofs.ready.write_route.Statement.{statement}
 use Rattle.router.proofs.ready.write_route.Tie as tie
+
+-- the best route, by what holds at the entry
+best-at : (s : tie.Start) → BestIs (rulesFor (s .args .p) (s .args .plan .now)) (s .args .p .elements .period) (s .args .registers) (s .args .steps)
+best-at s = best-is _ _ (s .pre .0) _ _ _ _ _ (s .pre .1 .1)
 
 cast-latency : tie.Need-cast-latency
 cast-latency c = search needs
 
 add-latency : tie.Need-add-latency
-add-latency c =
-    let s = c .before .before .before .before .before in
-    let r = s .pre .0 in
-    let q = best-is _ _ r _ _ _ _ _ (s .pre .1 .1) in
-    omega (arith, q .registersFit)
+add-latency c = omega (arith, best-at (c .before .before .before .before .before) .registersFit)
 
 mul-latency : tie.Need-mul-latency
-mul-latency c =
-    let s = c .before .before .before .before .before in
-    let r = s .pre .0 in
-    let q = best-is _ _ r _ _ _ _ _ (s .pre .1 .1) in
-    omega (arith, q .latencyFits)
+mul-latency c = omega (arith, best-at (c .before .before .before .before .before) .latencyFits)
 
 add-if1 : tie.Need-add-if1
-add-if1 c =
-    let s = c .before .before .before .before .before in
-    let r = s .pre .0 in
-    let q = best-is _ _ r _ _ _ _ _ (s .pre .1 .1) in
-    omega (arith, q .stepsFit)
+add-if1 c = omega (arith, best-at (c .before .before .before .before .before) .stepsFit)
 
 mul-if1 : tie.Need-mul-if1
-mul-if1 c =
-    let s = c .before .before .before .before .before in
-    let r = s .pre .0 in
-    let q = best-is _ _ r _ _ _ _ _ (s .pre .1 .1) in
-    omega (arith, q .stepsFit)
+mul-if1 c = omega (arith, best-at (c .before .before .before .before .before) .stepsFit)
 
 mul-clear : tie.Need-mul-clear
 mul-clear c = omega (arith, few-cells _ _ (c .before .before .before .before .before .before .before .pre .0))
@@ -52,8 +41,7 @@ same-length c = c .before .before .clear .ensures .same
 returns : tie.Need-returns
 returns c =
     let s = c .before .before .before .before .before .before .before .before .before .before in
-    let r = s .pre .0 in
-    let q = best-is _ _ r _ _ _ _ _ (s .pre .1 .1) in
+    let q = best-at s in
     done-no-room _ _ _ _ _ (zeroed-is _ 0 _ _ _ (omega arith) (s .pre .1 .0) refl (λ k h. refl) (c .before .before .clear .ensures)) _ _ q (c .before .before .before .before .if1 .taken)
 
 emit-requires : tie.Need-emit-requires
@@ -71,15 +59,13 @@ same-length-2 c = c .before .before .clear2 .ensures .same ∙ c .before .before
 same-length-3 : tie.Need-same-length-3
 same-length-3 c =
     let s = c .before .before .before .before .before .before .before .before .before .before .before .before .before .before .before .before .before in
-    let r = s .pre .0 in
-    let q = best-is _ _ r _ _ _ _ _ (s .pre .1 .1) in
+    let q = best-at s in
     c .before .before .before .before .before .before .before .before .emit .ensures .filled (q .route) (q .isBest) .same
 
 returns-2 : tie.Need-returns-2
 returns-2 c =
     let s = c .before .before .before .before .before .before .before .before .before .before .before .before .before .before .before .before .before in
-    let r = s .pre .0 in
-    let q = best-is _ _ r _ _ _ _ _ (s .pre .1 .1) in
+    let q = best-at s in
     done-found _ _ _ _ _ (zeroed-is _ _ _ _ _ (omega arith) (s .pre .1 .0) (c .before .before .before .before .before .before .before .before .emit .ensures .same) (c .before .before .before .before .before .before .before .before .emit .ensures .rest) (c .before .before .clear2 .ensures)) _ _ q _ (omega (arith, c .before .before .before .before .before .before .before .before .before .before .before .if1 .left)) (c .before .before .before .before .before .before .before .before .emit .ensures .filled (q .route) (q .isBest))
 
 pub write-route-spec : {M : Type 1} → statement M
