@@ -30,7 +30,7 @@ use Rattle.table.specs.Problem.{planFor, rulesFor, budgetOf}
 use Rattle.costs.specs.Costs.{bufferAt}
 use Rattle.table.specs.ArrivalRow.{takesBuffers}
 use Rattle.table.proofs.ArrivalRow.{takes-site, site-takes}
-use Rattle.table.proofs.Views.{budget-at}
+use Rattle.table.proofs.Views.{budget-at, buffer-named, limit-named}
 use Rattle.choice.specs.declared.State.{State}
 use Rattle.choice.specs.Choice.{delayMost}
 use Rattle.choice.specs.Codes.{CodeAsks, goesAt, drives, FirstBuffer, FirstCode}
@@ -70,16 +70,6 @@ module _ (p : Problem) (marks words : List ℕ) (at : State) (asks : CodeAsks p 
   abbrev site : Bool
   site = takesBuffers (getD marks (at .cell) 0) p (at .cell)
 
-  buffer-named : (i : ℕ) → R .buffer (suc i) ≡ bufferAt e i
-  unfolding rulesFor rulesOf bufferAt
-  buffer-named i =
-      let z : suc i - 1 ≡ i = omega arith in
-      rw z
-
-  limit-named : R .limit ≡ e .limit .0
-  unfolding rulesFor rulesOf
-  limit-named = refl
-
   -- no gate
 
   pub goes-none : goesAt R m A at noGate ≡ ltb (at .delay) (getD words (at .cell * 64 + at .load) 0)
@@ -94,7 +84,7 @@ module _ (p : Problem) (marks words : List ℕ) (at : State) (asks : CodeAsks p 
   unfolding goesAt drives loadOf bufferCost rulesFor
   goes-buffer i h s =
       simp
-      (ne-eqb (suc i) noGate (λ z. omega arith), ne-eqb (suc i) registerCode (λ z. omega (arith, asks .ready .valid .count)), is-true (mayStand R (at .cell) (suc i)) (buffer-stands (planFor p marks) e (p .source) (p .sink) (at .cell) (suc i) (asks .ready .valid .count) (takes-site p marks (at .cell) s (suc i) (omega arith) (omega arith))), buffer-named i, limit-named, budget-at (length marks) words (at .cell) (bufferLoad (bufferAt e i)) (asks .inPlan) (omega (arith, buffer-load-most (asks .ready .valid) i (omega (arith, asks .ready .valid .count)))))
+      (ne-eqb (suc i) noGate (λ z. omega arith), ne-eqb (suc i) registerCode (λ z. omega (arith, asks .ready .valid .count)), is-true (mayStand R (at .cell) (suc i)) (buffer-stands (planFor p marks) e (p .source) (p .sink) (at .cell) (suc i) (asks .ready .valid .count) (takes-site p marks (at .cell) s (suc i) (omega arith) (omega arith))), buffer-named p marks i, limit-named p marks, budget-at (length marks) words (at .cell) (bufferLoad (bufferAt e i)) (asks .inPlan) (omega (arith, buffer-load-most (asks .ready .valid) i (omega (arith, asks .ready .valid .count)))))
 
   goes-refused : (code : ℕ) → (code ≡ noGate → ⊥) → (code ≡ registerCode → ⊥) → (T (mayStand R (at .cell) code) → ⊥) → T (goesAt R m A at code) → ⊥
   unfolding goesAt

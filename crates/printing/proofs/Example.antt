@@ -9,7 +9,7 @@ use Rattle.timing.specs.Formulas.{wireDelay, gateDelay, wireLoad, bufferDriver,
 use Rattle.timing.specs.Elements.{wireInRange, registerInRange, bufferInRange, wireOf, driverOf, bufferOf, registerOf}
 use Rattle.rules.specs.Rules.{rulesOf, siteOf}
 use Rattle.rules.specs.Rules.{wireOf as stepOf}
-use Rattle.rules.specs.Legal.{mayStand, isEnd, arrive, leave, closing}
+use Rattle.rules.specs.Legal.{mayStand, isEnd}
 use Rattle.rules.specs.Ranking.{codeSevens, registers, steps, latency, written}
 use Rattle.budget.specs.Table.{loadAt, delayAt, bufferCost, loadOf, closeCost, only, maxBelow, viaBuffer, arrival, given}
 use Rattle.budget.specs.Done.{seedAt}

@@ -4,7 +4,7 @@ use mathlib.Core.Path.{_≡_, refl, ap, _∙_}
 use mathlib.Core.Bool.{Bool, true, false, cond}
 use mathlib.Core.List.{List}
 use native.Mathlib.Omega.{arith}
-use borrow.Author.Tests.{lt-ltb, le-leb, lt-leb}
+use borrow.Author.Tests.{le-leb, lt-leb}
 use lib.Dec.{T, T-not, not-T, leb}
 use lib.ListN.{length, getD}
 use Rattle.plan.specs.Plan.{marksAt}
@@ -22,6 +22,7 @@ use Rattle.rows.specs.Rows.{copied, raised}
 use Rattle.table.specs.declared.problem.Problem.{Problem}
 use Rattle.table.specs.Problem.{planFor, rulesFor, Ready, budgetOf, seedOf}
 use Rattle.table.specs.ArrivalRow.{takesBuffers, behind, buffered}
+use Rattle.table.proofs.Views.{budget-at, buffer-named, limit-named}
 
 -- A word that is raised within the limit: x within it, z past it
 
@@ -93,28 +94,17 @@ module _ (p : Problem) (marks words : List ℕ) (cell : ℕ) (ready : Ready p ma
   A = budgetOf (length marks) words
 
   budget-word : (l : ℕ) → l < rowWords → A cell l ≡ getD words (cell * 64 + l) 0
-  unfolding budgetOf only
-  budget-word l h = simp (lt-ltb cell (length marks) inside, lt-ltb l rowWords h)
+  budget-word l h = budget-at (length marks) words cell l inside h
 
   buffer-load : (i : ℕ) → i < e .count → bufferLoad (bufferAt e i) < rowWords
   unfolding bufferLoad bufferAt
   buffer-load i h = omega (arith, ready .valid .buffers i (omega (arith, ready .valid .count)) .load)
 
-  buffer-named : (i : ℕ) → R .buffer (suc i) ≡ bufferAt e i
-  unfolding rulesFor rulesOf bufferAt
-  buffer-named i =
-      let z : suc i - 1 ≡ i = omega arith in
-      rw z
-
-  limit-named : R .limit ≡ e .limit .0
-  unfolding rulesFor rulesOf
-  limit-named = refl
-
   via-standing : (i l : ℕ) → i < e .count → T (mayStand R cell (suc i)) → viaBuffer R A cell l (suc i) ≡ behind words cell e l i
   unfolding viaBuffer behind loadOf bufferCost only
   via-standing i l h t =
       simp
-      (is-true (mayStand R cell (suc i)) t, buffer-named i, limit-named, budget-word (bufferLoad (bufferAt e i)) (buffer-load i h))
+      (is-true (mayStand R cell (suc i)) t, buffer-named p marks i, limit-named p marks, budget-word (bufferLoad (bufferAt e i)) (buffer-load i h))
 
   via-refused : (i l : ℕ) → (T (mayStand R cell (suc i)) → ⊥) → viaBuffer R A cell l (suc i) ≡ 0
   unfolding viaBuffer only

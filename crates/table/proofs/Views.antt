@@ -1,6 +1,6 @@
 -- Reading the tables in the scratch words, and keeping them.
-use Prim.Native.Nat.{ℕ, _+_, _*_, _≤_, _<_}
-use mathlib.Core.Path.{_≡_, sym, _∙_}
+use Prim.Native.Nat.{ℕ, suc, _+_, _-_, _*_, _≤_, _<_}
+use mathlib.Core.Path.{_≡_, refl, sym, _∙_}
 use mathlib.Core.Bool.{_&&_}
 use mathlib.Core.Logic.{_⊎_, inl, inr}
 use mathlib.Core.List.{List}
@@ -10,8 +10,10 @@ use lib.ListN.{getD}
 use Rattle.plan.proofs.Truth.{both, fst, snd}
 use Rattle.budget.proofs.Max.{only-true, only-false}
 use Rattle.rows.specs.Words.{Kept, KeptFrom}
-use Rattle.costs.specs.Costs.{rowWords}
-use Rattle.table.specs.Problem.{budgetOf, seedOf}
+use Rattle.costs.specs.Costs.{rowWords, bufferAt}
+use Rattle.rules.specs.Rules.{rulesOf}
+use Rattle.table.specs.declared.problem.Problem.{Problem}
+use Rattle.table.specs.Problem.{rulesFor, budgetOf, seedOf}
 use Rattle.table.specs.Layer.{arrivalsOf}
 
 module _ (n : ℕ) where
@@ -64,3 +66,16 @@ module _ (n : ℕ) where
   pub seeds-kept : (old new : List ℕ) → KeptFrom (n * 135) old new → (c : ℕ) → seedOf n new c ≡ seedOf n old c
   unfolding seedOf
   seeds-kept old new kept c = rw (kept (n * 135 + c) (omega arith))
+
+-- what the rules of a problem name
+
+module _ (p : Problem) (marks : List ℕ) where
+  pub buffer-named : (i : ℕ) → rulesFor p marks .buffer (suc i) ≡ bufferAt (p .elements) i
+  unfolding rulesFor rulesOf bufferAt
+  buffer-named i =
+      let z : suc i - 1 ≡ i = omega arith in
+      rw z
+
+  pub limit-named : rulesFor p marks .limit ≡ p .elements .limit .0
+  unfolding rulesFor rulesOf
+  limit-named = refl
