@@ -4,6 +4,7 @@
 //   brute text < JOB                    the text that the brute force gives for one job
 //   brute sample JOBS SEED              random jobs, one a line, in hexadecimal
 
+mod answer;
 mod cases;
 mod job;
 mod make;
@@ -12,7 +13,6 @@ mod naive;
 mod random;
 mod rules;
 mod search;
-mod sheet;
 mod worked;
 
 use random::Random;
@@ -89,7 +89,7 @@ fn compare(printer: &str, bytes: &[u8], expected: &str, running: &Running) -> bo
 fn check_cases(what: &str, cases: &[cases::Case], printer: &str, running: &Running) -> bool {
     let mut good = true;
     for case in cases {
-        let text = sheet::answer(&case.bytes, usize::MAX).unwrap().text();
+        let text = answer::answer(&case.bytes, usize::MAX).unwrap().text();
         if text != case.text {
             println!("the brute force fails at '{}': {text}", case.name);
             good = false;
@@ -142,7 +142,7 @@ fn run(printer: &str, jobs: u64, seed: u64, states: usize) -> bool {
             mix.too_large += 1;
             continue;
         };
-        let Ok(answer) = sheet::answer(&job.bytes, states) else {
+        let Ok(answer) = answer::answer(&job.bytes, states) else {
             mix.too_large += 1;
             continue;
         };
@@ -172,7 +172,7 @@ fn main() -> ExitCode {
     if words == ["text"] {
         let mut bytes = Vec::new();
         std::io::stdin().read_to_end(&mut bytes).expect("standard input is read");
-        print!("{}", sheet::answer(&bytes, usize::MAX).unwrap().text());
+        print!("{}", answer::answer(&bytes, usize::MAX).unwrap().text());
         return ExitCode::SUCCESS;
     }
     let number = |at: usize| words.get(at).and_then(|word| word.parse::<u64>().ok());

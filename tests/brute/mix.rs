@@ -1,7 +1,7 @@
 // What a run's jobs were: counted by answer, so that a poor mix shows.
 
 use crate::rules::{legal, registers, Fault, Problem, Visit};
-use crate::sheet::Answer;
+use crate::answer::Answer;
 use std::collections::BTreeMap;
 
 const MANY: usize = 11; // registers counted one by one below this

@@ -95,7 +95,7 @@ impl Problem {
     }
 
     // Refusal 3: a byte above 15, a cut wire past the last column or the last row.
-    pub fn stray(&self) -> bool {
+    pub fn invalid_marks(&self) -> bool {
         (0..self.cells()).any(|cell| {
             let marks = self.marks[cell as usize];
             let last_column = cell % self.width == self.width - 1;

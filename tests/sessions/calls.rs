@@ -1,7 +1,7 @@
 // Document 01's "Calls and what they leave", on the bytes themselves: for records, plans and journals of any contents.
 // Each call lists all that is at fault, in its order; the first decides.
 
-use crate::plan::{self, stray, Fault};
+use crate::plan::{self, invalid_mark, Fault};
 
 const USED: usize = 1_024; // bytes of the journal that a session uses
 const MOST: u32 = 256; // the greatest depth
@@ -43,8 +43,8 @@ impl Session {
         (0 < depth && 4 * depth <= self.lent.min(USED)).then(|| 4 * (depth - 1))
     }
 
-    // Why the newest entry is torn: all that holds of the three.
-    pub fn torn(&self) -> Vec<&'static str> {
+    // Why the newest entry is corrupt: all that holds of the three.
+    pub fn corrupt(&self) -> Vec<&'static str> {
         let Some(at) = self.newest() else { return Vec::new() };
         let [low, high, old, new] = [0, 1, 2, 3].map(|i| self.journal[at + i]);
         let cell = low as u32 + 256 * high as u32;
@@ -52,7 +52,7 @@ impl Session {
         if cell >= self.cells() {
             return vec!["cell"];
         }
-        if stray(self.record.width, self.record.height, cell, old) {
+        if invalid_mark(self.record.width, self.record.height, cell, old) {
             out.push("old marks");
         }
         if self.plan.get(cell as usize).is_some_and(|&marks| marks != new) {
@@ -79,7 +79,7 @@ impl Session {
         if cell >= self.cells() {
             out.push((14, "cell"));
         }
-        if stray(self.record.width, self.record.height, cell, marks) {
+        if invalid_mark(self.record.width, self.record.height, cell, marks) {
             out.push((3, "marks"));
         }
         if self.record.depth == MOST {
@@ -100,8 +100,8 @@ impl Session {
         if self.record.depth == 0 {
             out.push((12, "empty"));
         }
-        if !self.torn().is_empty() {
-            out.push((13, "torn"));
+        if !self.corrupt().is_empty() {
+            out.push((13, "corrupt"));
         }
         if out.is_empty() {
             let at = self.newest().expect("the journal has the newest entry");

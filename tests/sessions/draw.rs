@@ -1,7 +1,7 @@
 // Random numbers for commands: mostly such as the calls take, some that they refuse.
 
 use crate::calls::Session;
-use crate::plan::{stray, BELOW, RIGHT};
+use crate::plan::{invalid_mark, BELOW, RIGHT};
 use crate::question::{Question, Tables};
 use crate::random::Random;
 use crate::script::Command;
@@ -29,7 +29,7 @@ pub fn bad_sides(r: &mut Random, w: u32, h: u32) -> (u32, u32) {
 fn marks(r: &mut Random, w: u32, h: u32, cell: u32) -> u8 {
     let mut m = 0;
     for (mark, percent) in [(1, 40), (2, 50), (RIGHT, 12), (BELOW, 12)] {
-        if r.chance(percent) && !stray(w, h, cell, mark) {
+        if r.chance(percent) && !invalid_mark(w, h, cell, mark) {
             m |= mark;
         }
     }
@@ -46,14 +46,14 @@ fn stray_marks(r: &mut Random, w: u32, h: u32, cell: u32) -> u8 {
     let any = r.within(16, 255) as u8;
     let cuts = r.pick(&[RIGHT, BELOW]) | r.below(4) as u8;
     let m = r.pick(&[16, any, cuts, cuts, cuts, 16 + cuts]);
-    if stray(w, h, cell, m) {
+    if invalid_mark(w, h, cell, m) {
         m
     } else {
         any
     }
 }
 
-// A plan with a stray mark or of another length, or both.
+// A plan with an invalid mark or of another length, or both.
 pub fn bad_plan(r: &mut Random, (w, h): (u32, u32), good: &[u8]) -> Vec<u8> {
     let mut plan = good.to_vec();
     if r.chance(60) && !plan.is_empty() {
@@ -93,7 +93,7 @@ pub fn set(r: &mut Random, w: u32, h: u32, plan: &[u8]) -> (u32, u32) {
     (cell, m as u32)
 }
 
-// A move that changes one mark on a route, stray or not.
+// A move that changes one mark on a route, valid or not.
 pub fn set_on(r: &mut Random, path: &[u32], plan: &[u8]) -> (u32, u32) {
     let cell = r.pick(path);
     let there = plan.get(cell as usize).map_or(0, |&marks| marks as u32);

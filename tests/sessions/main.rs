@@ -15,12 +15,12 @@ mod search;
 
 mod calls;
 mod draw;
-mod ledger;
 mod make;
 mod mix;
 mod plan;
 mod player;
 mod question;
+mod reference;
 mod script;
 mod stories;
 mod worked;

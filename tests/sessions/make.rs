@@ -160,7 +160,7 @@ impl Maker<'_> {
 // One script. The error tells where the models differ.
 pub fn script(mut r: Random, mix: &mut Mix) -> (Script, Made) {
     let kind = match r.below(12) {
-        0..3 => Kind::Ledger,
+        0..3 => Kind::Reference,
         3 => Kind::Climb,
         4..7 => Kind::Tamper,
         7 => Kind::Openings,

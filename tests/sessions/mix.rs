@@ -26,12 +26,12 @@ const NUMBERS: [(&str, &[u32]); 4] = [
 const ORDERS: [(&str, &[&str]); 4] = [
     ("open", &["grid", "length", "plan", "journal"]),
     ("move", &["grid", "length", "plan", "journal", "depth", "cell", "marks", "full"]),
-    ("undo", &["grid", "length", "plan", "journal", "depth", "empty", "torn"]),
+    ("undo", &["grid", "length", "plan", "journal", "depth", "empty", "corrupt"]),
     ("route", &["grid", "length", "plan", "element", "ends"]),
 ];
 
 // Two that cannot hold at once: depths that differ.
-const APART: [(&str, &str); 4] = [("depth", "full"), ("depth", "empty"), ("depth", "torn"), ("empty", "torn")];
+const APART: [(&str, &str); 4] = [("depth", "full"), ("depth", "empty"), ("depth", "corrupt"), ("empty", "corrupt")];
 
 const KINDS: [(&str, &[&str]); 6] = [
     (
@@ -65,7 +65,7 @@ const KINDS: [(&str, &[&str]); 6] = [
 ];
 
 const PLACES: [&str; 4] =
-    ["before any opening", "after a refused opening", "in step with the ledger", "after tampering"];
+    ["before any opening", "after a refused opening", "in step with the reference model", "after tampering"];
 
 fn pairs() -> Vec<String> {
     let mut out = Vec::new();

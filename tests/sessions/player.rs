@@ -1,7 +1,7 @@
-// What the program prints for each command: by the calls' own rules, and by the ledger while nothing was tampered with.
+// What the program prints for each command: by the calls' own rules, and by the reference model while nothing was tampered with.
 
 use crate::calls::{number, Record, Session};
-use crate::ledger::Ledger;
+use crate::reference::Reference;
 use crate::mix::Mix;
 use crate::question::{self, Answer, Question, Tables};
 use crate::script::Command;
@@ -12,7 +12,7 @@ const FILL: u8 = 7; // the journal's bytes before the first call
 
 pub enum Trouble {
     TooLarge,       // a question that the search cannot answer within its bound: it is left out
-    Models(String), // the ledger and the calls' rules differ: one of the two is wrong
+    Models(String), // the reference model and the calls' rules differ: one of the two is wrong
 }
 
 impl Trouble {
@@ -27,8 +27,8 @@ impl Trouble {
 #[derive(Clone)]
 pub struct Player {
     pub session: Session,
-    pub ledger: Option<Ledger>, // of the last opening that answered 0
-    pub in_step: bool,          // record, plan and journal are the ledger's
+    pub reference: Option<Reference>, // of the last opening that answered 0
+    pub in_step: bool,          // record, plan and journal are the reference model's
     pub tables: Tables,
     refused: bool, // the last opening was
     opened: bool,
@@ -40,7 +40,7 @@ impl Player {
         let session = Session { record: Record::default(), plan: Vec::new(), journal: vec![FILL; 1_100], lent: 1_024 };
         Player {
             session,
-            ledger: None,
+            reference: None,
             in_step: false,
             tables: Tables::default(),
             refused: false,
@@ -50,20 +50,20 @@ impl Player {
     }
 
     fn is_the_ledgers(&self) -> bool {
-        let Some(ledger) = &self.ledger else { return false };
-        let record = Record { width: ledger.width, height: ledger.height, depth: ledger.depth() };
-        let (plan, history) = ledger.state();
+        let Some(reference) = &self.reference else { return false };
+        let record = Record { width: reference.width, height: reference.height, depth: reference.depth() };
+        let (plan, history) = reference.state();
         let s = &self.session;
         s.lent >= 1_024 && s.record == record && s.plan == plan && s.journal[..1_024] == history[..]
     }
 
-    // The number by the ledger must be the number by the rules, and so must all that is left.
-    fn stays_in_step(&self, by_ledger: u32, by_rules: u32) -> Result<(), Trouble> {
-        if by_ledger != by_rules {
-            return Err(Trouble::Models(format!("number {by_ledger} by the ledger, {by_rules} by the calls' rules")));
+    // The number by the reference model must be the number by the rules, and so must all that is left.
+    fn stays_in_step(&self, by_reference: u32, by_rules: u32) -> Result<(), Trouble> {
+        if by_reference != by_rules {
+            return Err(Trouble::Models(format!("number {by_reference} by the reference model, {by_rules} by the calls' rules")));
         }
         if !self.is_the_ledgers() {
-            return Err(Trouble::Models("record, plan or journal are not the ledger's".to_string()));
+            return Err(Trouble::Models("record, plan or journal are not the reference model's".to_string()));
         }
         Ok(())
     }
@@ -80,7 +80,7 @@ impl Player {
         self.asked.clear();
         self.refused = number != 0;
         if number == 0 {
-            self.ledger = Some(Ledger::new(width, height, &self.session.plan));
+            self.reference = Some(Reference::new(width, height, &self.session.plan));
             mix.sides(width, height);
         }
         self.in_step = number == 0;
@@ -95,7 +95,7 @@ impl Player {
         let place = match (self.opened, self.refused, self.in_step) {
             (false, _, _) => "before any opening",
             (_, true, _) => "after a refused opening",
-            (_, _, true) => "in step with the ledger",
+            (_, _, true) => "in step with the reference model",
             _ => "after tampering",
         };
         mix.add(&format!("{name} {place}"));
@@ -108,15 +108,15 @@ impl Player {
         mix.faults("move", &faults);
         mix.set(record, cell, old, marks, &faults);
         if self.in_step {
-            let by_ledger = self.ledger.as_mut().unwrap().set(cell, marks);
-            self.stays_in_step(by_ledger, number(&faults))?;
+            let by_reference = self.reference.as_mut().unwrap().set(cell, marks);
+            self.stays_in_step(by_reference, number(&faults))?;
         }
         Ok(self.line("move", number(&faults)))
     }
 
     fn undo(&mut self, mix: &mut Mix) -> Result<Vec<String>, Trouble> {
         self.note_place("undo", mix);
-        let (torn, newest) = (self.session.torn(), self.session.newest());
+        let (corrupt, newest) = (self.session.corrupt(), self.session.newest());
         let same = newest.is_some_and(|at| self.session.journal[at + 2] == self.session.journal[at + 3]);
         let faults = self.session.undo();
         mix.faults("undo", &faults);
@@ -126,13 +126,13 @@ impl Player {
                 mix.add_if(self.session.record.depth == 255, "undo 0 at depth 256");
                 mix.add_if(!self.in_step, "undo 0 of a tampered session");
             }
-            13 if torn.len() == 1 => mix.add(&format!("undo 13: {}", torn[0])),
+            13 if corrupt.len() == 1 => mix.add(&format!("undo 13: {}", corrupt[0])),
             13 => mix.add("undo 13: old and new marks"),
             _ => {}
         }
         if self.in_step {
-            let by_ledger = self.ledger.as_mut().unwrap().undo();
-            self.stays_in_step(by_ledger, number(&faults))?;
+            let by_reference = self.reference.as_mut().unwrap().undo();
+            self.stays_in_step(by_reference, number(&faults))?;
         }
         Ok(self.line("undo", number(&faults)))
     }

@@ -11,7 +11,7 @@ use crate::script::Command;
 // What a script is mostly made of.
 #[derive(Clone, Copy, PartialEq)]
 pub enum Kind {
-    Ledger, // moves, undos and questions, nothing tampered with
+    Reference, // moves, undos and questions, nothing tampered with
     Climb,  // past 256 moves
     Tamper,
     Openings,
@@ -144,16 +144,16 @@ impl Maker<'_> {
         if self.bytes + 15_000 > LONGEST {
             return Ok(()); // it might not go in whole
         }
-        let Some(ledger) = self.player.ledger.clone().filter(|_| self.player.in_step) else { return Ok(()) };
+        let Some(reference) = self.player.reference.clone().filter(|_| self.player.in_step) else { return Ok(()) };
         let mut asked: Vec<Question> = self.asked.into_iter().collect();
         asked.extend([0, 1].map(|_| draw::question(&mut self.r, self.sides, self.large)));
         let first = self.lines.len();
         self.alike(&asked)?;
         let second = self.lines.len();
         self.dirt()?;
-        self.put(Command::Plan(ledger.opening.clone()))?;
-        self.put(Command::Open(ledger.width, ledger.height))?;
-        for (cell, marks) in &ledger.standing {
+        self.put(Command::Plan(reference.opening.clone()))?;
+        self.put(Command::Open(reference.width, reference.height))?;
+        for (cell, marks) in &reference.standing {
             self.put(Command::Move(*cell, *marks as u32))?;
         }
         let third = self.lines.len();
@@ -225,7 +225,7 @@ impl Maker<'_> {
         let n = self.r.within(120, 320);
         let (mut undos, mut routes, mut tampers, mut openings) = (25, 15, 0, 0);
         match kind {
-            Kind::Ledger => undos = self.r.pick(&[10, 25, 35, 48]),
+            Kind::Reference => undos = self.r.pick(&[10, 25, 35, 48]),
             Kind::Climb => return self.climb(),
             Kind::Tamper => tampers = 14,
             Kind::Openings => (tampers, openings) = (4, 8),

@@ -79,7 +79,7 @@ pub fn cases() -> Vec<Case> {
         full(),
         case("a move of 2 onto a cell of 2", &(STRIP.to_string() + "move 1 2 show undo show"), &(same + &undone)),
         case(
-            "a torn journal, the depth",
+            "a corrupt journal, the depth",
             &(STRIP.to_string()
                 + "move 0 1 byte 3 2 undo byte 3 1 byte 2 16 undo byte 2 8 undo byte 2 0 byte 1 1 undo byte 1 0 "
                 + "depth 257 move 0 1 undo depth 256 move 0 1 depth 1 undo undo"),

@@ -81,8 +81,8 @@ module _ (p : Plan) (ok : checkedPlan p ≡ PlanCheck.Valid) (rest : List ℕ) w
       unfolding moveAnswer after cells moveNumber
       move-turn = go (leb (p .width * p .height) (m .cell)) (invalidMark (p .width) (p .height) (m .cell) (m .marks)) (leb depthMax (length moves)) refl refl refl
         where
-          go : (out stray full : Bool) → leb (p .width * p .height) (m .cell) ≡ out → invalidMark (p .width) (p .height) (m .cell) (m .marks) ≡ stray → leb depthMax (length moves) ≡ full → Turn p moves rest (move m)
-          go true stray full e f g = refused-move SessionAnswer.Cell (rw (intact, e)) refl (rw e)
+          go : (out bad full : Bool) → leb (p .width * p .height) (m .cell) ≡ out → invalidMark (p .width) (p .height) (m .cell) (m .marks) ≡ bad → leb depthMax (length moves) ≡ full → Turn p moves rest (move m)
+          go true bad full e f g = refused-move SessionAnswer.Cell (rw (intact, e)) refl (rw e)
           go false true full e f g = refused-move SessionAnswer.Mark (rw (intact, e, f)) refl (rw (e, f))
           go false false true e f g = refused-move SessionAnswer.JournalFull (rw (intact, e, f, g)) refl (rw (e, f, g))
           go false false false e f g =

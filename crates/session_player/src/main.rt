@@ -16,7 +16,7 @@
 //
 // Numbers are at most 65,535 where no other bound is said. Sides, depth, cells and tables may be out of the calls' own ranges: the calls refuse them. Before the first `open` the record is zero; before `tables` and `buffers` the tables are zero and there are no buffers.
 //
-// Printed, a line for each call: `open N depth D`, `move N depth D`, `undo N depth D`, with document 01's number and the record's depth; `route N depth D figures R S L visits .. zeroed Z`, with the visit words filled and the scratch words zeroed; after `route 4` the fault's place in its order and a buffer's place. Where the script is wrong, the line `bad script: line L: ..` says how and nothing more is played.
+// Printed, a line for each call: `open N depth D`, `move N depth D`, `undo N depth D`, with document 01's number and the record's depth; `route N depth D figures R S L visits .. zeroed Z`, with the visit words filled and the scratch words zeroed; after `route 4` the word `fault`, its place in the order of refusal 4 and a buffer's place. Where the script is wrong, the line `bad script: line L: ..` says how and nothing more is played.
 //
 // The calls are the covered functions below `planner`'s open, set_marks, undo and route: a caller of those would be a walk too.
 mod play;

@@ -21,7 +21,7 @@ pub fn answer(bytes: &[u8], most: usize) -> Result<Answer, TooLarge> {
         Err(refusal) => return Ok(Answer::Refused(refusal, None)),
     };
     // Refusals 1 and 2 cannot come after the reading: the grid is tested there, and the marks are counted by it.
-    if p.stray() {
+    if p.invalid_marks() {
         return Ok(Answer::Refused(3, None));
     }
     if let Some(fault) = p.fault() {

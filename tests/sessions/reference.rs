@@ -1,30 +1,30 @@
-// Document 01's ledger of a session: the opening plan and the standing moves. It is fed the opening and the calls, and
+// Document 01's reference model of a session (its ledger): the opening plan and the standing moves. It is fed the opening and the calls, and
 // sees no answer, no record, no journal and no later plan.
 
-use crate::plan::stray;
+use crate::plan::invalid_mark;
 
 const MOST: usize = 256; // moves that may stand
 const USED: usize = 1_024; // bytes of the history
 
 #[derive(Clone)]
-pub struct Ledger {
+pub struct Reference {
     pub width: u32,
     pub height: u32,
     pub opening: Vec<u8>,
     pub standing: Vec<(u32, u8)>, // cell, marks
 }
 
-impl Ledger {
+impl Reference {
     // For an opening that answers 0.
-    pub fn new(width: u32, height: u32, opening: &[u8]) -> Ledger {
-        Ledger { width, height, opening: opening.to_vec(), standing: Vec::new() }
+    pub fn new(width: u32, height: u32, opening: &[u8]) -> Reference {
+        Reference { width, height, opening: opening.to_vec(), standing: Vec::new() }
     }
 
     pub fn set(&mut self, cell: u32, marks: u8) -> u32 {
         if cell as usize >= self.opening.len() {
             return 14;
         }
-        if stray(self.width, self.height, cell, marks) {
+        if invalid_mark(self.width, self.height, cell, marks) {
             return 3;
         }
         if self.standing.len() == MOST {
