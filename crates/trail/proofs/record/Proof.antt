@@ -1,0 +1,196 @@
+-- `trail::record`: without a slot nothing is kept; else the words of the free slot are written, and no others.
+use Prim.Native.Nat.{ℕ, _+_, _*_, _/_, _%_, _≤_, _<_}
+use mathlib.Core.Path.{_≡_, refl, _∙_}
+use mathlib.Core.Logic.{_⊎_, inl, inr}
+use mathlib.Core.List.{List}
+use native.Mathlib.Omega.{arith}
+use borrow.Author.Needs.{needs}
+use lib.ListN.{length, getD, set, length-set}
+use lib.Seq.{getD-set-same, getD-set-other}
+use Rattle.rows.specs.Words.{Filled}
+use Rattle.costs.specs.Costs.{rowWords}
+use Rattle.trail.specs.declared.Trail.{Trail}
+use Rattle.trail.specs.Trail.{placeOf, stampOf, TrailAsks, RoomMade, Recorded}
+use Rattle.trail.proofs.Slots.{place-in}
+use Rattle.trail.proofs.History.{sound-none}
+use Rattle.trail.proofs.Changes.{recorded}
+use Rattle.trail.proofs.record.Statement.{statement}
+use Rattle.trail.proofs.record.Tie as tie
+
+-- no slots: nothing can be had back any more
+pub record-nothing : (n cell : ℕ) (words : List ℕ) (t : Trail) → Recorded n cell words t words (record { room = 0; start = 0; count = 0; low = t .stamp; stamp = t .stamp })
+record-nothing n cell words t =
+    record {
+      same = refl;
+      low = λ k h. refl;
+      high = λ k h. refl;
+      sound = sound-none n words _ refl refl (omega arith) (omega arith);
+      stamp = refl;
+      history = λ u Z below past s c lo hi h. absurd (omega arith);
+      noted = inl (omega arith);
+      others = λ c h. inl (omega arith);
+    }
+
+-- the words after the stores
+module _ (n cell : ℕ) (old : List ℕ) (t k : Trail) (stamp : ℕ) (asks : TrailAsks n old t) (cellIn : cell < n) (made : RoomMade n old t k) (stampIs : stamp ≡ t .stamp) (at : ℕ) (atIs : at ≡ placeOf n k (k .count)) (mid : List ℕ) (f : Filled (λ l. getD old (cell * 64 + l) 0) at rowWords old mid) where
+  abbrev set1 : List ℕ
+  set1 = set mid (at + 64) cell
+
+  abbrev set2 : List ℕ
+  set2 = set set1 (at + 65) (stamp % 65536)
+
+  abbrev new : List ℕ
+  new = set set2 (at + 66) (stamp / 65536)
+
+  inside : at + 67 ≤ length mid
+  inside = omega (arith, atIs, place-in (made .sound) (k .count) (made .free), asks .room, f .same)
+
+  other : (i : ℕ) → (i ≡ at + 64 → ⊥) → (i ≡ at + 65 → ⊥) → (i ≡ at + 66 → ⊥) → getD new i 0 ≡ getD mid i 0
+  other i p q r =
+      getD-set-other set2 (at + 66) i (stamp / 65536) 0 r ∙ (getD-set-other set1 (at + 65) i (stamp % 65536) 0 q ∙ getD-set-other mid (at + 64) i cell 0 p)
+
+  cell-word : getD new (at + 64) 0 ≡ cell
+  cell-word =
+      getD-set-other set2 (at + 66) (at + 64) (stamp / 65536) 0 (λ e. omega arith)
+      ∙ (getD-set-other set1 (at + 65) (at + 64) (stamp % 65536) 0 (λ e. omega arith) ∙ getD-set-same mid (at + 64) cell 0 (omega (arith, inside)))
+
+  stamp-words : stampOf new at ≡ stamp
+  stamp-words =
+      omega (
+        arith,
+        getD-set-other set2 (at + 66) (at + 65) (stamp / 65536) 0 (λ e. omega arith),
+        getD-set-same set1 (at + 65) (stamp % 65536) 0 (simp length-set (omega (arith, inside))),
+        getD-set-same set2 (at + 66) (stamp / 65536) 0 (simp length-set (omega (arith, inside))),
+      )
+
+  outside : (i : ℕ) → (i < at) ⊎ (at + 67 ≤ i) → getD new i 0 ≡ getD old i 0
+  outside i (inl h) = other i (λ e. omega arith) (λ e. omega arith) (λ e. omega arith) ∙ f .low i h
+  outside i (inr h) = other i (λ e. omega arith) (λ e. omega arith) (λ e. omega arith) ∙ f .high i (omega arith)
+
+  pub record-row : (r : Trail) → r .room ≡ k .room → r .start ≡ k .start → r .count ≡ k .count + 1 → r .low ≡ k .low → r .stamp ≡ stamp → Recorded n cell old t new r
+  record-row r a b c d e =
+      let x =
+      recorded n cell old k new r (made .sound) (made .free) a b c d (omega (arith, made .stamp)) cellIn (simp length-set (f .same)) (rw (← atIs) outside)
+      (rw (← atIs) (λ l h. other (at + l) (λ z. omega arith) (λ z. omega arith) (λ z. omega arith) ∙ f .done l h))
+      (rw (← atIs) cell-word) (rw (← atIs) (stamp-words ∙ omega (arith, made .stamp))) in
+      record {
+        same = x .same;
+        low = x .low;
+        high = x .high;
+        sound = x .sound;
+        stamp = omega arith;
+        history = λ u Z below past. x .history u Z (omega (arith, made .stamp)) (made .history u Z past);
+        noted = x .noted;
+        others = λ y h. x .others y (made .noted y h);
+      }
+
+returns : tie.Need-returns
+returns c = record-nothing _ _ _ _
+
+make-room-requires : tie.Need-make-room-requires
+make-room-requires c κs =
+    let e = c .before in
+    (e .before .before .before .pre .0, omega (arith, e .if1 .left))
+
+place-requires : tie.Need-place-requires
+place-requires c κs =
+    let s = c .before .before .before .before .before in
+    let made = c .make-room .ensures in
+    (made .sound .start, (made .sound .slots, (s .pre .0 .few, made .free)))
+
+-- the free slot's words
+room : (c : tie.After-place) → c .place .result + 67 ≤ c .before .before .before .before .before .before .args .n * 256
+room c = omega (arith, c .place .ensures, place-in (c .before .make-room .ensures .sound) _ (c .before .make-room .ensures .free))
+
+after : (c : tie.After-place) → c .before .before .before .before .before .before .args .n * 136 ≤ c .place .result
+after c = omega (arith, c .place .ensures)
+
+mul-copy : tie.Need-mul-copy
+mul-copy c = search needs
+
+copy-requires : tie.Need-copy-requires
+copy-requires c κs =
+    let p = c .before in
+    let s = p .before .before .before .before .before .before in (
+      inl (omega (arith, after p, s .pre .1)),
+      (omega (arith, s .pre .1, s .pre .0 .room), omega (arith, room p, s .pre .0 .room)),
+    )
+
+cast-scratch : tie.Need-cast-scratch
+cast-scratch c = search needs
+
+bounds : (c : tie.After-slice-known2) → (c .before .before .before .before .place .result + 67 ≤ 262144) × (c .before .before .before .before .place .result + 67 ≤ length (c .before .before .copy .last .0))
+bounds c =
+    let p = c .before .before .before .before in
+    let s = p .before .before .before .before .before .before in
+    (omega (arith, room p, s .pre .0 .few), omega (arith, room p, s .pre .0 .room, c .before .before .copy .ensures .same))
+
+add-scratch : tie.Need-add-scratch
+add-scratch c = omega (arith, bounds c)
+
+mul-scratch : tie.Need-mul-scratch
+mul-scratch c = omega (arith, bounds c)
+
+slice-write-scratch : tie.Need-slice-write-scratch
+slice-write-scratch c = omega (arith, bounds c)
+
+cast-scratch-2 : tie.Need-cast-scratch-2
+cast-scratch-2 c = search needs
+
+add-scratch-2 : tie.Need-add-scratch-2
+add-scratch-2 c = omega (arith, bounds c)
+
+mul-scratch-2 : tie.Need-mul-scratch-2
+mul-scratch-2 c = omega (arith, bounds c)
+
+slice-write-scratch-2 : tie.Need-slice-write-scratch-2
+slice-write-scratch-2 c = simp length-set (omega (arith, bounds c))
+
+cast-scratch-3 : tie.Need-cast-scratch-3
+cast-scratch-3 c = search needs
+
+add-scratch-3 : tie.Need-add-scratch-3
+add-scratch-3 c = omega (arith, bounds c)
+
+mul-scratch-3 : tie.Need-mul-scratch-3
+mul-scratch-3 c = omega (arith, bounds c)
+
+slice-write-scratch-3 : tie.Need-slice-write-scratch-3
+slice-write-scratch-3 c = simp length-set (omega (arith, bounds c))
+
+add-t14 : tie.Need-add-t14
+add-t14 c = search needs
+
+same-length : tie.Need-same-length
+same-length c = search needs
+
+returns-2 : tie.Need-returns-2
+returns-2 c =
+    let p = c .before .before .before .before .before in
+    let s = p .before .before .before .before .before .before in
+    record-row _ _ _ _ _ _ (s .pre .0) (s .pre .1) (p .before .make-room .ensures) refl _ (p .place .ensures) _ (c .before .before .before .copy .ensures) _ refl refl refl refl refl
+
+pub record-spec : {M : Type 1} → statement M
+record-spec =
+    tie.close
+    (tie.spec
+    returns
+    make-room-requires
+    place-requires
+    mul-copy
+    copy-requires
+    cast-scratch
+    add-scratch
+    mul-scratch
+    slice-write-scratch
+    cast-scratch-2
+    add-scratch-2
+    mul-scratch-2
+    slice-write-scratch-2
+    cast-scratch-3
+    add-scratch-3
+    mul-scratch-3
+    slice-write-scratch-3
+    add-t14
+    same-length
+    returns-2)
