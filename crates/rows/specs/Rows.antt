@@ -10,7 +10,6 @@ use Rattle.timing.specs.declared.elements.Driver.{Driver}
 use Rattle.timing.specs.Formulas.{wireDelay, wireLoad, gateDelay}
 use Rattle.budget.specs.Table.{only}
 use Rattle.costs.specs.Costs.{rowWords}
-use Rattle.rows.specs.Words.{Filled}
 
 -- the table's word for a cell and a load
 abbrev pub viewOf : List ℕ → ℕ → ℕ → ℕ
@@ -30,13 +29,12 @@ unfoldable pub pushed : List ℕ → ℕ → ℕ → Wire → ℕ → ℕ → �
 pushed words from to wire limit l =
     max (getD words (to + l) 0) (only (leb (l + wireLoad wire) limit) (getD words (from + (l + wireLoad wire)) 0 - wireDelay wire l))
 
--- some word of the row at `to` grew
-pub record RowGrew (to : ℕ) (old new : List ℕ) : Type 0 where
+-- some word of the row at `to` grows by the push
+pub record RowGrows (from to : ℕ) (wire : Wire) (limit : ℕ) (words : List ℕ) : Type 0 where
   pub load : ℕ
   pub inRow : load < rowWords
-  pub more : getD old (to + load) 0 < getD new (to + load) 0
+  pub more : getD words (to + load) 0 < pushed words from to wire limit load
 
-pub record Pushed (from to : ℕ) (wire : Wire) (limit : ℕ) (old new : List ℕ) (grew : Bool) : Type 0 where
-  pub filled : Filled (pushed old from to wire limit) to rowWords old new
-  pub some : grew ≡ true → RowGrew to old new
-  pub none : grew ≡ false → (k : ℕ) → getD new k 0 ≡ getD old k 0
+pub record Grows (from to : ℕ) (wire : Wire) (limit : ℕ) (words : List ℕ) (grows : Bool) : Type 0 where
+  pub some : grows ≡ true → RowGrows from to wire limit words
+  pub none : grows ≡ false → (l : ℕ) → l < rowWords → pushed words from to wire limit l ≡ getD words (to + l) 0

@@ -5,7 +5,7 @@ ghost use lib.ListN.{length};
 ghost use Rattle.timing.specs.Elements.{WireInRange};
 ghost use Rattle.costs.specs.Costs.{rowWords, LimitCostsOf, GateCostsOf, StepCostsOf};
 ghost use Rattle.rows.specs.Words.{Filled};
-ghost use Rattle.rows.specs.Rows.{viewOf, copied, raised, Pushed};
+ghost use Rattle.rows.specs.Rows.{viewOf, copied, raised, pushed, Grows};
 use costs::GateCosts;
 use costs::LimitCosts;
 use costs::ROW;
@@ -72,23 +72,35 @@ pub fn raise_row(scratch: &mut [u16], at: usize, top: u16, costs: GateCosts)
     }
 }
 
-// The row at `to` is raised to what the arrival row at `from` leaves after one step of the wire. Whether it grew.
-// Past the limit the step costs all; there the load may lie past the row, but not past the words.
-pub fn push_row(scratch: &mut [u16], from: usize, to: usize, costs: StepCosts) -> bool
+// Whether some word of the row at `to` would grow by the push.
+pub fn grows(scratch: &[u16], from: usize, to: usize, costs: StepCosts) -> bool
     requires { ⌜ WireInRange (costs .wire) × (StepCostsOf (costs .wire) (costs .limit) costs × ((to + rowWords ≤ from) × (from + 2 * rowWords ≤ length (now scratch)))) ⌝ }
-    ensures { λ r. ⌜ Pushed from to (costs .wire) (costs .limit) (now (scratch .entry)) (now (scratch .exit)) r ⌝ }
+    ensures { λ r. ⌜ Grows from to (costs .wire) (costs .limit) (now (scratch .entry)) r ⌝ }
 {
     let wire = costs.wire;
     let step = wire.load().0 as usize;
     let mut grown: u16 = 0;
     let mut l = 0;
     while l < ROW {
-        let old = scratch[to + l];
         let rest = above(scratch[from + (l + step)], costs.row[l]);
-        let new = larger(old, rest);
-        grown = larger(grown, new - old);
-        scratch[to + l] = new;
+        grown = larger(grown, above(rest, scratch[to + l]));
         l += 1;
     }
     0 < grown
+}
+
+// The row at `to` is raised to what the arrival row at `from` leaves after one step of the wire.
+// Past the limit the step costs all; there the load may lie past the row, but not past the words.
+pub fn push_row(scratch: &mut [u16], from: usize, to: usize, costs: StepCosts)
+    requires { ⌜ WireInRange (costs .wire) × (StepCostsOf (costs .wire) (costs .limit) costs × ((to + rowWords ≤ from) × (from + 2 * rowWords ≤ length (now scratch)))) ⌝ }
+    ensures { λ _. ⌜ Filled (pushed (now (scratch .entry)) from to (costs .wire) (costs .limit)) to rowWords (now (scratch .entry)) (now (scratch .exit)) ⌝ }
+{
+    let wire = costs.wire;
+    let step = wire.load().0 as usize;
+    let mut l = 0;
+    while l < ROW {
+        let old = scratch[to + l];
+        scratch[to + l] = larger(old, above(scratch[from + (l + step)], costs.row[l]));
+        l += 1;
+    }
 }

@@ -1,7 +1,7 @@
 -- One push, the four pushes of a cell, and the pushes of the active list, as tables.
 use Prim.Native.Nat.{ℕ, _+_, _-_, _*_, _≤_, _<_, max}
-use mathlib.Core.Path.{_≡_, refl, _∙_}
-use mathlib.Core.Bool.{Bool, true, false, not, _&&_}
+use mathlib.Core.Path.{_≡_, refl, sym, _∙_}
+use mathlib.Core.Bool.{not, _&&_}
 use mathlib.Core.Logic.{_⊎_, inl, inr}
 use mathlib.Core.List.{List}
 use native.Mathlib.Omega.{arith}
@@ -14,7 +14,9 @@ use Rattle.budget.specs.Table.{only}
 use Rattle.budget.specs.Sides.{gift, isSide}
 use Rattle.budget.proofs.Max.{only-true, only-false, only-bound}
 use Rattle.costs.specs.Costs.{rowWords}
-use Rattle.rows.specs.Rows.{pushed, RowGrew, Pushed}
+use Rattle.rows.specs.Words.{Filled}
+use Rattle.rows.specs.Rows.{pushed, RowGrows}
+use Rattle.rows.proofs.Words.{filled-none, filled-longer}
 use Rattle.lists.specs.Lists.{flagOf, Enlisted}
 use Rattle.lists.proofs.Lists.{listed-kept}
 use Rattle.table.specs.Problem.{budgetOf}
@@ -36,15 +38,19 @@ module _ (n cell to : ℕ) (wire : Wire) (limit next : ℕ) (old : List ℕ) (as
   unfolding gift
   no-gift l h = only-false (leb (l + wireLoad wire) limit) _ (λ t. omega (arith, leb→le (l + wireLoad wire) limit t, asks .light))
 
-  -- no neighbour: nothing changes
-  pub offer-none : to ≡ n → Offered n cell to wire limit old old next
-  offer-none e =
+  -- nothing changes: what the cell gives is in the table already
+  offer-same : ((c l : ℕ) → budgetOf n old c l ≡ max (budgetOf n old c l) (only (isSide n to c) (gift wire limit (arrivalsOf n old) cell l))) → Offered n cell to wire limit old old next
+  offer-same e =
       record {
         raised = record { same = refl; listed = asks .listed; flags = λ c h. inl refl; quiet = λ c h z l. refl; kept = λ k lo hi. refl; rest = λ k lo. refl };
-        table = λ c l. omega (arith, no-side n to c (gift wire limit (arrivalsOf n old) cell l) (λ h q. omega arith));
+        table = e;
       }
 
-  module _ (new : List ℕ) (inPlan : to < n) (grew : Bool) (push : Pushed (n * 64 + cell * 64) (to * 64) wire limit old new grew) where
+  -- no neighbour
+  pub offer-none : to ≡ n → Offered n cell to wire limit old old next
+  offer-none e = offer-same (λ c l. omega (arith, no-side n to c (gift wire limit (arrivalsOf n old) cell l) (λ h q. omega arith)))
+
+  module _ (new : List ℕ) (inPlan : to < n) (push : Filled (pushed old (n * 64 + cell * 64) (to * 64) wire limit) (to * 64) rowWords old new) where
     -- the row of `to` in the words is the push, which is the gift
     gift-is : (l : ℕ) → l < rowWords → pushed old (n * 64 + cell * 64) (to * 64) wire limit l ≡ max (getD old (to * 64 + l) 0) (gift wire limit (arrivalsOf n old) cell l)
     unfolding pushed gift
@@ -55,8 +61,8 @@ module _ (n cell to : ℕ) (wire : Wire) (limit next : ℕ) (old : List ℕ) (as
         go (inr f) = omega (arith, only-false (leb (l + wireLoad wire) limit) (getD old (n * 64 + cell * 64 + (l + wireLoad wire)) 0 - wireDelay wire l) (λ t. T-not (leb (l + wireLoad wire) limit) f t), only-false (leb (l + wireLoad wire) limit) (arrivalsOf n old cell (l + wireLoad wire) - wireDelay wire l) (λ t. T-not (leb (l + wireLoad wire) limit) f t))
 
     outside : (k : ℕ) → (k < to * 64) ⊎ (to * 64 + rowWords ≤ k) → getD new k 0 ≡ getD old k 0
-    outside k (inl h) = push .filled .low k h
-    outside k (inr h) = push .filled .high k h
+    outside k (inl h) = push .low k h
+    outside k (inr h) = push .high k h
 
     push-table : (c l : ℕ) → budgetOf n new c l ≡ max (budgetOf n old c l) (only (isSide n to c) (gift wire limit (arrivalsOf n old) cell l))
     push-table c l = go (inside n c l) (equal c to)
@@ -79,7 +85,7 @@ module _ (n cell to : ℕ) (wire : Wire) (limit next : ℕ) (old : List ℕ) (as
         go : ((c < n) × (l < rowWords)) ⊎ (c < n → l < rowWords → ⊥) → (c ≡ to) ⊎ (c ≡ to → ⊥) → budgetOf n new c l ≡ max (budgetOf n old c l) (only (isSide n to c) (gift wire limit (arrivalsOf n old) cell l))
         go (inr f) q = omega (arith, budget-outside n new c l f, budget-outside n old c l f, nothing f)
         go (inl h) (inl e) =
-            let a : getD new (c * 64 + l) 0 ≡ max (getD old (c * 64 + l) 0) (gift wire limit (arrivalsOf n old) cell l) = rw e (push .filled .done l (h .1) ∙ gift-is l (h .1)) in
+            let a : getD new (c * 64 + l) 0 ≡ max (getD old (c * 64 + l) 0) (gift wire limit (arrivalsOf n old) cell l) = rw e (push .done l (h .1) ∙ gift-is l (h .1)) in
             omega (arith, budget-at n new c l (h .0) (h .1), budget-at n old c l (h .0) (h .1), one-side n to c (gift wire limit (arrivalsOf n old) cell l) inPlan e)
         go (inl h) (inr f) =
             omega (arith, budget-at n new c l (h .0) (h .1), budget-at n old c l (h .0) (h .1), outside (c * 64 + l) (other h f (c * 64 + l) refl), no-side n to c (gift wire limit (arrivalsOf n old) cell l) (λ g q. f q))
@@ -90,29 +96,13 @@ module _ (n cell to : ℕ) (wire : Wire) (limit next : ℕ) (old : List ℕ) (as
     push-row-same : (c : ℕ) → (c ≡ to → ⊥) → SameRow n old new c
     push-row-same c f l = omega (arith, push-table c l, no-side n to c (gift wire limit (arrivalsOf n old) cell l) (λ g q. f q))
 
-    -- the row did not grow
-    pub offer-quiet : grew ≡ false → Offered n cell to wire limit old new next
-    offer-quiet e =
+    -- the row is pushed, since it grows, and `to` is listed
+    pub offer-grew : (last : List ℕ) (count : ℕ) → RowGrows (n * 64 + cell * 64) (to * 64) wire limit old → Enlisted n (n * 133) next to new last count → Offered n cell to wire limit old last count
+    offer-grew last count g list =
         record {
           raised =
               record {
-                same = push .filled .same;
-                listed = listed-kept (asks .listed) new (λ c h. push-flag c) (λ i h. push .none e (n * 133 + i));
-                flags = λ c h. inl (push-flag c);
-                quiet = λ c h z. budget-kept n old new (λ k lo hi. push .none e k) c;
-                kept = λ k lo hi. push .none e k;
-                rest = λ k lo. push .none e k;
-              };
-          table = push-table;
-        }
-
-    -- it grew, and `to` is listed
-    pub offer-grew : (last : List ℕ) (count : ℕ) → grew ≡ true → Enlisted n (n * 133) next to new last count → Offered n cell to wire limit old last count
-    offer-grew last count e list =
-        record {
-          raised =
-              record {
-                same = list .same ∙ push .filled .same;
+                same = list .same ∙ push .same;
                 listed = list .listed;
                 flags = λ c h. flags c h (equal c to);
                 quiet = λ c h z. quiet c h z (equal c to);
@@ -125,17 +115,21 @@ module _ (n cell to : ℕ) (wire : Wire) (limit next : ℕ) (old : List ℕ) (as
         same-table : (c l : ℕ) → budgetOf n last c l ≡ budgetOf n new c l
         same-table = budget-kept n new last (λ k lo hi. list .low k (omega arith))
 
-        grown : RowGrew (to * 64) old new → Grew n old last to
-        grown g =
+        grown : Grew n old last to
+        grown =
             record {
               load = g .load;
-              more = omega (arith, g .more, same-table to (g .load), budget-at n new to (g .load) inPlan (g .inRow), budget-at n old to (g .load) inPlan (g .inRow));
+              more = omega (arith, g .more, push .done (g .load) (g .inRow), same-table to (g .load), budget-at n new to (g .load) inPlan (g .inRow), budget-at n old to (g .load) inPlan (g .inRow));
             }
 
         flags : (c : ℕ) → c < n → (c ≡ to) ⊎ (c ≡ to → ⊥) → (flagOf n last c ≡ flagOf n old c) ⊎ ((flagOf n last c ≡ 1) × Grew n old last c)
-        flags c h (inl q) = inr (rw q (list .now-flagged), rw q (grown (push .some e)))
+        flags c h (inl q) = inr (rw q (list .now-flagged), rw q grown)
         flags c h (inr f) = inl (list .others c h f ∙ push-flag c)
 
         quiet : (c : ℕ) → c < n → flagOf n last c ≡ 0 → (c ≡ to) ⊎ (c ≡ to → ⊥) → SameRow n old last c
         quiet c h z (inl q) l = absurd (let w : flagOf n last c ≡ 1 = rw q (list .now-flagged) in omega arith)
         quiet c h z (inr f) l = same-table c l ∙ push-row-same c f l
+
+  -- the row does not grow
+  pub offer-quiet : to < n → ((l : ℕ) → l < rowWords → pushed old (n * 64 + cell * 64) (to * 64) wire limit l ≡ getD old (to * 64 + l) 0) → Offered n cell to wire limit old old next
+  offer-quiet h e = offer-same (push-table old h (filled-longer (filled-none _ _ _) rowWords (omega arith) (λ k lo hi. sym (e k hi))))

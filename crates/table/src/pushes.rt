@@ -8,9 +8,10 @@ use crate::problem::Problem;
 use costs::StepCosts;
 use lists::enlist;
 use plan::neighbours_of;
+use rows::grows;
 use rows::push_row;
 
-// One neighbour takes what the cell gives; it is listed if its row grew. The number n is no neighbour. The count of the next list.
+// One neighbour takes what the cell gives, if its row grows by it, and is then listed. The number n is no neighbour. The count of the next list.
 fn offer(
     scratch: &mut [u16],
     n: usize,
@@ -25,11 +26,12 @@ fn offer(
     if to == n {
         return next;
     }
-    let grew = push_row(scratch, n * 64 + cell * 64, to * 64, costs);
-    if grew {
-        return enlist(scratch, n, n * 133, next, to);
+    let from = n * 64 + cell * 64;
+    if !grows(scratch, from, to * 64, costs) {
+        return next;
     }
-    next
+    push_row(scratch, from, to * 64, costs);
+    enlist(scratch, n, n * 133, next, to)
 }
 
 // The four neighbours take what the cell gives.

@@ -2,6 +2,7 @@
 use Prim.Native.Nat.{_+_, _*_, _<_}
 use native.Mathlib.Omega.{arith}
 use borrow.Author.Needs.{needs}
+use borrow.Author.Tests.{not-true, not-false}
 use Rattle.lists.proofs.Lists.{listed-kept, listed-count}
 use Rattle.table.proofs.Offers.{offer-none, offer-quiet, offer-grew}
 use Rattle.table.proofs.pushes.offer.Statement.{statement}
@@ -12,21 +13,38 @@ returns c =
     let a = c .before .before .args in
     offer-none (a .n) (a .cell) (a .to) (a .costs .wire) (a .costs .limit) (a .next) _ (c .before .before .pre .0) (c .if1 .taken)
 
+mul-from : tie.Need-mul-from
+mul-from c = search needs
+
+mul-from-2 : tie.Need-mul-from-2
+mul-from-2 c = search needs
+
+add-from : tie.Need-add-from
+add-from c = search needs
+
+mul-grows : tie.Need-mul-grows
+mul-grows c = search needs
+
+grows-requires : tie.Need-grows-requires
+grows-requires c κs =
+    let a = c .before .before .before .pre in
+    (a .0 .wireFits, (a .1, (omega arith, omega (arith, a .0 .cellIn, a .0 .room))))
+
+same-length : tie.Need-same-length
+same-length c = search needs
+
+returns-2 : tie.Need-returns-2
+returns-2 c =
+    let s = c .before .before .before .before .before in
+    let a = s .args in
+    offer-quiet (a .n) (a .cell) (a .to) (a .costs .wire) (a .costs .limit) (a .next) _ (s .pre .0) (omega arith) (c .before .grows .ensures .none (not-true _ (c .if2 .taken)))
+
 mul-push-row : tie.Need-mul-push-row
 mul-push-row c = search needs
 
-mul-push-row-2 : tie.Need-mul-push-row-2
-mul-push-row-2 c = search needs
-
-add-push-row : tie.Need-add-push-row
-add-push-row c = search needs
-
-mul-push-row-3 : tie.Need-mul-push-row-3
-mul-push-row-3 c = search needs
-
 push-row-requires : tie.Need-push-row-requires
 push-row-requires c κs =
-    let a = c .before .before .before .pre in
+    let a = c .before .before .before .before .before .before .pre in
     (a .0 .wireFits, (a .1, (omega arith, omega (arith, a .0 .cellIn, a .0 .room))))
 
 mul-enlist : tie.Need-mul-enlist
@@ -34,31 +52,40 @@ mul-enlist c = search needs
 
 enlist-requires : tie.Need-enlist-requires
 enlist-requires c κs =
-    let s = c .before .before .before .before .before .before .before .before in
-    let f = c .before .before .before .before .push-row .ensures .filled in
+    let s = c .before .before .before .before .before .before .before .before .before .before in
+    let f = c .before .before .before .push-row .ensures in
     let few = listed-count (s .pre .0 .listed) in
     let inPlan : s .args .to < s .args .n = omega arith in (
       listed-kept (s .pre .0 .listed) _ (λ k h. f .high (s .args .n * 134 + k) (omega arith)) (λ i h. f .high (s .args .n * 133 + i) (omega arith)),
       (inPlan, (s .pre .0 .few, (omega arith, omega (arith, f .same, s .pre .0 .room)))),
     )
 
-same-length : tie.Need-same-length
-same-length c = search needs
-
-returns-2 : tie.Need-returns-2
-returns-2 c =
-    let s = c .before .before .before .before .before .before .before .before .before .before .before in
-    let a = s .args in
-    offer-grew (a .n) (a .cell) (a .to) (a .costs .wire) (a .costs .limit) (a .next) _ (s .pre .0) _ (omega arith) _ (c .before .before .before .before .before .before .before .push-row .ensures) _ _ (c .before .before .before .before .if2 .taken) (c .before .before .enlist .ensures)
-
 same-length-2 : tie.Need-same-length-2
 same-length-2 c = search needs
 
 returns-3 : tie.Need-returns-3
 returns-3 c =
-    let s = c .before .before .before .before .before .before .before in
+    let s = c .before .before .before .before .before .before .before .before .before .before .before .before .before in
     let a = s .args in
-    offer-quiet (a .n) (a .cell) (a .to) (a .costs .wire) (a .costs .limit) (a .next) _ (s .pre .0) _ (omega arith) _ (c .before .before .before .push-row .ensures) (c .if2 .left)
+    let pushed = c .before .before .before .before .before .before in
+    let grown = pushed .before .before in
+    offer-grew (a .n) (a .cell) (a .to) (a .costs .wire) (a .costs .limit) (a .next) _ (s .pre .0) _ (omega arith) (pushed .push-row .ensures) _ _ (grown .before .grows .ensures .some (not-false _ (grown .if2 .left))) (c .before .before .enlist .ensures)
 
 pub offer-spec : {M : Type 1} → statement M
-offer-spec = tie.close (tie.spec returns mul-push-row mul-push-row-2 add-push-row mul-push-row-3 push-row-requires mul-enlist enlist-requires same-length returns-2 same-length-2 returns-3)
+offer-spec =
+    tie.close
+    (tie.spec
+    returns
+    mul-from
+    mul-from-2
+    add-from
+    mul-grows
+    grows-requires
+    same-length
+    returns-2
+    mul-push-row
+    push-row-requires
+    mul-enlist
+    enlist-requires
+    same-length-2
+    returns-3)
