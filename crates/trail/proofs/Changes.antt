@@ -12,7 +12,7 @@ use Rattle.rows.specs.Rows.{viewOf}
 use Rattle.costs.specs.Costs.{rowWords}
 use Rattle.trail.specs.declared.Trail.{Trail}
 use Rattle.trail.specs.Trail.{slotOf, stampOf, placeOf, rowAt, cellAt, stampAt, Sound, Unstored, Stored, RowOf, History, Entry, Noted, RoomMade, Recorded, Restored}
-use Rattle.trail.proofs.Slots.{slot-cases, slot-apart, slot-next, slot-same, place-in, cell-alike, stamp-alike, unstored-alike, stored-alike, entry-alike}
+use Rattle.trail.proofs.Slots.{slot-cases, slot-below, slot-apart, slot-next, slot-same, cell-alike, stamp-alike, unstored-alike, stored-alike, entry-alike}
 
 -- a full trail without its oldest entry
 module _ (n : ℕ) (words : List ℕ) (t r : Trail) (sound : Sound n words t) (some : 0 < t .room) (full : t .room ≤ t .count) (room : r .room ≡ t .room) (start : r .start ≡ slotOf t 1) (count : r .count ≡ t .count - 1) (low : r .low ≡ stampAt n words t 0) (stamp : r .stamp ≡ t .stamp) where
@@ -91,6 +91,7 @@ module _ (n : ℕ) (words : List ℕ) (t r : Trail) (sound : Sound n words t) (s
               sorted = λ i j h k. omega (arith, stamp-next i (omega arith), stamp-next j k, sound .sorted (i + 1) (j + 1) (omega arith) (omega arith));
             };
         free = omega (arith, sound .fits);
+        room = room;
         stamp = stamp;
         history = forget-history;
         noted = forget-noted;
@@ -165,7 +166,7 @@ module _ (n cell : ℕ) (old : List ℕ) (t : Trail) (new : List ℕ) (r : Trail
       record {
         same = same;
         low = λ k h. kept k (inl (omega arith));
-        high = λ k h. kept k (inr (omega (arith, place-in sound (t .count) free)));
+        high = λ k h. kept k (inr (omega (arith, slot-below t (sound .start) (t .count) free)));
         sound =
             record {
               start = omega (arith, sound .start);
@@ -177,6 +178,7 @@ module _ (n cell : ℕ) (old : List ℕ) (t : Trail) (new : List ℕ) (r : Trail
               late = late;
               sorted = λ i j h k. entry-cases (λ j. i ≤ j → stampAt n new r i ≤ stampAt n new r j) (λ j k h. omega (arith, stamp-alike n old t new r (t .count) alike i (omega arith), stamp-alike n old t new r (t .count) alike j k, sound .sorted i j h k)) (λ h. omega (arith, new-stamp, late i (omega arith))) j k h;
             };
+        room = room;
         stamp = stamp;
         history = record-history;
         noted = inr (record { at = t .count; below = omega arith; now = omega (arith, new-stamp); holds = new-cell });

@@ -97,6 +97,7 @@ Noted n words t c = (t .stamp ≤ t .low) ⊎ Entry n words t c
 pub record RoomMade (n : ℕ) (words : List ℕ) (t r : Trail) : Type 0 where
   pub sound : Sound n words r
   pub free : r .count < r .room
+  pub room : r .room ≡ t .room
   pub stamp : r .stamp ≡ t .stamp
   pub history : (u : ℕ) (Z : ℕ → Table) → History n words t u Z → History n words r u Z
   pub noted : (c : ℕ) → Noted n words t c → Noted n words r c
@@ -105,8 +106,9 @@ pub record RoomMade (n : ℕ) (words : List ℕ) (t r : Trail) : Type 0 where
 pub record Recorded (n cell : ℕ) (old : List ℕ) (t : Trail) (new : List ℕ) (r : Trail) : Type 0 where
   pub same : length new ≡ length old
   pub low : (k : ℕ) → k < n * 136 → getD new k 0 ≡ getD old k 0
-  pub high : KeptFrom (n * 256) old new
+  pub high : KeptFrom (n * 136 + t .room * 67) old new
   pub sound : Sound n new r
+  pub room : r .room ≡ t .room
   pub stamp : r .stamp ≡ t .stamp
   pub history : (u : ℕ) (Z : ℕ → Table) → u < t .stamp → History n old t u Z → History n new r u Z
   pub noted : Noted n new r cell

@@ -16,6 +16,7 @@ returns c =
     record {
       sound = s .pre .0 .sound;
       free = c .if1 .taken;
+      room = refl;
       stamp = refl;
       history = λ u Z past. past;
       noted = λ x h. h;

@@ -1,6 +1,6 @@
 -- `trail::record`: without a slot nothing is kept; else the words of the free slot are written, and no others.
 use Prim.Native.Nat.{ℕ, _+_, _*_, _/_, _%_, _≤_, _<_}
-use mathlib.Core.Path.{_≡_, refl, _∙_}
+use mathlib.Core.Path.{_≡_, refl, sym, _∙_}
 use mathlib.Core.Logic.{_⊎_, inl, inr}
 use mathlib.Core.List.{List}
 use native.Mathlib.Omega.{arith}
@@ -18,13 +18,14 @@ use Rattle.trail.proofs.record.Statement.{statement}
 use Rattle.trail.proofs.record.Tie as tie
 
 -- no slots: nothing can be had back any more
-pub record-nothing : (n cell : ℕ) (words : List ℕ) (t : Trail) → Recorded n cell words t words (record { room = 0; start = 0; count = 0; low = t .stamp; stamp = t .stamp })
-record-nothing n cell words t =
+pub record-nothing : (n cell : ℕ) (words : List ℕ) (t : Trail) → t .room ≡ 0 → Recorded n cell words t words (record { room = 0; start = 0; count = 0; low = t .stamp; stamp = t .stamp })
+record-nothing n cell words t none =
     record {
       same = refl;
       low = λ k h. refl;
       high = λ k h. refl;
       sound = sound-none n words _ refl refl (omega arith) (omega arith);
+      room = sym none;
       stamp = refl;
       history = λ u Z below past s c lo hi h. absurd (omega arith);
       noted = inl (omega arith);
@@ -76,8 +77,9 @@ module _ (n cell : ℕ) (old : List ℕ) (t k : Trail) (stamp : ℕ) (asks : Tra
       record {
         same = x .same;
         low = x .low;
-        high = x .high;
+        high = λ i h. x .high i (omega (arith, made .room));
         sound = x .sound;
+        room = x .room ∙ made .room;
         stamp = omega arith;
         history = λ u Z below past. x .history u Z (omega (arith, made .stamp)) (made .history u Z past);
         noted = x .noted;
@@ -85,7 +87,7 @@ module _ (n cell : ℕ) (old : List ℕ) (t k : Trail) (stamp : ℕ) (asks : Tra
       }
 
 returns : tie.Need-returns
-returns c = record-nothing _ _ _ _
+returns c = record-nothing _ _ _ _ (c .if1 .taken)
 
 make-room-requires : tie.Need-make-room-requires
 make-room-requires c κs =
