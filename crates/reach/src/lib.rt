@@ -11,6 +11,7 @@ use labels::steps_of;
 use rows::clear;
 use table::Problem;
 use table::next_layer;
+use trail::no_trail;
 
 // The first place of the order, up to `count`, whose label has at least these registers to go.
 fn first_with(scratch: &[u16], n: usize, count: usize, registers: u16) -> usize
@@ -118,7 +119,8 @@ pub fn load_layer(
         if active == 0 {
             u = next_steps(scratch, n, at, span.end, steps);
         } else {
-            active = next_layer(plan, scratch, p, active);
+            let grown = next_layer(plan, scratch, p, active, no_trail());
+            active = grown.count;
             u += 1;
         }
         let next = arrive(scratch, n, at, span.end, u, active);

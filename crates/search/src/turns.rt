@@ -10,6 +10,7 @@ use labels::label_active;
 use labels::steps_of;
 use table::Problem;
 use table::next_layer;
+use trail::no_trail;
 
 // Where the search stands: registers and steps to go, the count of the active list, and three places of the order:
 // the labels before `at` are seeds, those before `end` wait for their steps, `count` is the order's length.
@@ -71,7 +72,8 @@ pub fn take_turn(plan: &[u8], scratch: &mut [u16], p: Problem, f: Progress) -> T
     ensures { λ r. ⌜ TurnEffect (rulesFor p (now (plan .entry))) (length (now (plan .entry))) (now (scratch .entry)) f (now (scratch .exit)) r ⌝ }
 {
     let n = plan.len();
-    let active = next_layer(plan, scratch, p, f.active);
+    let grown = next_layer(plan, scratch, p, f.active, no_trail());
+    let active = grown.count;
     if active == 0 {
         return after_quiet(scratch, n, f);
     }

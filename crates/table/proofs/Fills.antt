@@ -14,6 +14,9 @@ use Rattle.rows.specs.Words.{Filled, Kept, KeptFrom}
 use Rattle.costs.specs.Costs.{rowWords}
 use Rattle.lists.specs.Lists.{flagOf, Place, Listed}
 use Rattle.lists.proofs.Lists.{bit-cases, listed-count}
+use Rattle.trail.specs.declared.Trail.{Trail}
+use Rattle.trail.specs.Trail.{Sound}
+use Rattle.trail.proofs.History.{sound-kept}
 use Rattle.table.specs.declared.problem.Problem.{Problem}
 use Rattle.table.specs.Problem.{rulesFor, Ready, budgetOf, seedOf}
 use Rattle.table.specs.Layer.{arrivalsOf, ArrivalsFilled, SpreadAllAsks}
@@ -87,8 +90,8 @@ module _ (R : Rules) (n active i : ℕ) (old now : List ℕ) (listed : Listed n 
   mid-table : (c l : ℕ) → budgetOf n mid c l ≡ budgetOf n old c l
   mid-table c l = budget-kept n now mid (λ k lo hi. mid-other k (λ e. omega arith)) c l ∙ budget-kept n old now (before .table) c l
 
-  mid-seed : (c : ℕ) → seedOf n mid c ≡ seedOf n old c
-  mid-seed c = seeds-kept n now mid (λ k lo. mid-other k (λ e. omega (arith, cell-in))) c ∙ seeds-kept n old now (before .rest) c
+  mid-seed : (c : ℕ) → c < n → seedOf n mid c ≡ seedOf n old c
+  mid-seed c h = seeds-kept n now mid (λ k lo hi. mid-other k (λ e. omega (arith, cell-in))) c h ∙ seeds-kept n old now (λ k lo hi. before .rest k lo) c h
 
   pub fill-more : (last : List ℕ) → Filled (arrival R (seedOf n mid) (R .bound 0) (budgetOf n mid) cell) (n * 64 + cell * 64) rowWords mid last → Filling R n (i + 1) old last
   fill-more last f =
@@ -106,7 +109,7 @@ module _ (R : Rules) (n active i : ℕ) (old now : List ℕ) (listed : Listed n 
       high-flag c = f .high (n * 134 + c) (omega (arith, cell-in))
 
       rows : (j : ℕ) → j < i + 1 → (l : ℕ) → l < rowWords → (getD old (n * 132 + j) 0 ≡ cell) ⊎ (getD old (n * 132 + j) 0 ≡ cell → ⊥) → getD last (n * 64 + getD old (n * 132 + j) 0 * 64 + l) 0 ≡ arrival R (seedOf n old) (R .bound 0) (budgetOf n old) (getD old (n * 132 + j) 0) l
-      rows j h l q (inl e) = rw e (f .done l q ∙ arrival-row R (seedOf n old) (seedOf n mid) (R .bound 0) (budgetOf n old) (budgetOf n mid) cell (mid-table cell) (mid-seed cell) l)
+      rows j h l q (inl e) = rw e (f .done l q ∙ arrival-row R (seedOf n old) (seedOf n mid) (R .bound 0) (budgetOf n old) (budgetOf n mid) cell (mid-table cell) (mid-seed cell cell-in) l)
       rows j h l q (inr e) = out (split i j)
         where
           x : ℕ
@@ -154,12 +157,13 @@ filled-row R n old mid filled lim c h f l = go (split rowWords l)
     go (inr k) = arrivals-at n mid c l h k ∙ filled .rows c h f l k
 
 -- the pushes may begin
-pub fills-asks : (p : Problem) (marks : List ℕ) (active : ℕ) (old mid : List ℕ) → Ready p marks → length marks * 256 ≤ length old → Listed (length marks) old (length marks * 132) active → ArrivalsFilled (rulesFor p marks) (length marks) old mid → SpreadAllAsks p marks active mid
+pub fills-asks : (p : Problem) (marks : List ℕ) (active : ℕ) (t : Trail) (old mid : List ℕ) → Ready p marks → length marks * 256 ≤ length old → Sound (length marks) old t → Listed (length marks) old (length marks * 132) active → ArrivalsFilled (rulesFor p marks) (length marks) old mid → SpreadAllAsks p marks active t mid
 unfolding rulesFor rulesOf
-fills-asks p marks active old mid ready room listed filled =
+fills-asks p marks active t old mid ready room sound listed filled =
     record {
       ready = ready;
       room = omega (arith, filled .same);
+      sound = sound-kept (length marks) old t mid sound (λ k lo hi. filled .rest k (omega arith));
       unflagged = filled .cleared;
       short = listed-count listed;
       cells = λ i h. omega (arith, same i h, listed .cells i h);

@@ -1,6 +1,7 @@
 pub mod Views
 pub mod ArrivalRow
 pub mod Fills
+pub mod Follows
 pub mod Offers
 pub mod Spreads
 pub mod WholeLayer

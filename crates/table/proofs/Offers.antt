@@ -1,6 +1,6 @@
 -- One push, the four pushes of a cell, and the pushes of the active list, as tables.
 use Prim.Native.Nat.{ℕ, _+_, _-_, _*_, _≤_, _<_, max}
-use mathlib.Core.Path.{_≡_, refl, sym, _∙_}
+use mathlib.Core.Path.{_≡_, refl, sym, ap, _∙_}
 use mathlib.Core.Bool.{not, _&&_}
 use mathlib.Core.Logic.{_⊎_, inl, inr}
 use mathlib.Core.List.{List}
@@ -10,18 +10,23 @@ use lib.ListN.{getD}
 use Rattle.timing.specs.declared.elements.Wire.{Wire}
 use Rattle.timing.specs.Formulas.{wireDelay, wireLoad}
 use Rattle.plan.proofs.Truth.{both, fst, snd, decided, split, equal, eq→eqb}
-use Rattle.budget.specs.Table.{only}
+use Rattle.budget.specs.Table.{Table, only}
 use Rattle.budget.specs.Sides.{gift, isSide}
 use Rattle.budget.proofs.Max.{only-true, only-false, only-bound}
 use Rattle.costs.specs.Costs.{rowWords}
-use Rattle.rows.specs.Words.{Filled}
+use Rattle.rows.specs.Words.{Filled, KeptFrom}
 use Rattle.rows.specs.Rows.{pushed, RowGrows}
 use Rattle.rows.proofs.Words.{filled-none, filled-longer}
-use Rattle.lists.specs.Lists.{flagOf, Enlisted}
-use Rattle.lists.proofs.Lists.{listed-kept}
+use Rattle.lists.specs.Lists.{flagOf, Listed, Enlisted}
+use Rattle.lists.proofs.Lists.{listed-kept, listed-count}
+use Rattle.trail.specs.declared.Trail.{Trail}
+use Rattle.trail.proofs.History.{SameView}
+use Rattle.table.specs.declared.pushes.Grown.{Grown}
 use Rattle.table.specs.Problem.{budgetOf}
-use Rattle.table.specs.Layer.{arrivalsOf, Grew, SameRow, Offered, OfferAsks}
-use Rattle.table.proofs.Views.{budget-at, budget-outside, budget-kept, arrivals-at, inside}
+use Rattle.table.specs.Layer.{arrivalsOf, Grew, SameRow, Raised, NotedRow, Offered, OfferAsks}
+use Rattle.table.proofs.Views.{budget-at, budget-outside, budget-kept, arrivals-at, arrivals-kept, inside}
+use Rattle.table.proofs.Follows.{follows-same, follows-grew}
+use Rattle.table.proofs.WholeLayer.{raised-more}
 
 -- no side
 pub no-side : (n to c : ℕ) (x : ℕ) → (to < n → c ≡ to → ⊥) → only (isSide n to c) x ≡ 0
@@ -32,48 +37,54 @@ pub one-side : (n to c : ℕ) (x : ℕ) → to < n → c ≡ to → only (isSide
 unfolding isSide
 one-side n to c x h e = only-true (ltb to n && eqb c to) x (both (ltb to n) (eqb c to) (lt→ltb to n h) (eq→eqb c to e))
 
-module _ (n cell to : ℕ) (wire : Wire) (limit next : ℕ) (old : List ℕ) (asks : OfferAsks n cell to wire limit next old) where
+pub gift-row : (w : Wire) (limit : ℕ) (B C : Table) (cell : ℕ) → ((l : ℕ) → C cell l ≡ B cell l) → (l : ℕ) → gift w limit C cell l ≡ gift w limit B cell l
+unfolding gift
+gift-row w limit B C cell e l = simp e
+
+module _ (n cell to : ℕ) (wire : Wire) (limit : ℕ) (next : Grown) (old : List ℕ) (asks : OfferAsks n cell to wire limit next old) where
   -- past the last load there is no gift
   no-gift : (l : ℕ) → rowWords ≤ l → gift wire limit (arrivalsOf n old) cell l ≡ 0
   unfolding gift
   no-gift l h = only-false (leb (l + wireLoad wire) limit) _ (λ t. omega (arith, leb→le (l + wireLoad wire) limit t, asks .light))
 
   -- nothing changes: what the cell gives is in the table already
-  offer-same : ((c l : ℕ) → budgetOf n old c l ≡ max (budgetOf n old c l) (only (isSide n to c) (gift wire limit (arrivalsOf n old) cell l))) → Offered n cell to wire limit old old next
+  offer-same : ((c l : ℕ) → budgetOf n old c l ≡ max (budgetOf n old c l) (only (isSide n to c) (gift wire limit (arrivalsOf n old) cell l))) → Offered n cell to wire limit (next .trail) old old next
   offer-same e =
       record {
-        raised = record { same = refl; listed = asks .listed; flags = λ c h. inl refl; quiet = λ c h z l. refl; kept = λ k lo hi. refl; rest = λ k lo. refl };
+        raised = record { same = refl; listed = asks .listed; flags = λ c h. inl refl; quiet = λ c h z l. refl; kept = λ k lo hi. refl; seeds = λ k lo hi. refl };
+        follows = follows-same (asks .sound);
         table = e;
       }
 
   -- no neighbour
-  pub offer-none : to ≡ n → Offered n cell to wire limit old old next
+  pub offer-none : to ≡ n → Offered n cell to wire limit (next .trail) old old next
   offer-none e = offer-same (λ c l. omega (arith, no-side n to c (gift wire limit (arrivalsOf n old) cell l) (λ h q. omega arith)))
 
-  module _ (new : List ℕ) (inPlan : to < n) (push : Filled (pushed old (n * 64 + cell * 64) (to * 64) wire limit) (to * 64) rowWords old new) where
-    -- the row of `to` in the words is the push, which is the gift
-    gift-is : (l : ℕ) → l < rowWords → pushed old (n * 64 + cell * 64) (to * 64) wire limit l ≡ max (getD old (to * 64 + l) 0) (gift wire limit (arrivalsOf n old) cell l)
-    unfolding pushed gift
-    gift-is l h = go (decided (leb (l + wireLoad wire) limit))
-      where
-        go : T (leb (l + wireLoad wire) limit) ⊎ T (not (leb (l + wireLoad wire) limit)) → max (getD old (to * 64 + l) 0) (only (leb (l + wireLoad wire) limit) (getD old (n * 64 + cell * 64 + (l + wireLoad wire)) 0 - wireDelay wire l)) ≡ max (getD old (to * 64 + l) 0) (only (leb (l + wireLoad wire) limit) (arrivalsOf n old cell (l + wireLoad wire) - wireDelay wire l))
-        go (inl t) = rw (arrivals-at n old cell (l + wireLoad wire) (asks .cellIn) (omega (arith, leb→le (l + wireLoad wire) limit t, asks .light)))
-        go (inr f) = omega (arith, only-false (leb (l + wireLoad wire) limit) (getD old (n * 64 + cell * 64 + (l + wireLoad wire)) 0 - wireDelay wire l) (λ t. T-not (leb (l + wireLoad wire) limit) f t), only-false (leb (l + wireLoad wire) limit) (arrivalsOf n old cell (l + wireLoad wire) - wireDelay wire l) (λ t. T-not (leb (l + wireLoad wire) limit) f t))
+  -- the row of `to` in the words is the push, which is the gift
+  gift-is : (l : ℕ) → l < rowWords → pushed old (n * 64 + cell * 64) (to * 64) wire limit l ≡ max (getD old (to * 64 + l) 0) (gift wire limit (arrivalsOf n old) cell l)
+  unfolding pushed gift
+  gift-is l h = go (decided (leb (l + wireLoad wire) limit))
+    where
+      go : T (leb (l + wireLoad wire) limit) ⊎ T (not (leb (l + wireLoad wire) limit)) → max (getD old (to * 64 + l) 0) (only (leb (l + wireLoad wire) limit) (getD old (n * 64 + cell * 64 + (l + wireLoad wire)) 0 - wireDelay wire l)) ≡ max (getD old (to * 64 + l) 0) (only (leb (l + wireLoad wire) limit) (arrivalsOf n old cell (l + wireLoad wire) - wireDelay wire l))
+      go (inl t) = rw (arrivals-at n old cell (l + wireLoad wire) (asks .cellIn) (omega (arith, leb→le (l + wireLoad wire) limit t, asks .light)))
+      go (inr f) = omega (arith, only-false (leb (l + wireLoad wire) limit) (getD old (n * 64 + cell * 64 + (l + wireLoad wire)) 0 - wireDelay wire l) (λ t. T-not (leb (l + wireLoad wire) limit) f t), only-false (leb (l + wireLoad wire) limit) (arrivalsOf n old cell (l + wireLoad wire) - wireDelay wire l) (λ t. T-not (leb (l + wireLoad wire) limit) f t))
 
+  module _ (new : List ℕ) (inPlan : to < n) (push : Filled (pushed old (n * 64 + cell * 64) (to * 64) wire limit) (to * 64) rowWords old new) where
     outside : (k : ℕ) → (k < to * 64) ⊎ (to * 64 + rowWords ≤ k) → getD new k 0 ≡ getD old k 0
     outside k (inl h) = push .low k h
     outside k (inr h) = push .high k h
 
+    -- another cell's row lies before or after
+    other : (c l : ℕ) → l < rowWords → (c ≡ to → ⊥) → (c * 64 + l < to * 64) ⊎ (to * 64 + rowWords ≤ c * 64 + l)
+    other c l k f = go (split to c)
+      where
+        go : (to ≤ c) ⊎ (c < to) → (c * 64 + l < to * 64) ⊎ (to * 64 + rowWords ≤ c * 64 + l)
+        go (inl g) = inr (omega arith)
+        go (inr g) = inl (omega arith)
+
     push-table : (c l : ℕ) → budgetOf n new c l ≡ max (budgetOf n old c l) (only (isSide n to c) (gift wire limit (arrivalsOf n old) cell l))
     push-table c l = go (inside n c l) (equal c to)
       where
-        other : (c < n) × (l < rowWords) → (c ≡ to → ⊥) → (k : ℕ) → k ≡ c * 64 + l → (k < to * 64) ⊎ (to * 64 + rowWords ≤ k)
-        other h f k e = pick (split to c)
-          where
-            pick : (to ≤ c) ⊎ (c < to) → (k < to * 64) ⊎ (to * 64 + rowWords ≤ k)
-            pick (inl g) = inr (omega arith)
-            pick (inr g) = inl (omega arith)
-
         nothing : (c < n → l < rowWords → ⊥) → only (isSide n to c) (gift wire limit (arrivalsOf n old) cell l) ≡ 0
         nothing f = pick (split n c) (split rowWords l)
           where
@@ -88,7 +99,7 @@ module _ (n cell to : ℕ) (wire : Wire) (limit next : ℕ) (old : List ℕ) (as
             let a : getD new (c * 64 + l) 0 ≡ max (getD old (c * 64 + l) 0) (gift wire limit (arrivalsOf n old) cell l) = rw e (push .done l (h .1) ∙ gift-is l (h .1)) in
             omega (arith, budget-at n new c l (h .0) (h .1), budget-at n old c l (h .0) (h .1), one-side n to c (gift wire limit (arrivalsOf n old) cell l) inPlan e)
         go (inl h) (inr f) =
-            omega (arith, budget-at n new c l (h .0) (h .1), budget-at n old c l (h .0) (h .1), outside (c * 64 + l) (other h f (c * 64 + l) refl), no-side n to c (gift wire limit (arrivalsOf n old) cell l) (λ g q. f q))
+            omega (arith, budget-at n new c l (h .0) (h .1), budget-at n old c l (h .0) (h .1), outside (c * 64 + l) (other c l (h .1) f), no-side n to c (gift wire limit (arrivalsOf n old) cell l) (λ g q. f q))
 
     push-flag : (c : ℕ) → flagOf n new c ≡ flagOf n old c
     push-flag c = outside (n * 134 + c) (inr (omega arith))
@@ -97,39 +108,119 @@ module _ (n cell to : ℕ) (wire : Wire) (limit next : ℕ) (old : List ℕ) (as
     push-row-same c f l = omega (arith, push-table c l, no-side n to c (gift wire limit (arrivalsOf n old) cell l) (λ g q. f q))
 
     -- the row is pushed, since it grows, and `to` is listed
-    pub offer-grew : (last : List ℕ) (count : ℕ) → RowGrows (n * 64 + cell * 64) (to * 64) wire limit old → Enlisted n (n * 133) next to new last count → Offered n cell to wire limit old last count
-    offer-grew last count g list =
-        record {
-          raised =
+    module _ (last : List ℕ) (count : ℕ) (list : Enlisted n (n * 133) (next .count) to new last count) where
+      same-table : (c l : ℕ) → budgetOf n last c l ≡ budgetOf n new c l
+      same-table = budget-kept n new last (λ k lo hi. list .low k (omega arith))
+
+      pub listed-table : (c l : ℕ) → budgetOf n last c l ≡ max (budgetOf n old c l) (only (isSide n to c) (gift wire limit (arrivalsOf n old) cell l))
+      listed-table c l = same-table c l ∙ push-table c l
+
+      pub listed-flag : (c : ℕ) → c < n → (c ≡ to → ⊥) → flagOf n last c ≡ flagOf n old c
+      listed-flag c h f = list .others c h f ∙ push-flag c
+
+      pub listed-row : (c : ℕ) → c < n → (c ≡ to → ⊥) → SameView old last c
+      listed-row c h f l k = list .low (c * 64 + l) (omega arith) ∙ outside (c * 64 + l) (other c l k f)
+
+      pub listed-high : KeptFrom (n * 136) old last
+      listed-high k h = list .high k (omega arith) ∙ outside k (inr (omega arith))
+
+      pub listed-raised : RowGrows (n * 64 + cell * 64) (to * 64) wire limit old → Raised n old last count
+      listed-raised g =
+          record {
+            same = list .same ∙ push .same;
+            listed = list .listed;
+            flags = λ c h. flags c h (equal c to);
+            quiet = λ c h z. quiet c h z (equal c to);
+            kept = λ k lo hi. list .low k (omega arith) ∙ outside k (inr (omega arith));
+            seeds = λ k lo hi. list .high k lo ∙ outside k (inr (omega arith));
+          }
+        where
+          grown : Grew n old last to
+          grown =
               record {
-                same = list .same ∙ push .same;
-                listed = list .listed;
-                flags = λ c h. flags c h (equal c to);
-                quiet = λ c h z. quiet c h z (equal c to);
-                kept = λ k lo hi. list .low k (omega arith) ∙ outside k (inr (omega arith));
-                rest = λ k lo. list .high k lo ∙ outside k (inr (omega arith));
-              };
-          table = λ c l. same-table c l ∙ push-table c l;
-        }
-      where
-        same-table : (c l : ℕ) → budgetOf n last c l ≡ budgetOf n new c l
-        same-table = budget-kept n new last (λ k lo hi. list .low k (omega arith))
+                load = g .load;
+                more = omega (arith, g .more, push .done (g .load) (g .inRow), same-table to (g .load), budget-at n new to (g .load) inPlan (g .inRow), budget-at n old to (g .load) inPlan (g .inRow));
+              }
 
-        grown : Grew n old last to
-        grown =
-            record {
-              load = g .load;
-              more = omega (arith, g .more, push .done (g .load) (g .inRow), same-table to (g .load), budget-at n new to (g .load) inPlan (g .inRow), budget-at n old to (g .load) inPlan (g .inRow));
-            }
+          flags : (c : ℕ) → c < n → (c ≡ to) ⊎ (c ≡ to → ⊥) → (flagOf n last c ≡ flagOf n old c) ⊎ ((flagOf n last c ≡ 1) × Grew n old last c)
+          flags c h (inl q) = inr (rw q (list .now-flagged), rw q grown)
+          flags c h (inr f) = inl (list .others c h f ∙ push-flag c)
 
-        flags : (c : ℕ) → c < n → (c ≡ to) ⊎ (c ≡ to → ⊥) → (flagOf n last c ≡ flagOf n old c) ⊎ ((flagOf n last c ≡ 1) × Grew n old last c)
-        flags c h (inl q) = inr (rw q (list .now-flagged), rw q grown)
-        flags c h (inr f) = inl (list .others c h f ∙ push-flag c)
-
-        quiet : (c : ℕ) → c < n → flagOf n last c ≡ 0 → (c ≡ to) ⊎ (c ≡ to → ⊥) → SameRow n old last c
-        quiet c h z (inl q) l = absurd (let w : flagOf n last c ≡ 1 = rw q (list .now-flagged) in omega arith)
-        quiet c h z (inr f) l = same-table c l ∙ push-row-same c f l
+          quiet : (c : ℕ) → c < n → flagOf n last c ≡ 0 → (c ≡ to) ⊎ (c ≡ to → ⊥) → SameRow n old last c
+          quiet c h z (inl q) l = absurd (let w : flagOf n last c ≡ 1 = rw q (list .now-flagged) in omega arith)
+          quiet c h z (inr f) l = same-table c l ∙ push-row-same c f l
 
   -- the row does not grow
-  pub offer-quiet : to < n → ((l : ℕ) → l < rowWords → pushed old (n * 64 + cell * 64) (to * 64) wire limit l ≡ getD old (to * 64 + l) 0) → Offered n cell to wire limit old old next
+  pub offer-quiet : to < n → ((l : ℕ) → l < rowWords → pushed old (n * 64 + cell * 64) (to * 64) wire limit l ≡ getD old (to * 64 + l) 0) → Offered n cell to wire limit (next .trail) old old next
   offer-quiet h e = offer-same (push-table old h (filled-longer (filled-none _ _ _) rowWords (omega arith) (λ k lo hi. sym (e k hi))))
+
+-- what is asked of the words after the row is saved
+module _ (n cell to : ℕ) (wire : Wire) (limit : ℕ) (next : Grown) (old : List ℕ) (asks : OfferAsks n cell to wire limit next old) (mid : List ℕ) (r : Trail) (note : NotedRow n to old (next .trail) mid r) where
+  pub noted-listed-kept : Listed n mid (n * 133) (next .count)
+  noted-listed-kept =
+      listed-kept (asks .listed) mid (λ c h. note .low (n * 134 + c) (omega arith)) (λ i h. note .low (n * 133 + i) (omega (arith, listed-count (asks .listed))))
+
+  noted-asks : OfferAsks n cell to wire limit (record { count = next .count; trail = r }) mid
+  noted-asks =
+      record {
+        cellIn = asks .cellIn;
+        toIn = asks .toIn;
+        few = asks .few;
+        wireFits = asks .wireFits;
+        light = asks .light;
+        room = omega (arith, asks .room, note .same);
+        listed = noted-listed-kept;
+        sound = note .follows .sound;
+      }
+
+  noted-table : (c l : ℕ) → budgetOf n mid c l ≡ budgetOf n old c l
+  noted-table = budget-kept n old mid (λ k lo hi. note .low k (omega arith))
+
+  noted-raised : Raised n old mid (next .count)
+  noted-raised =
+      record {
+        same = note .same;
+        listed = noted-listed-kept;
+        flags = λ c h. inl (note .low (n * 134 + c) (omega arith));
+        quiet = λ c h z. noted-table c;
+        kept = λ k lo hi. note .low k (omega arith);
+        seeds = λ k lo hi. note .low k hi;
+      }
+
+  same-gift : (l : ℕ) → gift wire limit (arrivalsOf n mid) cell l ≡ gift wire limit (arrivalsOf n old) cell l
+  same-gift = gift-row wire limit (arrivalsOf n old) (arrivalsOf n mid) cell (arrivals-kept n old mid (λ k lo hi. note .low k (omega arith)) cell)
+
+  pushed-same : to < n → (l : ℕ) → l < rowWords → pushed mid (n * 64 + cell * 64) (to * 64) wire limit l ≡ pushed old (n * 64 + cell * 64) (to * 64) wire limit l
+  pushed-same inPlan l h =
+      omega (arith, gift-is n cell to wire limit _ mid noted-asks l h, gift-is n cell to wire limit next old asks l h, same-gift l, note .low (to * 64 + l) (omega arith))
+
+  -- the row grows: it is saved and pushed, and `to` is listed
+  pub offer-grew : (new : List ℕ) → to < n → Filled (pushed mid (n * 64 + cell * 64) (to * 64) wire limit) (to * 64) rowWords mid new → (last : List ℕ) (count : ℕ) → RowGrows (n * 64 + cell * 64) (to * 64) wire limit old → Enlisted n (n * 133) (next .count) to new last count → Offered n cell to wire limit (next .trail) old last (record { count = count; trail = r })
+  offer-grew new inPlan push last count grows list =
+      record {
+        raised =
+            raised-more n old mid last (next .count) count (λ c l. omega (arith, noted-table c l)) (λ c l. omega (arith, table c l)) noted-raised
+            (listed-raised n cell to wire limit _ mid noted-asks new inPlan push last count list grows-still);
+        follows =
+            follows-grew n to old (next .trail) mid r note last (listed-high n cell to wire limit _ mid noted-asks new inPlan push last count list)
+            (listed-row n cell to wire limit _ mid noted-asks new inPlan push last count list) (listed-flag n cell to wire limit _ mid noted-asks new inPlan push last count list);
+        table =
+            λ c l.
+            omega (
+              arith,
+              table c l,
+              noted-table c l,
+              ap (only (isSide n to c)) (same-gift l),
+            );
+      }
+    where
+      table : (c l : ℕ) → budgetOf n last c l ≡ max (budgetOf n mid c l) (only (isSide n to c) (gift wire limit (arrivalsOf n mid) cell l))
+      table = listed-table n cell to wire limit _ mid noted-asks new inPlan push last count list
+
+      grows-still : RowGrows (n * 64 + cell * 64) (to * 64) wire limit mid
+      grows-still =
+          record {
+            load = grows .load;
+            inRow = grows .inRow;
+            more = omega (arith, grows .more, note .low (to * 64 + grows .load) (omega (arith, grows .inRow)), pushed-same inPlan (grows .load) (grows .inRow));
+          }

@@ -17,13 +17,18 @@ use Rattle.budget.proofs.Sides.{four-sides}
 use Rattle.budget.proofs.Active.{given-row}
 use Rattle.lists.specs.Lists.{Listed}
 use Rattle.lists.proofs.Lists.{listed-none}
+use Rattle.trail.specs.declared.Trail.{Trail}
+use Rattle.trail.specs.Trail.{Sound}
 use Rattle.table.specs.declared.problem.Problem.{Problem}
+use Rattle.table.specs.declared.pushes.Grown.{Grown}
 use Rattle.costs.specs.declared.StepCosts.{StepCosts}
 use Rattle.costs.specs.Costs.{StepCostsOf}
 use Rattle.costs.proofs.Own.{step-own}
 use Rattle.table.specs.Problem.{planFor, rulesFor, Ready, budgetOf}
 use Rattle.table.specs.Layer.{arrivalsOf, Offered, OfferAsks, Spread, SpreadAsks, SpreadAll, SpreadAllAsks}
 use Rattle.table.proofs.Views.{arrivals-kept}
+use Rattle.table.proofs.Follows.{follows-same, follows-more}
+use Rattle.table.proofs.Offers.{gift-row}
 use Rattle.table.proofs.WholeLayer.{raised-more}
 
 -- a ready problem's sizes
@@ -40,14 +45,10 @@ module _ (p : Problem) (marks : List ℕ) (ready : Ready p marks) where
   few-cells = omega (arith, cells-are, cells-most (planFor p marks) (ready .sized))
 
 -- an offer only adds
-pub offered-least : {n cell to : ℕ} {wire : Wire} {limit : ℕ} {old new : List ℕ} {next : ℕ} → Offered n cell to wire limit old new next → (c l : ℕ) → budgetOf n old c l ≤ budgetOf n new c l
+pub offered-least : {n cell to : ℕ} {wire : Wire} {limit : ℕ} {t : Trail} {old new : List ℕ} {next : Grown} → Offered n cell to wire limit t old new next → (c l : ℕ) → budgetOf n old c l ≤ budgetOf n new c l
 offered-least o c l = omega (arith, o .table c l)
 
-gift-row : (w : Wire) (limit : ℕ) (B C : Table) (cell : ℕ) → ((l : ℕ) → C cell l ≡ B cell l) → (l : ℕ) → gift w limit C cell l ≡ gift w limit B cell l
-unfolding gift
-gift-row w limit B C cell e l = simp e
-
-module _ (p : Problem) (marks : List ℕ) (cell next : ℕ) (words : List ℕ) (asks : SpreadAsks p marks cell next words) where
+module _ (p : Problem) (marks : List ℕ) (cell : ℕ) (next : Grown) (words : List ℕ) (asks : SpreadAsks p marks cell next words) where
   abbrev n : ℕ
   n = length marks
 
@@ -58,8 +59,8 @@ module _ (p : Problem) (marks : List ℕ) (cell next : ℕ) (words : List ℕ) (
   inside = omega (arith, asks .cellIn, cells-are p marks (asks .ready))
 
   -- what each offer asks
-  pub offer-asks : (to : ℕ) (wire : Wire) (costs : StepCosts) (now : List ℕ) (count : ℕ) → StepCostsOf wire (p .elements .limit .0) costs → to ≤ cells P → WireInRange wire → length now ≡ length words → Listed n now (n * 133) count → OfferAsks n cell to (costs .wire) (costs .limit) count now × StepCostsOf (costs .wire) (costs .limit) costs
-  offer-asks to wire costs now count costed h w same listed = (
+  pub offer-asks : (to : ℕ) (wire : Wire) (costs : StepCosts) (now : List ℕ) (from : Grown) → StepCostsOf wire (p .elements .limit .0) costs → to ≤ cells P → WireInRange wire → length now ≡ length words → Listed n now (n * 133) (from .count) → Sound n now (from .trail) → OfferAsks n cell to (costs .wire) (costs .limit) from now × StepCostsOf (costs .wire) (costs .limit) costs
+  offer-asks to wire costs now from costed h w same listed sound = (
     record {
       cellIn = asks .cellIn;
       toIn = omega (arith, cells-are p marks (asks .ready));
@@ -68,6 +69,7 @@ module _ (p : Problem) (marks : List ℕ) (cell next : ℕ) (words : List ℕ) (
       light = omega (arith, costed .limit, asks .ready .valid .limit);
       room = omega (arith, asks .room);
       listed = listed;
+      sound = sound;
     },
     step-own costed,
   )
@@ -78,7 +80,7 @@ module _ (p : Problem) (marks : List ℕ) (cell next : ℕ) (words : List ℕ) (
       rw (cells-are p marks (asks .ready))
       (four-sides P (asks .ready .sized) (p .elements) (p .source) (p .sink) cell inside (p .elements .limit .0) B past c l x)
 
-  module _ (w₁ w₂ w₃ w₄ : List ℕ) (k₁ k₂ k₃ k₄ : ℕ) (up : Offered n cell (neighboursOf P cell .up) (p .elements .vertical) (p .elements .limit .0) words w₁ k₁) (left : Offered n cell (neighboursOf P cell .left) (p .elements .horizontal) (p .elements .limit .0) w₁ w₂ k₂) (right : Offered n cell (neighboursOf P cell .right) (p .elements .horizontal) (p .elements .limit .0) w₂ w₃ k₃) (down : Offered n cell (neighboursOf P cell .down) (p .elements .vertical) (p .elements .limit .0) w₃ w₄ k₄) where
+  module _ (w₁ w₂ w₃ w₄ : List ℕ) (k₁ k₂ k₃ k₄ : Grown) (up : Offered n cell (neighboursOf P cell .up) (p .elements .vertical) (p .elements .limit .0) (next .trail) words w₁ k₁) (left : Offered n cell (neighboursOf P cell .left) (p .elements .horizontal) (p .elements .limit .0) (k₁ .trail) w₁ w₂ k₂) (right : Offered n cell (neighboursOf P cell .right) (p .elements .horizontal) (p .elements .limit .0) (k₂ .trail) w₂ w₃ k₃) (down : Offered n cell (neighboursOf P cell .down) (p .elements .vertical) (p .elements .limit .0) (k₃ .trail) w₃ w₄ k₄) where
     row₁ : (l : ℕ) → arrivalsOf n w₁ cell l ≡ arrivalsOf n words cell l
     row₁ = arrivals-kept n words w₁ (λ k lo hi. up .raised .kept k lo (omega arith)) cell
 
@@ -89,39 +91,40 @@ module _ (p : Problem) (marks : List ℕ) (cell next : ℕ) (words : List ℕ) (
     row₃ l = arrivals-kept n w₂ w₃ (λ k lo hi. right .raised .kept k lo (omega arith)) cell l ∙ row₂ l
 
     -- one offer, with the arrival row as it was at the start
-    at-start : (to : ℕ) (wire : Wire) (old new : List ℕ) (k : ℕ) → Offered n cell to wire (p .elements .limit .0) old new k → ((l : ℕ) → arrivalsOf n old cell l ≡ arrivalsOf n words cell l) → (c l : ℕ) → budgetOf n new c l ≡ max (budgetOf n old c l) (only (isSide n to c) (gift wire (p .elements .limit .0) (arrivalsOf n words) cell l))
-    at-start to wire old new k o e c l =
+    at-start : (to : ℕ) (wire : Wire) (t : Trail) (old new : List ℕ) (k : Grown) → Offered n cell to wire (p .elements .limit .0) t old new k → ((l : ℕ) → arrivalsOf n old cell l ≡ arrivalsOf n words cell l) → (c l : ℕ) → budgetOf n new c l ≡ max (budgetOf n old c l) (only (isSide n to c) (gift wire (p .elements .limit .0) (arrivalsOf n words) cell l))
+    at-start to wire t old new k o e c l =
         o .table c l ∙ rw (gift-row wire (p .elements .limit .0) (arrivalsOf n words) (arrivalsOf n old) cell e l)
 
     spread-table : (c l : ℕ) → budgetOf n w₄ c l ≡ max (budgetOf n words c l) (given (rulesFor p marks) (arrivalsOf n words) cell c l)
     spread-table c l =
         cc (
-          at-start (neighboursOf P cell .up) (p .elements .vertical) words w₁ k₁ up (λ l. refl) c l,
-          at-start (neighboursOf P cell .left) (p .elements .horizontal) w₁ w₂ k₂ left row₁ c l,
-          at-start (neighboursOf P cell .right) (p .elements .horizontal) w₂ w₃ k₃ right row₂ c l,
-          at-start (neighboursOf P cell .down) (p .elements .vertical) w₃ w₄ k₄ down row₃ c l,
+          at-start (neighboursOf P cell .up) (p .elements .vertical) (next .trail) words w₁ k₁ up (λ l. refl) c l,
+          at-start (neighboursOf P cell .left) (p .elements .horizontal) (k₁ .trail) w₁ w₂ k₂ left row₁ c l,
+          at-start (neighboursOf P cell .right) (p .elements .horizontal) (k₂ .trail) w₂ w₃ k₃ right row₂ c l,
+          at-start (neighboursOf P cell .down) (p .elements .vertical) (k₃ .trail) w₃ w₄ k₄ down row₃ c l,
           sides (arrivalsOf n words) (asks .past) c l (budgetOf n words c l),
         )
 
-    pub spread-whole : Spread (rulesFor p marks) n cell words w₄ k₄
+    pub spread-whole : Spread (rulesFor p marks) n cell (next .trail) words w₄ k₄
     spread-whole =
         record {
           raised =
-              raised-more n words w₃ w₄ k₃ k₄
+              raised-more n words w₃ w₄ (k₃ .count) (k₄ .count)
               (λ c l. omega (arith, offered-least up c l, offered-least left c l, offered-least right c l)) (offered-least down)
-              (raised-more n words w₂ w₃ k₂ k₃ (λ c l. omega (arith, offered-least up c l, offered-least left c l)) (offered-least right)
-              (raised-more n words w₁ w₂ k₁ k₂ (offered-least up) (offered-least left) (up .raised) (left .raised))
+              (raised-more n words w₂ w₃ (k₂ .count) (k₃ .count) (λ c l. omega (arith, offered-least up c l, offered-least left c l)) (offered-least right)
+              (raised-more n words w₁ w₂ (k₁ .count) (k₂ .count) (offered-least up) (offered-least left) (up .raised) (left .raised))
               (right .raised))
               (down .raised);
+          follows = follows-more (up .follows) (follows-more (left .follows) (follows-more (right .follows) (down .follows)));
           table = spread-table;
         }
 
 -- The active list, one cell after another.
-module _ (p : Problem) (marks : List ℕ) (active : ℕ) (words : List ℕ) (asks : SpreadAllAsks p marks active words) where
+module _ (p : Problem) (marks : List ℕ) (active : ℕ) (t : Trail) (words : List ℕ) (asks : SpreadAllAsks p marks active t words) where
   abbrev m : ℕ
   m = length marks
 
-  pub spread-none : SpreadAll (rulesFor p marks) m 0 words words 0
+  pub spread-none : SpreadAll (rulesFor p marks) m 0 t words words (record { count = 0; trail = t })
   spread-none =
       record {
         raised =
@@ -131,14 +134,15 @@ module _ (p : Problem) (marks : List ℕ) (active : ℕ) (words : List ℕ) (ask
               flags = λ c h. inl refl;
               quiet = λ c h z l. refl;
               kept = λ k lo hi. refl;
-              rest = λ k lo. refl;
+              seeds = λ k lo hi. refl;
             };
+        follows = follows-same (asks .sound);
         least = λ c l. omega arith;
         most = λ x c l h f. h;
         gave = λ i h. absurd (omega arith);
       }
 
-  module _ (now : List ℕ) (i next : ℕ) (short : i < active) (before : SpreadAll (rulesFor p marks) m i words now next) where
+  module _ (now : List ℕ) (i : ℕ) (next : Grown) (short : i < active) (before : SpreadAll (rulesFor p marks) m i t words now next) where
     same-cell : (j : ℕ) → j < active → getD now (m * 132 + j) 0 ≡ getD words (m * 132 + j) 0
     same-cell j h = before .raised .kept (m * 132 + j) (omega arith) (omega (arith, asks .short))
 
@@ -152,13 +156,15 @@ module _ (p : Problem) (marks : List ℕ) (active : ℕ) (words : List ℕ) (ask
           cellIn = omega (arith, same-cell i short, asks .cells i short);
           room = omega (arith, before .raised .same, asks .room);
           listed = before .raised .listed;
+          sound = before .follows .sound;
           past = λ l h. same-row _ l ∙ rw (same-cell i short) (asks .past i short l h);
         }
 
-    pub spread-more : (last : List ℕ) (count : ℕ) → Spread (rulesFor p marks) m (getD now (m * 132 + i) 0) now last count → SpreadAll (rulesFor p marks) m (i + 1) words last count
+    pub spread-more : (last : List ℕ) (count : Grown) → Spread (rulesFor p marks) m (getD now (m * 132 + i) 0) (next .trail) now last count → SpreadAll (rulesFor p marks) m (i + 1) t words last count
     spread-more last count s =
         record {
-          raised = raised-more m words now last next count (before .least) grows (before .raised) (s .raised);
+          raised = raised-more m words now last (next .count) (count .count) (before .least) grows (before .raised) (s .raised);
+          follows = follows-more (before .follows) (s .follows);
           least = λ c l. omega (arith, before .least c l, grows c l);
           most = λ x c l h f. omega (arith, s .table c l, given-now c l, before .most x c l h (λ j k. f j (omega arith)), f i (omega arith));
           gave = λ j h c l. go j h c l (split i j);

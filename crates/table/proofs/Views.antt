@@ -9,7 +9,7 @@ use lib.Dec.{T, ltb, ltb→lt, lt→ltb}
 use lib.ListN.{getD}
 use Rattle.plan.proofs.Truth.{both, fst, snd}
 use Rattle.budget.proofs.Max.{only-true, only-false}
-use Rattle.rows.specs.Words.{Kept, KeptFrom}
+use Rattle.rows.specs.Words.{Kept}
 use Rattle.costs.specs.Costs.{rowWords, bufferAt}
 use Rattle.rules.specs.Rules.{rulesOf}
 use Rattle.table.specs.declared.problem.Problem.{Problem}
@@ -63,9 +63,9 @@ module _ (n : ℕ) where
       go (inl h) = arrivals-at new c l (h .0) (h .1) ∙ (kept (n * 64 + c * 64 + l) (omega arith) (omega arith) ∙ sym (arrivals-at old c l (h .0) (h .1)))
       go (inr f) = arrivals-outside new c l f ∙ sym (arrivals-outside old c l f)
 
-  pub seeds-kept : (old new : List ℕ) → KeptFrom (n * 135) old new → (c : ℕ) → seedOf n new c ≡ seedOf n old c
+  pub seeds-kept : (old new : List ℕ) → Kept (n * 135) (n * 136) old new → (c : ℕ) → c < n → seedOf n new c ≡ seedOf n old c
   unfolding seedOf
-  seeds-kept old new kept c = rw (kept (n * 135 + c) (omega arith))
+  seeds-kept old new kept c h = rw (kept (n * 135 + c) (omega arith) (omega arith))
 
 -- what the rules of a problem name
 

@@ -8,10 +8,14 @@ use lib.ListN.{getD}
 use Rattle.rules.specs.Rules.{Rules}
 use Rattle.budget.specs.Table.{Table, arrival, given, layer}
 use Rattle.budget.proofs.Active.{pushes-layer, given-most, layer-least, arrival-row, given-row}
-use Rattle.rows.specs.Words.{KeptFrom}
+use Rattle.rows.specs.Words.{Kept}
 use Rattle.costs.specs.Costs.{rowWords}
 use Rattle.lists.specs.Lists.{flagOf, Place, Taken}
 use Rattle.lists.proofs.Lists.{bit-cases, listed-count}
+use Rattle.trail.specs.declared.Trail.{Trail}
+use Rattle.trail.specs.Trail.{Sound, History}
+use Rattle.trail.proofs.History.{sound-kept, history-kept}
+use Rattle.table.specs.declared.pushes.Grown.{Grown}
 use Rattle.table.specs.Problem.{budgetOf, seedOf}
 use Rattle.table.specs.Layer.{arrivalsOf, Settled, Active, Grew, SameRow, ArrivalsFilled, Raised, SpreadAll, Layered}
 use Rattle.table.proofs.Fills.{filled-row}
@@ -26,7 +30,7 @@ raised-more n a b d k m up1 up2 r s =
       flags = λ c h. flags c (s .flags c h) (r .flags c h);
       quiet = λ c h z. quiet c h z (s .flags c h);
       kept = λ i lo hi. s .kept i lo hi ∙ r .kept i lo hi;
-      rest = λ i lo. s .rest i lo ∙ r .rest i lo;
+      seeds = λ i lo hi. s .seeds i lo hi ∙ r .seeds i lo hi;
     }
   where
     flags : (c : ℕ) → (flagOf n d c ≡ flagOf n b c) ⊎ ((flagOf n d c ≡ 1) × Grew n b d c) → (flagOf n b c ≡ flagOf n a c) ⊎ ((flagOf n b c ≡ 1) × Grew n a b c) → (flagOf n d c ≡ flagOf n a c) ⊎ ((flagOf n d c ≡ 1) × Grew n a d c)
@@ -39,7 +43,7 @@ raised-more n a b d k m up1 up2 r s =
     quiet c h z (inr e) l = absurd (omega (arith, e .0))
 
 -- From the arrival rows, the pushes and the new list to the layer.
-module _ (R : Rules) (n : ℕ) (old mid pushed new : List ℕ) (active next : ℕ) (cells : R .cellCount ≡ n) (start : Active R n old active) (filled : ArrivalsFilled R n old mid) (spread : SpreadAll R n active mid pushed next) (taken : Taken n next pushed new) where
+module _ (R : Rules) (n : ℕ) (t : Trail) (old mid pushed new : List ℕ) (active : ℕ) (next : Grown) (cells : R .cellCount ≡ n) (start : Active R n old active) (sound : Sound n old t) (filled : ArrivalsFilled R n old mid) (spread : SpreadAll R n active t mid pushed next) (taken : Taken n (next .count) pushed new) where
   abbrev B : Table
   B = arrival R (seedOf n old) (R .bound 0) (budgetOf n old)
 
@@ -103,19 +107,26 @@ module _ (R : Rules) (n : ℕ) (old mid pushed new : List ℕ) (active next : �
     quiet : (c : ℕ) → c < n → flagOf n new c ≡ 0 → SameRow n old new c
     quiet c h f l = final-budget c l ∙ (spread .raised .quiet c h (sym (flag-new c) ∙ f) l ∙ same-budget c l)
 
-    rest : KeptFrom (n * 135) old new
-    rest i h = taken .high i (omega arith) ∙ (spread .raised .rest i h ∙ filled .rest i h)
+    seeds : Kept (n * 135) (n * 136) old new
+    seeds i lo hi = taken .high i (omega arith) ∙ (spread .raised .seeds i lo hi ∙ filled .rest i lo)
+
+    -- the arrival rows and the new list leave the table and the trail
+    history : (u : ℕ) (Z : ℕ → Table) → u < t .stamp → History n old t u Z → History n new (next .trail) u Z
+    history u Z below past =
+        history-kept n pushed (next .trail) new (spread .follows .sound) (λ i lo hi. taken .high i (omega arith)) u Z (λ c h l k. taken .low (c * 64 + l) (omega arith))
+        (spread .follows .history (λ c h e. absurd (omega (arith, filled .cleared c h))) u Z below
+        (history-kept n old t mid sound (λ i lo hi. filled .rest i (omega arith)) u Z (λ c h l k. filled .table (c * 64 + l) (omega arith) (omega arith)) past))
 
     settled : (x : ℕ) → x < n → flagOf n new x ≡ 0 → Settled R n new x
     settled x h f c l =
         omega (
           arith,
           given-row R B (arrival R (seedOf n new) (R .bound 0) (budgetOf n new)) x
-              (arrival-row R (seedOf n old) (seedOf n new) (R .bound 0) (budgetOf n old) (budgetOf n new) x (quiet x h f) (seeds-kept n old new rest x)) c l,
+              (arrival-row R (seedOf n old) (seedOf n new) (R .bound 0) (budgetOf n old) (budgetOf n new) x (quiet x h f) (seeds-kept n old new seeds x h)) c l,
           all x c l h,
         )
 
-    pub layered : Layered R n old new next
+    pub layered : Layered R n t old new next
     layered =
         record {
           same = taken .same ∙ (spread .raised .same ∙ filled .same);
@@ -124,5 +135,10 @@ module _ (R : Rules) (n : ℕ) (old mid pushed new : List ℕ) (active next : �
           grew = grew;
           quiet = quiet;
           labels = λ i lo hi. taken .low i hi ∙ (spread .raised .kept i (omega arith) (omega arith) ∙ filled .labels i lo (omega arith));
-          rest = rest;
+          seeds = seeds;
+          beyond = λ i h. taken .high i (omega arith) ∙ (spread .follows .beyond i h ∙ filled .rest i (omega arith));
+          sound = sound-kept n pushed (next .trail) new (spread .follows .sound) (λ i lo hi. taken .high i (omega arith));
+          room = spread .follows .room;
+          stamp = spread .follows .stamp;
+          history = history;
         }

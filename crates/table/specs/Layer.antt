@@ -13,10 +13,13 @@ use Rattle.budget.specs.Sides.{gift, isSide}
 use Rattle.rows.specs.Words.{Kept, KeptFrom}
 use Rattle.costs.specs.Costs.{rowWords}
 use Rattle.lists.specs.Lists.{flagOf, Listed}
+use Rattle.trail.specs.declared.Trail.{Trail}
+use Rattle.trail.specs.Trail.{Sound, History, Noted}
 use Rattle.timing.specs.Ranges.{loadMax}
 use Rattle.timing.specs.Elements.{WireInRange}
 use Rattle.table.specs.Problem.{Ready, Room, budgetOf, seedOf}
 use Rattle.table.specs.declared.problem.Problem.{Problem}
+use Rattle.table.specs.declared.pushes.Grown.{Grown}
 
 -- the arrival table in the words; 0 outside cells and loads
 unfoldable pub arrivalsOf : ℕ → List ℕ → Table
@@ -56,59 +59,91 @@ pub record Raised (n : ℕ) (old new : List ℕ) (next : ℕ) : Type 0 where
   pub flags : (c : ℕ) → c < n → (flagOf n new c ≡ flagOf n old c) ⊎ ((flagOf n new c ≡ 1) × Grew n old new c)
   pub quiet : (c : ℕ) → c < n → flagOf n new c ≡ 0 → SameRow n old new c
   pub kept : Kept (n * 64) (n * 133) old new
-  pub rest : KeptFrom (n * 135) old new
+  pub seeds : Kept (n * 135) (n * 136) old new
 
-pub record OfferAsks (n cell to : ℕ) (wire : Wire) (limit next : ℕ) (words : List ℕ) : Type 0 where
+-- the layer being made has saved every flagged cell
+abbrev pub FlagsNoted : ℕ → List ℕ → Trail → Type 0
+FlagsNoted n words t = (c : ℕ) → c < n → flagOf n words c ≡ 1 → Noted n words t c
+
+-- The trail goes with the words: whatever layers could be had back still can, but for those that had to be forgotten.
+pub record Follows (n : ℕ) (t : Trail) (old : List ℕ) (r : Trail) (new : List ℕ) : Type 0 where
+  pub sound : Sound n new r
+  pub room : r .room ≡ t .room
+  pub stamp : r .stamp ≡ t .stamp
+  pub beyond : KeptFrom (n * 136 + t .room * 67) old new
+  pub noted : FlagsNoted n old t → FlagsNoted n new r
+  pub history : FlagsNoted n old t → (u : ℕ) (Z : ℕ → Table) → u < t .stamp → History n old t u Z → History n new r u Z
+
+-- After `note`: only words of the trail's slots change, and the cell is saved.
+pub record NotedRow (n cell : ℕ) (old : List ℕ) (t : Trail) (new : List ℕ) (r : Trail) : Type 0 where
+  pub same : length new ≡ length old
+  pub low : (k : ℕ) → k < n * 136 → getD new k 0 ≡ getD old k 0
+  pub follows : Follows n t old r new
+  pub noted : FlagsNoted n old t → Noted n new r cell
+
+pub record OfferAsks (n cell to : ℕ) (wire : Wire) (limit : ℕ) (next : Grown) (words : List ℕ) : Type 0 where
   pub cellIn : cell < n
   pub toIn : to ≤ n
   pub few : n ≤ 1024
   pub wireFits : WireInRange wire
   pub light : limit ≤ loadMax
   pub room : Room n words
-  pub listed : Listed n words (n * 133) next
+  pub listed : Listed n words (n * 133) (next .count)
+  pub sound : Sound n words (next .trail)
 
 -- After `offer`: one neighbour's row is raised.
-pub record Offered (n cell to : ℕ) (wire : Wire) (limit : ℕ) (old new : List ℕ) (next : ℕ) : Type 0 where
-  pub raised : Raised n old new next
+pub record Offered (n cell to : ℕ) (wire : Wire) (limit : ℕ) (t : Trail) (old new : List ℕ) (next : Grown) : Type 0 where
+  pub raised : Raised n old new (next .count)
+  pub follows : Follows n t old (next .trail) new
   pub table : (c l : ℕ) → budgetOf n new c l ≡ max (budgetOf n old c l) (only (isSide n to c) (gift wire limit (arrivalsOf n old) cell l))
 
 -- the arrival row of the cell is 0 past the limit
-pub record SpreadAsks (p : Problem) (marks : List ℕ) (cell next : ℕ) (words : List ℕ) : Type 0 where
+pub record SpreadAsks (p : Problem) (marks : List ℕ) (cell : ℕ) (next : Grown) (words : List ℕ) : Type 0 where
   pub ready : Ready p marks
   pub cellIn : cell < length marks
   pub room : Room (length marks) words
-  pub listed : Listed (length marks) words (length marks * 133) next
+  pub listed : Listed (length marks) words (length marks * 133) (next .count)
+  pub sound : Sound (length marks) words (next .trail)
   pub past : (l : ℕ) → p .elements .limit .0 < l → arrivalsOf (length marks) words cell l ≡ 0
 
 -- After `spread`: each neighbour has what the cell gives.
-pub record Spread (R : Rules) (n cell : ℕ) (old new : List ℕ) (next : ℕ) : Type 0 where
-  pub raised : Raised n old new next
+pub record Spread (R : Rules) (n cell : ℕ) (t : Trail) (old new : List ℕ) (next : Grown) : Type 0 where
+  pub raised : Raised n old new (next .count)
+  pub follows : Follows n t old (next .trail) new
   pub table : (c l : ℕ) → budgetOf n new c l ≡ max (budgetOf n old c l) (given R (arrivalsOf n old) cell c l)
 
 -- no cell is flagged; the cells of the active list have arrival rows that are 0 past the limit
-pub record SpreadAllAsks (p : Problem) (marks : List ℕ) (active : ℕ) (words : List ℕ) : Type 0 where
+pub record SpreadAllAsks (p : Problem) (marks : List ℕ) (active : ℕ) (t : Trail) (words : List ℕ) : Type 0 where
   pub ready : Ready p marks
   pub room : Room (length marks) words
+  pub sound : Sound (length marks) words t
   pub unflagged : (c : ℕ) → c < length marks → flagOf (length marks) words c ≡ 0
   pub short : active ≤ length marks
   pub cells : (i : ℕ) → i < active → getD words (length marks * 132 + i) 0 < length marks
   pub past : (i : ℕ) → i < active → (l : ℕ) → p .elements .limit .0 < l → arrivalsOf (length marks) words (getD words (length marks * 132 + i) 0) l ≡ 0
 
 -- After `spread_all`: each neighbour of a cell on the active list has what that cell gives, and nothing else was added.
-pub record SpreadAll (R : Rules) (n active : ℕ) (old new : List ℕ) (next : ℕ) : Type 0 where
-  pub raised : Raised n old new next
+pub record SpreadAll (R : Rules) (n active : ℕ) (t : Trail) (old new : List ℕ) (next : Grown) : Type 0 where
+  pub raised : Raised n old new (next .count)
+  pub follows : Follows n t old (next .trail) new
   pub least : (c l : ℕ) → budgetOf n old c l ≤ budgetOf n new c l
   pub most : (x c l : ℕ) → budgetOf n old c l ≤ x → ((i : ℕ) → i < active → given R (arrivalsOf n old) (getD old (n * 132 + i) 0) c l ≤ x) → budgetOf n new c l ≤ x
   pub gave : (i : ℕ) → i < active → (c l : ℕ) → given R (arrivalsOf n old) (getD old (n * 132 + i) 0) c l ≤ budgetOf n new c l
 
 -- After a layer.
-pub record Layered (R : Rules) (n : ℕ) (old new : List ℕ) (next : ℕ) : Type 0 where
+pub record Layered (R : Rules) (n : ℕ) (t : Trail) (old new : List ℕ) (next : Grown) : Type 0 where
   pub same : length new ≡ length old
   pub table : (c l : ℕ) → budgetOf n new c l ≡ layer R (seedOf n old) (R .bound 0) (budgetOf n old) c l
-  pub active : Active R n new next
+  pub active : Active R n new (next .count)
   pub grew : (c : ℕ) → c < n → flagOf n new c ≡ 1 → Grew n old new c
   pub quiet : (c : ℕ) → c < n → flagOf n new c ≡ 0 → SameRow n old new c
   -- labels and order
   pub labels : Kept (n * 128) (n * 132) old new
-  -- seed flags, and all beyond
-  pub rest : KeptFrom (n * 135) old new
+  -- seed flags, and all beyond the trail
+  pub seeds : Kept (n * 135) (n * 136) old new
+  pub beyond : KeptFrom (n * 136 + t .room * 67) old new
+  -- the trail; stamp is the layer made
+  pub sound : Sound n new (next .trail)
+  pub room : next .trail .room ≡ t .room
+  pub stamp : next .trail .stamp ≡ t .stamp
+  pub history : (u : ℕ) (Z : ℕ → Table) → u < t .stamp → History n old t u Z → History n new (next .trail) u Z

@@ -7,3 +7,4 @@ mod pushes;
 pub use arrival::takes_buffers;
 pub use layer::next_layer;
 pub use problem::Problem;
+pub use pushes::Grown;

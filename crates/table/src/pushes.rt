@@ -3,25 +3,45 @@ ghost use Prim.Native.Nat.{_+_, _*_, _<_};
 ghost use lib.ListN.{length};
 ghost use Rattle.costs.specs.Costs.{StepCostsOf};
 ghost use Rattle.table.specs.Problem.{rulesFor};
-ghost use Rattle.table.specs.Layer.{Offered, OfferAsks, Spread, SpreadAsks, SpreadAll, SpreadAllAsks};
+ghost use Rattle.trail.specs.Trail.{TrailAsks};
+ghost use Rattle.table.specs.Layer.{NotedRow, Offered, OfferAsks, Spread, SpreadAsks, SpreadAll, SpreadAllAsks};
 use crate::problem::Problem;
 use costs::StepCosts;
 use lists::enlist;
 use plan::neighbours_of;
 use rows::grows;
 use rows::push_row;
+use trail::Trail;
+use trail::save;
 
-// One neighbour takes what the cell gives, if its row grows by it, and is then listed. The number n is no neighbour. The count of the next list.
+// The count of the next list, and the trail.
+pub struct Grown {
+    pub count: usize,
+    pub trail: Trail,
+}
+
+// The cell's row is saved, unless the cell is listed: then this layer has done so.
+fn note(scratch: &mut [u16], n: usize, cell: usize, trail: Trail) -> Trail
+    requires { ⌜ TrailAsks n (now scratch) trail × (cell < n) ⌝ }
+    ensures { λ r. ⌜ NotedRow n cell (now (scratch .entry)) trail (now (scratch .exit)) r ⌝ }
+{
+    if scratch[n * 134 + cell] == 1 {
+        return trail;
+    }
+    save(scratch, n, cell, trail)
+}
+
+// One neighbour takes what the cell gives, if its row grows by it, and is then listed. The number n is no neighbour.
 fn offer(
     scratch: &mut [u16],
     n: usize,
     cell: usize,
     to: usize,
     costs: StepCosts,
-    next: usize,
-) -> usize
+    next: Grown,
+) -> Grown
     requires { ⌜ OfferAsks n cell to (costs .wire) (costs .limit) next (now scratch) × StepCostsOf (costs .wire) (costs .limit) costs ⌝ }
-    ensures { λ r. ⌜ Offered n cell to (costs .wire) (costs .limit) (now (scratch .entry)) (now (scratch .exit)) r ⌝ }
+    ensures { λ r. ⌜ Offered n cell to (costs .wire) (costs .limit) (next .trail) (now (scratch .entry)) (now (scratch .exit)) r ⌝ }
 {
     if to == n {
         return next;
@@ -30,14 +50,19 @@ fn offer(
     if !grows(scratch, from, to * 64, costs) {
         return next;
     }
+    let trail = note(scratch, n, to, next.trail);
     push_row(scratch, from, to * 64, costs);
-    enlist(scratch, n, n * 133, next, to)
+    let count = enlist(scratch, n, n * 133, next.count, to);
+    Grown {
+        count: count,
+        trail: trail,
+    }
 }
 
 // The four neighbours take what the cell gives.
-fn spread(plan: &[u8], scratch: &mut [u16], p: Problem, cell: usize, next: usize) -> usize
+fn spread(plan: &[u8], scratch: &mut [u16], p: Problem, cell: usize, next: Grown) -> Grown
     requires { ⌜ SpreadAsks p (now plan) cell next (now scratch) ⌝ }
-    ensures { λ r. ⌜ Spread (rulesFor p (now (plan .entry))) (length (now (plan .entry))) cell (now (scratch .entry)) (now (scratch .exit)) r ⌝ }
+    ensures { λ r. ⌜ Spread (rulesFor p (now (plan .entry))) (length (now (plan .entry))) cell (next .trail) (now (scratch .entry)) (now (scratch .exit)) r ⌝ }
 {
     let n = plan.len();
     let near = neighbours_of(plan, p.width, p.height, cell);
@@ -49,13 +74,22 @@ fn spread(plan: &[u8], scratch: &mut [u16], p: Problem, cell: usize, next: usize
     offer(scratch, n, cell, near.down, vertical, c)
 }
 
-// The neighbours of the active cells take what these give. The count of the next list.
-pub fn spread_all(plan: &[u8], scratch: &mut [u16], p: Problem, active: usize) -> usize
-    requires { ⌜ SpreadAllAsks p (now plan) active (now scratch) ⌝ }
-    ensures { λ r. ⌜ SpreadAll (rulesFor p (now (plan .entry))) (length (now (plan .entry))) active (now (scratch .entry)) (now (scratch .exit)) r ⌝ }
+// The neighbours of the active cells take what these give.
+pub fn spread_all(
+    plan: &[u8],
+    scratch: &mut [u16],
+    p: Problem,
+    active: usize,
+    trail: Trail,
+) -> Grown
+    requires { ⌜ SpreadAllAsks p (now plan) active trail (now scratch) ⌝ }
+    ensures { λ r. ⌜ SpreadAll (rulesFor p (now (plan .entry))) (length (now (plan .entry))) active trail (now (scratch .entry)) (now (scratch .exit)) r ⌝ }
 {
     let n = plan.len();
-    let mut next = 0;
+    let mut next = Grown {
+        count: 0,
+        trail: trail,
+    };
     let mut i = 0;
     while i < active {
         let cell = scratch[n * 132 + i] as usize;

@@ -11,7 +11,7 @@ use Rattle.rows.specs.Words.{KeptFrom}
 use Rattle.rows.specs.Rows.{viewOf}
 use Rattle.costs.specs.Costs.{rowWords}
 use Rattle.trail.specs.declared.Trail.{Trail}
-use Rattle.trail.specs.Trail.{slotOf, stampOf, placeOf, rowAt, cellAt, stampAt, Sound, Unstored, Stored, RowOf, History, Entry, Noted, RoomMade, Recorded, Restored}
+use Rattle.trail.specs.Trail.{slotOf, stampOf, placeOf, rowAt, cellAt, stampAt, Sound, Unstored, Stored, RowOf, History, Entry, Noted, RoomMade, Saved, Restored}
 use Rattle.trail.proofs.Slots.{slot-cases, slot-below, slot-apart, slot-next, slot-same, cell-alike, stamp-alike, unstored-alike, stored-alike, entry-alike}
 
 -- a full trail without its oldest entry
@@ -122,8 +122,8 @@ module _ (n cell : ℕ) (old : List ℕ) (t : Trail) (new : List ℕ) (r : Trail
   view-same : (c l : ℕ) → c < n → l < rowWords → viewOf new c l ≡ viewOf old c l
   view-same c l h k = kept (c * 64 + l) (inl (omega arith))
 
-  record-history : (u : ℕ) (Z : ℕ → Table) → u < t .stamp → History n old t u Z → History n new r u Z
-  record-history u Z below past s c lo hi h = go (past s c (omega arith) hi h) (equal c cell)
+  save-history : (u : ℕ) (Z : ℕ → Table) → u < t .stamp → History n old t u Z → History n new r u Z
+  save-history u Z below past s c lo hi h = go (past s c (omega arith) hi h) (equal c cell)
     where
       before : Unstored n old t s c (t .count) → Unstored n new r s c (t .count)
       before none = unstored-alike n old t new r (t .count) alike s c (t .count) (omega arith) none
@@ -148,9 +148,9 @@ module _ (n cell : ℕ) (old : List ℕ) (t : Trail) (new : List ℕ) (r : Trail
               let z : i ≡ t .count = omega arith in
               f (sym e ∙ (ap (cellAt n new r) z ∙ new-cell))
 
-  record-others : (c : ℕ) → Noted n old t c → Noted n new r c
-  record-others c (inl h) = inl (omega arith)
-  record-others c (inr x) = inr (entry-alike n old t new r (t .count) alike c x (x .below) (omega (arith, x .below)) stamp)
+  save-others : (c : ℕ) → Noted n old t c → Noted n new r c
+  save-others c (inl h) = inl (omega arith)
+  save-others c (inr x) = inr (entry-alike n old t new r (t .count) alike c x (x .below) (omega (arith, x .below)) stamp)
 
   entry-cases : (P : ℕ → Type 0) → ((i : ℕ) → i < t .count → P i) → P (t .count) → (i : ℕ) → i < r .count → P i
   entry-cases P f g i h = go (split (t .count) i)
@@ -161,8 +161,8 @@ module _ (n cell : ℕ) (old : List ℕ) (t : Trail) (new : List ℕ) (r : Trail
           let z : t .count ≡ i = omega arith in
           rw z at g
 
-  pub recorded : Recorded n cell old t new r
-  recorded =
+  pub saved : Saved n cell old t new r
+  saved =
       record {
         same = same;
         low = λ k h. kept k (inl (omega arith));
@@ -180,9 +180,9 @@ module _ (n cell : ℕ) (old : List ℕ) (t : Trail) (new : List ℕ) (r : Trail
             };
         room = room;
         stamp = stamp;
-        history = record-history;
+        history = save-history;
         noted = inr (record { at = t .count; below = omega arith; now = omega (arith, new-stamp); holds = new-cell });
-        others = record-others;
+        others = save-others;
       }
     where
       late : (i : ℕ) → i < r .count → stampAt n new r i ≤ r .stamp

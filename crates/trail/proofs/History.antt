@@ -46,7 +46,7 @@ module _ (n : ℕ) (old : List ℕ) (t : Trail) (new : List ℕ) (sound : Sound 
   noted-kept c (inl h) = inl h
   noted-kept c (inr x) = inr (entry-alike n old t new t (t .count) alike c x (x .below) (x .below) refl)
 
-  -- each row that a layer has not recorded stays
+  -- each row that a layer has not saved stays
   pub history-moved : (u : ℕ) (Z : ℕ → Table) → ((s c : ℕ) → t .low ≤ s → s ≤ u → c < n → SameView old new c ⊎ Above n old t s c) → History n old t u Z → History n new t u Z
   history-moved u Z same past s c lo hi h = go (same s c lo hi h) (past s c lo hi h)
     where
@@ -59,7 +59,7 @@ module _ (n : ℕ) (old : List ℕ) (t : Trail) (new : List ℕ) (sound : Sound 
   pub history-kept : (u : ℕ) (Z : ℕ → Table) → ((c : ℕ) → c < n → SameView old new c) → History n old t u Z → History n new t u Z
   history-kept u Z same = history-moved u Z (λ s c lo hi h. inl (same c h))
 
-  -- a row that is recorded may change
+  -- a row that is saved may change
   pub history-pushed : (u : ℕ) (Z : ℕ → Table) (cell : ℕ) → u < t .stamp → Noted n old t cell → ((c : ℕ) → c < n → (c ≡ cell → ⊥) → SameView old new c) → History n old t u Z → History n new t u Z
   history-pushed u Z cell below noted same = history-moved u Z (λ s c lo hi h. pick s c lo hi h (equal c cell) noted)
     where

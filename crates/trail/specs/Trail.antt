@@ -83,7 +83,7 @@ pub data RowOf (n : ℕ) (words : List ℕ) (t : Trail) (s c : ℕ) (row : ℕ �
 abbrev pub History : ℕ → List ℕ → Trail → ℕ → (ℕ → Table) → Type 0
 History n words t u Z = (s c : ℕ) → t .low ≤ s → s ≤ u → c < n → RowOf n words t s c (Z s c)
 
--- the layer being made has recorded the cell, or the trail was too short
+-- the layer being made has saved the cell, or the trail was too short
 pub record Entry (n : ℕ) (words : List ℕ) (t : Trail) (c : ℕ) : Type 0 where
   pub at : ℕ
   pub below : at < t .count
@@ -102,8 +102,8 @@ pub record RoomMade (n : ℕ) (words : List ℕ) (t r : Trail) : Type 0 where
   pub history : (u : ℕ) (Z : ℕ → Table) → History n words t u Z → History n words r u Z
   pub noted : (c : ℕ) → Noted n words t c → Noted n words r c
 
--- After `record`: the cell is recorded.
-pub record Recorded (n cell : ℕ) (old : List ℕ) (t : Trail) (new : List ℕ) (r : Trail) : Type 0 where
+-- After `save`: the cell is saved.
+pub record Saved (n cell : ℕ) (old : List ℕ) (t : Trail) (new : List ℕ) (r : Trail) : Type 0 where
   pub same : length new ≡ length old
   pub low : (k : ℕ) → k < n * 136 → getD new k 0 ≡ getD old k 0
   pub high : KeptFrom (n * 136 + t .room * 67) old new

@@ -6,7 +6,7 @@ ghost use Prim.Native.Nat.{_+_, _*_, _≤_, _<_};
 ghost use lib.ListN.{length, getD};
 ghost use Rattle.rows.specs.Words.{Filled};
 ghost use Rattle.costs.specs.Costs.{rowWords};
-ghost use Rattle.trail.specs.Trail.{noTrail, newTrail, stamped, slotOf, placeOf, stampOf, Sound, TrailAsks, RoomMade, Recorded, Restored, Rewound};
+ghost use Rattle.trail.specs.Trail.{noTrail, newTrail, stamped, slotOf, placeOf, stampOf, Sound, TrailAsks, RoomMade, Saved, Restored, Rewound};
 use costs::ROW;
 
 // `room` slots, of which `count` are in use, the oldest at `start`. Layers up to `low` cannot be undone. `stamp` is the layer that is being made.
@@ -113,10 +113,10 @@ fn make_room(scratch: &[u16], n: usize, trail: Trail) -> Trail
     }
 }
 
-// The cell's row is recorded, before the layer being made changes it.
-pub fn record(scratch: &mut [u16], n: usize, cell: usize, trail: Trail) -> Trail
+// The cell's row is saved, before the layer being made changes it.
+pub fn save(scratch: &mut [u16], n: usize, cell: usize, trail: Trail) -> Trail
     requires { ⌜ TrailAsks n (now scratch) trail × (cell < n) ⌝ }
-    ensures { λ r. ⌜ Recorded n cell (now (scratch .entry)) trail (now (scratch .exit)) r ⌝ }
+    ensures { λ r. ⌜ Saved n cell (now (scratch .entry)) trail (now (scratch .exit)) r ⌝ }
 {
     let stamp = trail.stamp;
     if trail.room == 0 {

@@ -1,10 +1,11 @@
 -- `table::pushes::offer` meets its contract: the laws of proofs/Offers, one for each way out.
 use Prim.Native.Nat.{_+_, _*_, _<_}
+use mathlib.Core.Path.{_∙_}
 use native.Mathlib.Omega.{arith}
 use borrow.Author.Needs.{needs}
 use borrow.Author.Tests.{not-true, not-false}
 use Rattle.lists.proofs.Lists.{listed-kept, listed-count}
-use Rattle.table.proofs.Offers.{offer-none, offer-quiet, offer-grew}
+use Rattle.table.proofs.Offers.{offer-none, offer-quiet, noted-listed-kept, offer-grew}
 use Rattle.table.proofs.pushes.offer.Statement.{statement}
 use Rattle.table.proofs.pushes.offer.Tie as tie
 
@@ -39,37 +40,54 @@ returns-2 c =
     let a = s .args in
     offer-quiet (a .n) (a .cell) (a .to) (a .costs .wire) (a .costs .limit) (a .next) _ (s .pre .0) (omega arith) (c .before .grows .ensures .none (not-true _ (c .if2 .taken)))
 
+note-requires : tie.Need-note-requires
+note-requires c κs =
+    let s = c .before .before .before .before .before .before in
+    let a = s .pre .0 in
+    (record { sound = a .sound; few = a .few; room = a .room }, omega (arith, c .before .before .before .before .if1 .left, a .toIn))
+
 mul-push-row : tie.Need-mul-push-row
 mul-push-row c = search needs
 
 push-row-requires : tie.Need-push-row-requires
 push-row-requires c κs =
-    let a = c .before .before .before .before .before .before .pre in
-    (a .0 .wireFits, (a .1, (omega arith, omega (arith, a .0 .cellIn, a .0 .room))))
+    let n = c .before .before .before in
+    let a = n .before .before .before .before .before .before .before .pre in
+    (a .0 .wireFits, (a .1, (omega (arith, a .0 .cellIn, a .0 .toIn), omega (arith, a .0 .cellIn, a .0 .room, n .note .ensures .same))))
 
 mul-enlist : tie.Need-mul-enlist
 mul-enlist c = search needs
 
 enlist-requires : tie.Need-enlist-requires
 enlist-requires c κs =
-    let s = c .before .before .before .before .before .before .before .before .before .before in
-    let f = c .before .before .before .push-row .ensures in
-    let few = listed-count (s .pre .0 .listed) in
-    let inPlan : s .args .to < s .args .n = omega arith in (
-      listed-kept (s .pre .0 .listed) _ (λ k h. f .high (s .args .n * 134 + k) (omega arith)) (λ i h. f .high (s .args .n * 133 + i) (omega arith)),
-      (inPlan, (s .pre .0 .few, (omega arith, omega (arith, f .same, s .pre .0 .room)))),
+    let p = c .before .before .before in
+    let n = p .before .before .before .before in
+    let e = n .before .before .before .before .before in
+    let s = e .before .before in
+    let a = s .pre .0 in
+    let f = p .push-row .ensures in
+    let listed = noted-listed-kept (s .args .n) (s .args .cell) (s .args .to) (s .args .costs .wire) (s .args .costs .limit) (s .args .next) _ a _ _ (n .note .ensures) in
+    let few = listed-count listed in
+    let inPlan : s .args .to < s .args .n = omega (arith, e .if1 .left, a .toIn) in (
+      listed-kept listed _ (λ k h. f .high (s .args .n * 134 + k) (omega arith)) (λ i h. f .high (s .args .n * 133 + i) (omega arith)),
+      (inPlan, (a .few, (omega arith, omega (arith, f .same, n .note .ensures .same, a .room)))),
     )
 
 same-length-2 : tie.Need-same-length-2
-same-length-2 c = search needs
+same-length-2 c =
+    c .before .before .enlist .ensures .same
+    ∙ (c .before .before .before .before .before .before .push-row .ensures .same ∙ c .before .before .before .before .before .before .before .before .before .before .note .ensures .same)
 
 returns-3 : tie.Need-returns-3
 returns-3 c =
-    let s = c .before .before .before .before .before .before .before .before .before .before .before .before .before in
+    let p = c .before .before .before .before .before .before in
+    let n = p .before .before .before .before in
+    let g = n .before .before in
+    let e = g .before .before .before in
+    let s = e .before .before in
     let a = s .args in
-    let pushed = c .before .before .before .before .before .before in
-    let grown = pushed .before .before in
-    offer-grew (a .n) (a .cell) (a .to) (a .costs .wire) (a .costs .limit) (a .next) _ (s .pre .0) _ (omega arith) (pushed .push-row .ensures) _ _ (grown .before .grows .ensures .some (not-false _ (grown .if2 .left))) (c .before .before .enlist .ensures)
+    offer-grew (a .n) (a .cell) (a .to) (a .costs .wire) (a .costs .limit) (a .next) _ (s .pre .0) _ _ (n .note .ensures) _ (omega (arith, e .if1 .left, s .pre .0 .toIn)) (p .push-row .ensures) _ _
+    (g .before .grows .ensures .some (not-false _ (g .if2 .left))) (c .before .before .enlist .ensures)
 
 pub offer-spec : {M : Type 1} → statement M
 offer-spec =
@@ -83,6 +101,7 @@ offer-spec =
     grows-requires
     same-length
     returns-2
+    note-requires
     mul-push-row
     push-row-requires
     mul-enlist

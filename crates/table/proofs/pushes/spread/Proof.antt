@@ -19,7 +19,7 @@ offer-requires c κs =
     let s = c .before .before .before .before .before .before in
     offer-asks (s .args .p) (s .args .plan .now) (s .args .cell) (s .args .next) (s .args .scratch .now) (s .pre) _ _ _ _ _ (s .pre .ready .costs .vertical)
     (rw (c .before .before .before .neighbours-of .ensures) (ascending _ (s .pre .ready .sized) (s .args .cell) (omega (arith, cells-are _ _ (s .pre .ready), s .pre .cellIn)) .up-most))
-    (s .pre .ready .valid .vertical) (refl) (s .pre .listed)
+    (s .pre .ready .valid .vertical) (refl) (s .pre .listed) (s .pre .sound)
 
 offer-requires-2 : tie.Need-offer-requires-2
 unfolding planFor
@@ -27,7 +27,7 @@ offer-requires-2 c κs =
     let s = c .before .before .before .before .before .before .before .before .before .before in
     offer-asks (s .args .p) (s .args .plan .now) (s .args .cell) (s .args .next) (s .args .scratch .now) (s .pre) _ _ _ _ _ (s .pre .ready .costs .horizontal)
     (rw (c .before .before .before .before .before .before .before .neighbours-of .ensures) (ascending _ (s .pre .ready .sized) (s .args .cell) (omega (arith, cells-are _ _ (s .pre .ready), s .pre .cellIn)) .left-most))
-    (s .pre .ready .valid .horizontal) ((c .before .before .before .offer .ensures .raised .same)) (c .before .before .before .offer .ensures .raised .listed)
+    (s .pre .ready .valid .horizontal) ((c .before .before .before .offer .ensures .raised .same)) (c .before .before .before .offer .ensures .raised .listed) (c .before .before .before .offer .ensures .follows .sound)
 
 offer-requires-3 : tie.Need-offer-requires-3
 unfolding planFor
@@ -35,7 +35,7 @@ offer-requires-3 c κs =
     let s = c .before .before .before .before .before .before .before .before .before .before .before .before .before .before in
     offer-asks (s .args .p) (s .args .plan .now) (s .args .cell) (s .args .next) (s .args .scratch .now) (s .pre) _ _ _ _ _ (s .pre .ready .costs .horizontal)
     (rw (c .before .before .before .before .before .before .before .before .before .before .before .neighbours-of .ensures) (ascending _ (s .pre .ready .sized) (s .args .cell) (omega (arith, cells-are _ _ (s .pre .ready), s .pre .cellIn)) .right-most))
-    (s .pre .ready .valid .horizontal) ((c .before .before .before .offer2 .ensures .raised .same) ∙ (c .before .before .before .before .before .before .before .offer .ensures .raised .same)) (c .before .before .before .offer2 .ensures .raised .listed)
+    (s .pre .ready .valid .horizontal) ((c .before .before .before .offer2 .ensures .raised .same) ∙ (c .before .before .before .before .before .before .before .offer .ensures .raised .same)) (c .before .before .before .offer2 .ensures .raised .listed) (c .before .before .before .offer2 .ensures .follows .sound)
 
 offer-requires-4 : tie.Need-offer-requires-4
 unfolding planFor
@@ -43,7 +43,7 @@ offer-requires-4 c κs =
     let s = c .before .before .before .before .before .before .before .before .before .before .before .before .before .before .before .before .before .before in
     offer-asks (s .args .p) (s .args .plan .now) (s .args .cell) (s .args .next) (s .args .scratch .now) (s .pre) _ _ _ _ _ (s .pre .ready .costs .vertical)
     (rw (c .before .before .before .before .before .before .before .before .before .before .before .before .before .before .before .neighbours-of .ensures) (ascending _ (s .pre .ready .sized) (s .args .cell) (omega (arith, cells-are _ _ (s .pre .ready), s .pre .cellIn)) .down-most))
-    (s .pre .ready .valid .vertical) ((c .before .before .before .offer3 .ensures .raised .same) ∙ (c .before .before .before .before .before .before .before .offer2 .ensures .raised .same) ∙ (c .before .before .before .before .before .before .before .before .before .before .before .offer .ensures .raised .same)) (c .before .before .before .offer3 .ensures .raised .listed)
+    (s .pre .ready .valid .vertical) ((c .before .before .before .offer3 .ensures .raised .same) ∙ (c .before .before .before .before .before .before .before .offer2 .ensures .raised .same) ∙ (c .before .before .before .before .before .before .before .before .before .before .before .offer .ensures .raised .same)) (c .before .before .before .offer3 .ensures .raised .listed) (c .before .before .before .offer3 .ensures .follows .sound)
 
 same-length : tie.Need-same-length
 same-length c = (c .before .before .offer4 .ensures .raised .same) ∙ (c .before .before .before .before .before .before .offer3 .ensures .raised .same) ∙ (c .before .before .before .before .before .before .before .before .before .before .offer2 .ensures .raised .same) ∙ (c .before .before .before .before .before .before .before .before .before .before .before .before .before .before .offer .ensures .raised .same)

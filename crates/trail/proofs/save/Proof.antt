@@ -1,4 +1,4 @@
--- `trail::record`: without a slot nothing is kept; else the words of the free slot are written, and no others.
+-- `trail::save`: without a slot nothing is kept; else the words of the free slot are written, and no others.
 use Prim.Native.Nat.{ℕ, _+_, _*_, _/_, _%_, _≤_, _<_}
 use mathlib.Core.Path.{_≡_, refl, sym, _∙_}
 use mathlib.Core.Logic.{_⊎_, inl, inr}
@@ -10,16 +10,16 @@ use lib.Seq.{getD-set-same, getD-set-other}
 use Rattle.rows.specs.Words.{Filled}
 use Rattle.costs.specs.Costs.{rowWords}
 use Rattle.trail.specs.declared.Trail.{Trail}
-use Rattle.trail.specs.Trail.{placeOf, stampOf, TrailAsks, RoomMade, Recorded}
+use Rattle.trail.specs.Trail.{placeOf, stampOf, TrailAsks, RoomMade, Saved}
 use Rattle.trail.proofs.Slots.{place-in}
 use Rattle.trail.proofs.History.{sound-none}
-use Rattle.trail.proofs.Changes.{recorded}
-use Rattle.trail.proofs.record.Statement.{statement}
-use Rattle.trail.proofs.record.Tie as tie
+use Rattle.trail.proofs.Changes.{saved}
+use Rattle.trail.proofs.save.Statement.{statement}
+use Rattle.trail.proofs.save.Tie as tie
 
 -- no slots: nothing can be had back any more
-pub record-nothing : (n cell : ℕ) (words : List ℕ) (t : Trail) → t .room ≡ 0 → Recorded n cell words t words (record { room = 0; start = 0; count = 0; low = t .stamp; stamp = t .stamp })
-record-nothing n cell words t none =
+pub save-nothing : (n cell : ℕ) (words : List ℕ) (t : Trail) → t .room ≡ 0 → Saved n cell words t words (record { room = 0; start = 0; count = 0; low = t .stamp; stamp = t .stamp })
+save-nothing n cell words t none =
     record {
       same = refl;
       low = λ k h. refl;
@@ -68,10 +68,10 @@ module _ (n cell : ℕ) (old : List ℕ) (t k : Trail) (stamp : ℕ) (asks : Tra
   outside i (inl h) = other i (λ e. omega arith) (λ e. omega arith) (λ e. omega arith) ∙ f .low i h
   outside i (inr h) = other i (λ e. omega arith) (λ e. omega arith) (λ e. omega arith) ∙ f .high i (omega arith)
 
-  pub record-row : (r : Trail) → r .room ≡ k .room → r .start ≡ k .start → r .count ≡ k .count + 1 → r .low ≡ k .low → r .stamp ≡ stamp → Recorded n cell old t new r
-  record-row r a b c d e =
+  pub save-row : (r : Trail) → r .room ≡ k .room → r .start ≡ k .start → r .count ≡ k .count + 1 → r .low ≡ k .low → r .stamp ≡ stamp → Saved n cell old t new r
+  save-row r a b c d e =
       let x =
-      recorded n cell old k new r (made .sound) (made .free) a b c d (omega (arith, made .stamp)) cellIn (simp length-set (f .same)) (rw (← atIs) outside)
+      saved n cell old k new r (made .sound) (made .free) a b c d (omega (arith, made .stamp)) cellIn (simp length-set (f .same)) (rw (← atIs) outside)
       (rw (← atIs) (λ l h. other (at + l) (λ z. omega arith) (λ z. omega arith) (λ z. omega arith) ∙ f .done l h))
       (rw (← atIs) cell-word) (rw (← atIs) (stamp-words ∙ omega (arith, made .stamp))) in
       record {
@@ -87,7 +87,7 @@ module _ (n cell : ℕ) (old : List ℕ) (t k : Trail) (stamp : ℕ) (asks : Tra
       }
 
 returns : tie.Need-returns
-returns c = record-nothing _ _ _ _ (c .if1 .taken)
+returns c = save-nothing _ _ _ _ (c .if1 .taken)
 
 make-room-requires : tie.Need-make-room-requires
 make-room-requires c κs =
@@ -170,10 +170,10 @@ returns-2 : tie.Need-returns-2
 returns-2 c =
     let p = c .before .before .before .before .before in
     let s = p .before .before .before .before .before .before in
-    record-row _ _ _ _ _ _ (s .pre .0) (s .pre .1) (p .before .make-room .ensures) refl _ (p .place .ensures) _ (c .before .before .before .copy .ensures) _ refl refl refl refl refl
+    save-row _ _ _ _ _ _ (s .pre .0) (s .pre .1) (p .before .make-room .ensures) refl _ (p .place .ensures) _ (c .before .before .before .copy .ensures) _ refl refl refl refl refl
 
-pub record-spec : {M : Type 1} → statement M
-record-spec =
+pub save-spec : {M : Type 1} → statement M
+save-spec =
     tie.close
     (tie.spec
     returns

@@ -1,0 +1,78 @@
+-- The trail through a layer: nothing done, one thing after another, and a row saved and then raised.
+use Prim.Native.Nat.{ℕ, _+_, _*_, _≤_, _<_}
+use mathlib.Core.Path.{_≡_, refl, sym, _∙_}
+use mathlib.Core.Logic.{_⊎_, inl, inr}
+use mathlib.Core.List.{List}
+use native.Mathlib.Omega.{arith}
+use lib.ListN.{length, getD}
+use Rattle.plan.proofs.Truth.{equal}
+use Rattle.rows.specs.Words.{KeptFrom}
+use Rattle.lists.specs.Lists.{flagOf}
+use Rattle.trail.specs.declared.Trail.{Trail}
+use Rattle.trail.specs.Trail.{Sound, Noted, Saved}
+use Rattle.trail.proofs.History.{SameView, sound-kept, noted-kept, history-pushed}
+use Rattle.table.specs.Layer.{FlagsNoted, Follows, NotedRow}
+
+pub follows-same : {n : ℕ} {t : Trail} {words : List ℕ} → Sound n words t → Follows n t words t words
+follows-same s =
+    record {
+      sound = s;
+      room = refl;
+      stamp = refl;
+      beyond = λ k h. refl;
+      noted = λ f. f;
+      history = λ f u Z below past. past;
+    }
+
+pub follows-more : {n : ℕ} {t r q : Trail} {a b d : List ℕ} → Follows n t a r b → Follows n r b q d → Follows n t a q d
+follows-more f g =
+    record {
+      sound = g .sound;
+      room = g .room ∙ f .room;
+      stamp = g .stamp ∙ f .stamp;
+      beyond = λ k h. g .beyond k (omega (arith, f .room)) ∙ f .beyond k h;
+      noted = λ h. g .noted (f .noted h);
+      history = λ h u Z below past. g .history (f .noted h) u Z (omega (arith, f .stamp)) (f .history h u Z below past);
+    }
+
+-- the cell was listed
+pub noted-listed : {n cell : ℕ} {words : List ℕ} {t : Trail} → Sound n words t → cell < n → flagOf n words cell ≡ 1 → NotedRow n cell words t words t
+noted-listed s h e = record { same = refl; low = λ k h. refl; follows = follows-same s; noted = λ f. f _ h e }
+
+-- it was not
+pub noted-saved : {n cell : ℕ} {old new : List ℕ} {t r : Trail} → Saved n cell old t new r → NotedRow n cell old t new r
+noted-saved {n} {cell} {old} {new} {t} {r} x =
+    record {
+      same = x .same;
+      low = x .low;
+      follows =
+          record {
+            sound = x .sound;
+            room = x .room;
+            stamp = x .stamp;
+            beyond = x .high;
+            noted = λ f c h e. x .others c (f c h (sym (x .low (n * 134 + c) (omega arith)) ∙ e));
+            history = λ f u Z below past. x .history u Z below past;
+          };
+      noted = λ f. x .noted;
+    }
+
+-- then its row and its flag change
+module _ (n cell : ℕ) (old : List ℕ) (t : Trail) (mid : List ℕ) (r : Trail) (note : NotedRow n cell old t mid r) (new : List ℕ) (high : KeptFrom (n * 136) mid new) (rows : (c : ℕ) → c < n → (c ≡ cell → ⊥) → SameView mid new c) (flags : (c : ℕ) → c < n → (c ≡ cell → ⊥) → flagOf n new c ≡ flagOf n mid c) where
+  pub follows-grew : Follows n t old r new
+  follows-grew =
+      record {
+        sound = sound-kept n mid r new (note .follows .sound) (λ k lo hi. high k lo);
+        room = note .follows .room;
+        stamp = note .follows .stamp;
+        beyond = λ k h. high k (omega arith) ∙ note .follows .beyond k h;
+        noted = λ f c h e. noted-kept n mid r new (note .follows .sound) (λ k lo hi. high k lo) c (pick f c h e (equal c cell));
+        history =
+            λ f u Z below past.
+            history-pushed n mid r new (note .follows .sound) (λ k lo hi. high k lo) u Z cell (omega (arith, note .follows .stamp)) (note .noted f) rows
+            (note .follows .history f u Z below past);
+      }
+    where
+      pick : FlagsNoted n old t → (c : ℕ) → c < n → flagOf n new c ≡ 1 → (c ≡ cell) ⊎ (c ≡ cell → ⊥) → Noted n mid r c
+      pick f c h e (inl q) = rw q (note .noted f)
+      pick f c h e (inr q) = note .follows .noted f c h (sym (flags c h q) ∙ e)
