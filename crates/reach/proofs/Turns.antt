@@ -87,8 +87,8 @@ module _ (R : Rules) (n k : ℕ) (old : List ℕ) (count : ℕ) where
             same = l .same ∙ f .same;
             labels = λ i lo hi. l .labels i lo hi ∙ f .labels i lo hi;
             rest = λ i lo. l .rest i (omega arith) ∙ f .rest i lo;
-            table = rw (add-one u) (reaches-layer R m k law u (f .table) (λ c d. l .table c d ∙ exact-layer c d));
-            list = l .active;
+            table = rw (add-one u) (reaches-layer R m k law u (f .table) (λ c d. l .table (f .list) c (λ x t. tt) d ∙ exact-layer c d));
+            list = l .active (f .list);
             ordered = f .ordered;
             atEnd = f .atEnd;
             endCount = f .endCount;
@@ -100,9 +100,9 @@ module _ (R : Rules) (n k : ℕ) (old : List ℕ) (count : ℕ) where
       -- with no active cell a layer changes nothing
       quiet : active ≡ 0 → (c l : ℕ) → budgetOf n words c l ≡ layer R (exactSeed R m k u) (R .bound 0) (budgetOf n words) c l
       quiet none c l =
-          pushes-layer R (seedOf n words) (R .bound 0) (budgetOf n words) (budgetOf n words) (λ c l. omega arith)
-          (layer-least R (seedOf n words) (R .bound 0) (budgetOf n words))
-          (λ i c l h. f .list .settled i (omega arith) (empty-flags (f .list .listed) none i (omega arith)) c l) c l
+          pushes-layer R (seedOf n words) (R .bound 0) (budgetOf n words) (budgetOf n words c l) c l (omega arith)
+          (layer-least R (seedOf n words) (R .bound 0) (budgetOf n words) c l)
+          (λ i h t. f .list .settled i (omega arith) tt (empty-flags (f .list .listed) none i (omega arith)) c l)
           ∙ exact-layer c l
 
       idle : (t : ℕ) → (at < end → t ≤ stepsOf n old (orderOf n old at)) → IdleUntil m k u t

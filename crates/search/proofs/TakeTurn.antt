@@ -32,9 +32,9 @@ module _ (R : Rules) (law : Lawful R) (n : ℕ) (cells : R .cellCount ≡ n) whe
   -- with no cell listed, the layer is the table itself
   quiet-next : (words : List ℕ) (k s at end count : ℕ) → Front R n words k s 0 at end count → Next R (labelsOf n words) k s (budgetOf n words) (budgetOf n words)
   quiet-next words k s at end count f c l =
-      pushes-layer R (seedOf n words) (R .bound 0) (budgetOf n words) (budgetOf n words) (λ x y. omega arith)
-      (λ x y. layer-least R (seedOf n words) (R .bound 0) (budgetOf n words) x y)
-      (λ m x y h. f .waiting .list .settled m (omega arith) (empty-flags (f .waiting .list .listed) refl m (omega arith)) x y) c l
+      pushes-layer R (seedOf n words) (R .bound 0) (budgetOf n words) (budgetOf n words c l) c l (omega arith)
+      (layer-least R (seedOf n words) (R .bound 0) (budgetOf n words) c l)
+      (λ m h t. f .waiting .list .settled m (omega arith) tt (empty-flags (f .waiting .list .listed) refl m (omega arith)) c l)
       ∙ layer-seeds R (seedOf n words) (seedAt R (labelsOf n words) k s) (R .bound 0) (budgetOf n words)
       (λ x h. front-seeds R law n cells words k s 0 at end count f x (omega arith)) c l
 

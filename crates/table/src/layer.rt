@@ -3,7 +3,7 @@ ghost use Prim.Native.Nat.{_+_, _*_, _<_};
 ghost use lib.ListN.{length};
 ghost use Rattle.lists.specs.Lists.{Listed};
 ghost use Rattle.table.specs.Problem.{Ready, Room, rulesFor};
-ghost use Rattle.table.specs.Layer.{Active, ArrivalsFilled, Layered};
+ghost use Rattle.table.specs.Layer.{ArrivalsFilled, Layered};
 use crate::arrival::fill_arrival;
 use crate::problem::Problem;
 use crate::pushes::spread_all;
@@ -24,9 +24,9 @@ fn fill_arrivals(plan: &[u8], scratch: &mut [u16], p: Problem, active: usize)
     }
 }
 
-// One layer. The new active list has every cell whose row grew; its count.
+// One layer. The new active list has every cell whose row grew; its count. Where a cell is missing on the active list, only the rows of its neighbours may stay too low.
 pub fn next_layer(plan: &[u8], scratch: &mut [u16], p: Problem, active: usize) -> usize
-    requires { ⌜ Ready p (now plan) × (Room (length (now plan)) (now scratch) × Active (rulesFor p (now plan)) (length (now plan)) (now scratch) active) ⌝ }
+    requires { ⌜ Ready p (now plan) × (Room (length (now plan)) (now scratch) × Listed (length (now plan)) (now scratch) (length (now plan) * 132) active) ⌝ }
     ensures { λ r. ⌜ Layered (rulesFor p (now (plan .entry))) (length (now (plan .entry))) (now (scratch .entry)) (now (scratch .exit)) r ⌝ }
 {
     let n = plan.len();
