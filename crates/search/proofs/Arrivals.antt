@@ -11,7 +11,7 @@ use Rattle.rules.specs.Rules.{Rules}
 use Rattle.plan.proofs.Truth.{equal}
 use Rattle.budget.specs.Table.{Table, arrival}
 use Rattle.budget.proofs.Active.{arrival-row, arrival-none, given-row, given-none}
-use Rattle.lists.specs.Lists.{flagOf}
+use Rattle.lists.specs.Lists.{flagOf, Listed}
 use Rattle.lists.proofs.Lists.{listed-none}
 use Rattle.costs.specs.Costs.{rowWords}
 use Rattle.table.specs.Problem.{budgetOf, seedOf}
@@ -25,7 +25,7 @@ module _ (R : Rules) (n : ℕ) (old new : List ℕ) where
   same-seed c e = rw e
 
   -- a cell with the same row and seed stays settled in the same table
-  pub settled-kept : (c : ℕ) → ((k : ℕ) → k < n * 64 → getD new k 0 ≡ getD old k 0) → seedOf n new c ≡ seedOf n old c → Settled R n old c → Settled R n new c
+  settled-kept : (c : ℕ) → ((k : ℕ) → k < n * 64 → getD new k 0 ≡ getD old k 0) → seedOf n new c ≡ seedOf n old c → Settled R n old c → Settled R n new c
   settled-kept c kept seed settled m l =
       let same = budget-kept n old new (λ k lo hi. kept k hi) in
       omega (
@@ -36,19 +36,28 @@ module _ (R : Rules) (n : ℕ) (old new : List ℕ) where
         same m l,
       )
 
+  -- with the same table the list stays right in Q, if each cell of Q that is not listed was settled and has its seed as before
+  pub active-kept : {P Q : ℕ → Bool} {before after : ℕ} → ActiveIn R n P old before → Listed n new (n * 132) after → ((k : ℕ) → k < n * 64 → getD new k 0 ≡ getD old k 0) → ((c : ℕ) → c < n → T (Q c) → flagOf n new c ≡ 0 → T (P c) × ((flagOf n old c ≡ 0) × (seedOf n new c ≡ seedOf n old c))) → ActiveIn R n Q new after
+  active-kept a listed kept was =
+      record {
+        listed = listed;
+        settled = λ c h t z. let w = was c h t z in settled-kept c kept (w .1 .1) (a .settled c h (w .0) (w .1 .0));
+      }
+
   pub active-planted : {P : ℕ → Bool} (cell before after : ℕ) → ActiveIn R n P old before → Planted n cell old new after → ActiveIn R n P new after
-  active-planted {P} cell before after a p = record { listed = p .listed; settled = λ c h t z. go c h t z (equal c cell) }
+  active-planted cell before after a p =
+      active-kept a (p .listed) (λ k q. p .low k (omega arith)) (λ c h t z. (t, go c h z (equal c cell)))
     where
-      go : (c : ℕ) → c < n → T (P c) → flagOf n new c ≡ 0 → (c ≡ cell) ⊎ (c ≡ cell → ⊥) → Settled R n new c
-      go c h t z (inl e) = absurd (let w : flagOf n new c ≡ 1 = rw e (p .nowFlagged) in omega arith)
-      go c h t z (inr e) = settled-kept c (λ k q. p .low k (omega arith)) (same-seed c (p .otherSeeds c h e)) (a .settled c h t (sym (p .others c h e) ∙ z))
+      go : (c : ℕ) → c < n → flagOf n new c ≡ 0 → (c ≡ cell) ⊎ (c ≡ cell → ⊥) → (flagOf n old c ≡ 0) × (seedOf n new c ≡ seedOf n old c)
+      go c h z (inl e) = absurd (let w : flagOf n new c ≡ 1 = rw e (p .nowFlagged) in omega arith)
+      go c h z (inr e) = (sym (p .others c h e) ∙ z, same-seed c (p .otherSeeds c h e))
 
   pub active-arrived : {P : ℕ → Bool} (from to steps before after : ℕ) → ActiveIn R n P old before → Arrived n from to steps old new after → ActiveIn R n P new after
-  active-arrived {P} from to steps before after a r = record { listed = r .listed; settled = go }
+  active-arrived from to steps before after a r =
+      active-kept a (r .listed) (λ k q. r .low k (omega arith)) (λ c h t z. (t, go c h z))
     where
-      go : (c : ℕ) → c < n → T (P c) → flagOf n new c ≡ 0 → Settled R n new c
-      go c h t z =
-          settled-kept c (λ k q. r .low k (omega arith)) (same-seed c (r .otherSeeds c h none)) (a .settled c h t (sym (r .otherFlags c h none) ∙ z))
+      go : (c : ℕ) → c < n → flagOf n new c ≡ 0 → (flagOf n old c ≡ 0) × (seedOf n new c ≡ seedOf n old c)
+      go c h z = (sym (r .otherFlags c h none) ∙ z, same-seed c (r .otherSeeds c h none))
         where
           none : (i : ℕ) → from ≤ i → i < to → orderOf n old i ≡ c → ⊥
           none i lo hi e = let w : flagOf n new c ≡ 1 = rw e at (r .flags i lo hi) in omega arith
