@@ -5,13 +5,13 @@ use mathlib.Core.Bool.{Bool, false, _&&_}
 use mathlib.Core.Logic.{_⊎_, inl, inr}
 use native.Mathlib.Omega.{arith}
 use borrow.Author.Tests.{lt-leb}
-use lib.Dec.{leb}
+use lib.Dec.{T, leb}
 use Rattle.timing.specs.Formulas.{wireDelay}
 use Rattle.rules.specs.Rules.{Rules, noGate}
 use Rattle.rules.specs.Legal.{mayStand}
 use Rattle.plan.proofs.Truth.{split}
 use Rattle.budget.specs.Table.{Table, only, maxBelow, loadAt, loadOf, bufferCost, closeCost, viaBuffer, arrival, given, layer}
-use Rattle.budget.proofs.Max.{only-most, only-false, only-bound}
+use Rattle.budget.proofs.Max.{only-most, only-true, only-false, only-bound}
 
 -- the maximum is at least each candidate, and at most what bounds them all
 
@@ -45,12 +45,19 @@ module _ (R : Rules) (seed : ℕ → Bool) (bound : ℕ) (A : Table) where
   unfolding layer
   layer-least c l = omega arith
 
-  -- Proof: B has all that any cell gives, and A; so it is at least their maximum, the layer; and it is at most the layer. Qed.
-  pub pushes-layer : (B : Table) → ((c l : ℕ) → A c l ≤ B c l) → ((c l : ℕ) → B c l ≤ layer R seed bound A c l) → ((n c l : ℕ) → n < R .cellCount → given R (arrival R seed bound A) n c l ≤ B c l) → (c l : ℕ) → B c l ≡ layer R seed bound A c l
+  -- a cell gives only to those that are linked to it
+  given-linked : (x n c l : ℕ) → (T (R .linked c n) → given R (arrival R seed bound A) n c l ≤ x) → given R (arrival R seed bound A) n c l ≤ x
+  unfolding given
+  given-linked x n c l h =
+      let b = arrival R seed bound A n (loadAt R c n l) - wireDelay (R .wire c n) l in
+      only-bound (R .linked c n) b x (λ t. omega (arith, h t, only-true (R .linked c n) b t))
+
+  -- Proof: x is at least all that any cell gives to c, and what c has; so it is at least their maximum, the layer; and it is at most the layer. Qed.
+  pub pushes-layer : (x c l : ℕ) → A c l ≤ x → x ≤ layer R seed bound A c l → ((n : ℕ) → n < R .cellCount → T (R .linked c n) → given R (arrival R seed bound A) n c l ≤ x) → x ≡ layer R seed bound A c l
   unfolding layer
-  pushes-layer B least most all c l =
-      let q : maxBelow (R .cellCount) (λ n. given R (arrival R seed bound A) n c l) ≤ B c l = max-most (R .cellCount) (λ n. given R (arrival R seed bound A) n c l) (B c l) (λ n h. all n c l h) in
-      omega (arith, least c l, most c l)
+  pushes-layer x c l least most all =
+      let q : maxBelow (R .cellCount) (λ n. given R (arrival R seed bound A) n c l) ≤ x = max-most (R .cellCount) (λ n. given R (arrival R seed bound A) n c l) x (λ n h. given-linked x n c l (all n h)) in
+      omega arith
 
 -- An arrival row depends on the cell's own row and seed alone.
 pub arrival-row : (R : Rules) (seed seed′ : ℕ → Bool) (bound : ℕ) (A B : Table) (n : ℕ) → ((l : ℕ) → B n l ≡ A n l) → seed′ n ≡ seed n → (l : ℕ) → arrival R seed′ bound B n l ≡ arrival R seed bound A n l

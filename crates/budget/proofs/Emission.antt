@@ -14,7 +14,7 @@ use Rattle.rules.specs.Ranking.{codeSevens, written, precedes}
 use Rattle.plan.proofs.Truth.{both, snd, parts, equal}
 use Rattle.rules.proofs.Order.{Earlier, earlier-view}
 use Rattle.rules.proofs.View.{ending-view}
-use Rattle.budget.specs.Table.{Table, States, Represents, RepresentsRow, loadAt, delayAt, bufferCost, loadOf, closeCost}
+use Rattle.budget.specs.Table.{Table, RepresentsRow, loadAt, delayAt, bufferCost, loadOf, closeCost}
 use Rattle.budget.specs.Done.{stage, NotAfter, Within, Done, Least, Labels, Labelled, Lawful}
 use Rattle.budget.specs.Emission.{exactSeed, Reaches, goesOn, afterLoad, afterDelay, afterRegisters, visit, Viable, Before, FirstViable, Candidate, FirstEnding}
 use Rattle.budget.proofs.Done.{sevens-none, done-more, done-own, done-counts, some-span, light}
@@ -75,9 +75,6 @@ module _ (R : Rules) (m : Labels) (k u : ℕ) (A : Table) (c l d n code : ℕ) w
           let s = start arrives in
           let t = lt→ltb _ _ time in
           simp (ne-eqb code noGate (omega arith), eq-eqb code registerCode q) (search both)
-
-pub row-of : {A : Table} {X : States} → Represents A X → (c : ℕ) → RepresentsRow A X c
-row-of rep c = record { sound = rep .sound c; complete = rep .complete c }
 
 -- an ending within the least figures has just these
 pub least-exact : {R : Rules} {k s c l d : ℕ} → Least R k s c l d → (vs : Route) → T (legalFrom R c 0 (stage l d) vs) → Within k s (codeSevens vs) (length vs) → (codeSevens vs ≡ suc k) × (length vs ≡ s)

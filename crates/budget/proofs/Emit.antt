@@ -14,7 +14,8 @@ use Rattle.budget.specs.Done.{Least, Labels, Labelled, Lawful}
 use Rattle.budget.specs.Emission.{Reaches, goesOn, afterLoad, afterDelay, afterRegisters, visit, Before, FirstViable, Candidate, FirstEnding, firstFrom, nextCode, nextCell, emit}
 use Rattle.budget.proofs.Done.{done-steps}
 use Rattle.budget.proofs.Visit.{after-fewer}
-use Rattle.budget.proofs.Emission.{row-of, least-exact, viable-goes-on, least-goes-on, first-goes-on, first-last, least-after, first-more}
+use Rattle.budget.proofs.Layer.{row-of}
+use Rattle.budget.proofs.Emission.{least-exact, viable-goes-on, least-goes-on, first-goes-on, first-last, least-after, first-more}
 use Rattle.budget.proofs.Best.{best-found}
 
 -- x is the first of `count` numbers from `from` that passes, or the number after them

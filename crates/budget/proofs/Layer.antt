@@ -1,5 +1,6 @@
--- One layer represents one step, over any set of states, any seeds and any closing bound.
+-- One layer represents one step, over any set of states, any seeds and any closing bound; and so by rows.
 use Prim.Native.Nat.{ℕ, suc, _+_, _-_, _≤_, _<_, max}
+use mathlib.Core.Path.{_≡_}
 use mathlib.Core.Bool.{Bool, _&&_}
 use mathlib.Core.Logic.{_⊎_, inl, inr}
 use native.Mathlib.Omega.{arith}
@@ -8,7 +9,7 @@ use Rattle.timing.specs.Formulas.{wireDelay}
 use Rattle.rules.specs.Rules.{Rules, noGate}
 use Rattle.rules.specs.Legal.{mayStand}
 use Rattle.plan.proofs.Truth.{both, fst, snd}
-use Rattle.budget.specs.Table.{Table, States, Represents, Step, stays, passes, drives, closes, only, maxBelow, loadAt, delayAt, bufferCost, loadOf, closeCost, viaBuffer, arrival, given, layer}
+use Rattle.budget.specs.Table.{Table, States, Represents, RepresentsRow, Step, stays, passes, drives, closes, only, maxBelow, loadAt, delayAt, bufferCost, loadOf, closeCost, viaBuffer, arrival, given, layer}
 use Rattle.budget.proofs.Max.{Above, max-cases, below-max, max-below, only-test, only-value, only-in}
 
 -- an uncut wire leads only to cells of the plan
@@ -124,3 +125,34 @@ layer-represents R seed bound A X inp rep =
       sound = layer-sound R seed bound A X rep;
       complete = layer-complete R seed bound A X rep inp;
     }
+
+-- a table, row by row
+
+pub row-of : {A : Table} {X : States} → Represents A X → (c : ℕ) → RepresentsRow A X c
+row-of rep c = record { sound = rep .sound c; complete = rep .complete c }
+
+pub all-rows : {A : Table} {X : States} → ((c : ℕ) → RepresentsRow A X c) → Represents A X
+all-rows rows = record { sound = λ c. rows c .sound; complete = λ c. rows c .complete }
+
+pub same-row : {A B : Table} {X : States} {c : ℕ} → ((l : ℕ) → B c l ≡ A c l) → RepresentsRow A X c → RepresentsRow B X c
+same-row e row =
+    record { sound = λ l d h. row .sound l d (omega (arith, e l)); complete = λ l d x. omega (arith, e l, row .complete l d x) }
+
+-- More seeds, and more states at c and at its neighbours: more steps at c.
+pub step-near : {R : Rules} {seed more : ℕ → Bool} {bound : ℕ} {X Y : States} (c : ℕ) → ((n : ℕ) → T (seed n) → T (more n)) → ((l d : ℕ) → X c l d → Y c l d) → ((n : ℕ) → T (R .linked c n) → (l d : ℕ) → X n l d → Y n l d) → (l d : ℕ) → Step R seed bound X c l d → Step R more bound Y c l d
+step-near c f own near l d (stays x) = stays (own l d x)
+step-near c f own near l d (passes n link may fits x) = passes n link may fits (near n link _ _ x)
+step-near c f own near l d (drives n i six link may fits light x) = drives n i six link may fits light (near n link _ _ x)
+step-near c f own near l d (closes n link s fits h) = closes n link (f n s) fits h
+
+-- The layer's row at c is right if the rows of c and of its neighbours are.
+-- Proof: A represents the states below it, so the layer represents their step; at c that is the step of X. Qed.
+pub layer-row : (R : Rules) (seed : ℕ → Bool) (bound : ℕ) (A : Table) (X : States) → InPlan R → (c : ℕ) → RepresentsRow A X c → ((n : ℕ) → T (R .linked c n) → RepresentsRow A X n) → RepresentsRow (layer R seed bound A) (Step R seed bound X) c
+layer-row R seed bound A X inp c own near =
+    record {
+      sound = λ l d h. step-near c (λ n s. s) (own .sound) (λ n link. near n link .sound) l d (below .sound c l d h);
+      complete = λ l d x. below .complete c l d (step-near c (λ n s. s) (own .complete) (λ n link. near n link .complete) l d x);
+    }
+  where
+    below : Represents (layer R seed bound A) (Step R seed bound (λ c l d. d < A c l))
+    below = layer-represents R seed bound A (λ c l d. d < A c l) inp (record { sound = λ c l d h. h; complete = λ c l d h. h })

@@ -1,6 +1,7 @@
 pub mod Max
 pub mod Layer
 pub mod Active
+pub mod Cone
 pub mod Sides
 pub mod Done
 pub mod Search

@@ -1,7 +1,7 @@
 -- The states that close their span at an exact seed: each can be done, and where no ending has fewer registers, each that can be done is one. Their tables, layer by layer.
 use Prim.Native.Nat.{ℕ, zero, suc, _+_, _-_, _≤_, _<_}
 use mathlib.Core.Path.{_≡_, refl, ap, _∙_, subst}
-use mathlib.Core.Bool.{Bool}
+use mathlib.Core.Bool.{Bool, true}
 use mathlib.Core.List.{[], _∷_}
 use mathlib.Core.Logic.{_⊎_, inl, inr}
 use native.Mathlib.Omega.{arith}
@@ -13,11 +13,12 @@ use Rattle.rules.specs.Ranking.{codeSevens}
 use Rattle.plan.proofs.Truth.{both, parts, eq→eqb, equal}
 use Rattle.rules.proofs.Figures.{ending-visits}
 use Rattle.rules.proofs.View.{ending-view}
-use Rattle.budget.specs.Table.{Table, States, Represents, Step, layer}
+use Rattle.budget.specs.Table.{Table, States, Represents, RepresentsRow, Step, layer}
 use Rattle.budget.specs.Done.{stage, NotAfter, Within, Done, Fresh, Seed, Labels, Labelled, Lawful}
 use Rattle.budget.specs.Search.{IdleUntil}
+use Rattle.budget.specs.Cone.{RepresentsIn, Shrinking}
 use Rattle.budget.specs.Emission.{exactSeed, Reaches, reachTable, afterLoad, afterDelay, visit}
-use Rattle.budget.proofs.Layer.{layer-represents}
+use Rattle.budget.proofs.Layer.{layer-represents, layer-row, step-near, row-of, all-rows, same-row}
 use Rattle.budget.proofs.Done.{sevens-none, done-more, done-own, done-counts, some-span, light, step-done}
 use Rattle.budget.proofs.Search.{same-table}
 use Rattle.budget.proofs.Visit.{Gate, gate, spansOf, spans-register, spans-other, sevens-cons, after-none, after-register, after-buffer, Onward, Final, Way, way, done-cons}
@@ -53,10 +54,7 @@ module _ (R : Rules) (m : Labels) where
 
 -- more seeds and more states: more steps
 pub step-more : {R : Rules} {seed more : ℕ → Bool} {bound : ℕ} {X Y : States} → ((n : ℕ) → T (seed n) → T (more n)) → ((c l d : ℕ) → X c l d → Y c l d) → (c l d : ℕ) → Step R seed bound X c l d → Step R more bound Y c l d
-step-more f g c l d (Step.stays x) = Step.stays (g c l d x)
-step-more f g c l d (Step.passes n link may fits x) = Step.passes n link may fits (g n _ _ x)
-step-more f g c l d (Step.drives n i six link may fits light x) = Step.drives n i six link may fits light (g n _ _ x)
-step-more f g c l d (Step.closes n link s fits h) = Step.closes n link (f n s) fits h
+step-more f g c l d x = step-near c f (g c) (λ n link. g n) l d x
 
 module _ (R : Rules) (law : Lawful R) {k₀ s₀ : ℕ} {m : Labels} (labels : Labelled R k₀ s₀ m) where
   exact-right : (k u n : ℕ) → T (exactSeed R m k u n) → Seed R k u n
@@ -203,26 +201,44 @@ module _ (R : Rules) (m : Labels) (k : ℕ) where
   table-reaches law zero = reaches-start (λ c l. refl)
   table-reaches law (suc u) = reaches-layer law u (table-reaches law u) (λ c l. refl)
 
-  -- After a layer that changes nothing the table stays right up to the next label.
-  module _ (law : Lawful R) (u : ℕ) (A : Table) (rep : Represents A (Reaches R m k u)) (quiet : (c l : ℕ) → A c l ≡ layer R (exactSeed R m k u) (R .bound 0) A c l) (t : ℕ) (idle : IdleUntil m k u t) where
-    ahead : (i : ℕ) → u + i ≤ t → Represents A (Reaches R m k (u + i))
-    ahead zero h = rw native.Mathlib.Nat.add-zero rep
-    ahead (suc i) h = rw native.Mathlib.Nat.add-suc (next (ahead i (omega arith)))
-      where
-        early : {s : ℕ} → (s ≤ u) ⊎ (t ≤ s) → s ≤ u + i → s ≤ u
-        early (inl w) g = w
-        early (inr w) g = absurd (omega arith)
+  -- The rows of a shrinking set of cells
+  module _ (law : Lawful R) {P : ℕ → ℕ → Bool} (shrinks : Shrinking R P) where
+    row-in : (seed : ℕ → Bool) (u : ℕ) {A B : Table} → RepresentsIn (P u) A (Reaches R m k u) → (c : ℕ) → T (P (suc u) c) → ((l : ℕ) → B c l ≡ layer R seed (R .bound 0) A c l) → RepresentsRow B (Step R seed (R .bound 0) (Reaches R m k u)) c
+    row-in seed u {A} rep c t next =
+        same-row next (layer-row R seed (R .bound 0) A (Reaches R m k u) (law .inPlan) c (rep c (shrinks .own u c t)) (λ x link. rep x (shrinks .near u c x t link)))
 
-        next : Represents A (Reaches R m k (u + i)) → Represents A (Reaches R m k (suc (u + i)))
-        next before =
-            let r = layer-represents R (exactSeed R m k u) (R .bound 0) A (Reaches R m k (u + i)) (law .inPlan) before in
-            same-table (Reaches R m k (suc (u + i))) quiet
-            (record {
-              sound = λ c l d y. step-more (λ n. exact-later R m k u (u + i) n (λ a b g. omega arith)) (λ c l d x. x) c l d (r .sound c l d y);
-              complete = λ c l d y. r .complete c l d (step-more (λ n. exact-later R m k (u + i) u n (λ a b g. early (idle n a b) g)) (λ c l d x. x) c l d y);
-            })
+    -- a layer is right in the next set, if it is one wherever all neighbours are in the set
+    pub layer-in : (u : ℕ) {A B : Table} → RepresentsIn (P u) A (Reaches R m k u) → ((c : ℕ) → ((x : ℕ) → T (R .linked c x) → T (P u x)) → (l : ℕ) → B c l ≡ layer R (exactSeed R m k u) (R .bound 0) A c l) → RepresentsIn (P (suc u)) B (Reaches R m k (suc u))
+    layer-in u rep next c t = row-in (exactSeed R m k u) u rep c t (next c (λ x link. shrinks .near u c x t link))
 
-    pub reaches-until : (v : ℕ) → u ≤ v → v ≤ t → Represents A (Reaches R m k v)
-    reaches-until v lo hi =
-        let e : u + (v - u) ≡ v = omega arith in
-        subst (λ (q : ℕ). Represents A (Reaches R m k q)) e (ahead (v - u) (omega arith))
+    -- After a layer that changes nothing there the table stays right up to the next label.
+    module _ (u : ℕ) (A : Table) (rep : RepresentsIn (P u) A (Reaches R m k u)) (quiet : (c : ℕ) → ((x : ℕ) → T (R .linked c x) → T (P u x)) → (l : ℕ) → A c l ≡ layer R (exactSeed R m k u) (R .bound 0) A c l) (t : ℕ) (idle : IdleUntil m k u t) where
+      fewer : (i c : ℕ) → T (P (u + i) c) → T (P u c)
+      fewer zero c h = rw native.Mathlib.Nat.add-zero at h
+      fewer (suc i) c h = fewer i c (shrinks .own (u + i) c (rw native.Mathlib.Nat.add-suc at h))
+
+      ahead : (i : ℕ) → u + i ≤ t → RepresentsIn (P (u + i)) A (Reaches R m k (u + i))
+      ahead zero h = rw native.Mathlib.Nat.add-zero rep
+      ahead (suc i) h = rw native.Mathlib.Nat.add-suc (next (ahead i (omega arith)))
+        where
+          early : {s : ℕ} → (s ≤ u) ⊎ (t ≤ s) → s ≤ u + i → s ≤ u
+          early (inl w) g = w
+          early (inr w) g = absurd (omega arith)
+
+          next : RepresentsIn (P (u + i)) A (Reaches R m k (u + i)) → RepresentsIn (P (suc (u + i))) A (Reaches R m k (suc (u + i)))
+          next before c g =
+              let r = row-in (exactSeed R m k u) (u + i) {B = A} before c g (quiet c (λ x link. fewer i x (shrinks .near (u + i) c x g link))) in
+              record {
+                sound = λ l d y. step-more (λ n. exact-later R m k u (u + i) n (λ a b g. omega arith)) (λ c l d x. x) c l d (r .sound l d y);
+                complete = λ l d y. r .complete l d (step-more (λ n. exact-later R m k (u + i) u n (λ a b g. early (idle n a b) g)) (λ c l d x. x) c l d y);
+              }
+
+      pub until-in : (v : ℕ) → u ≤ v → v ≤ t → RepresentsIn (P v) A (Reaches R m k v)
+      until-in v lo hi =
+          let e : u + (v - u) ≡ v = omega arith in
+          subst (λ (q : ℕ). RepresentsIn (P q) A (Reaches R m k q)) e (ahead (v - u) (omega arith))
+
+  -- and so of all cells
+  pub reaches-until : Lawful R → (u : ℕ) (A : Table) → Represents A (Reaches R m k u) → ((c l : ℕ) → A c l ≡ layer R (exactSeed R m k u) (R .bound 0) A c l) → (t : ℕ) → IdleUntil m k u t → (v : ℕ) → u ≤ v → v ≤ t → Represents A (Reaches R m k v)
+  reaches-until law u A rep quiet t idle v lo hi =
+      all-rows (λ c. until-in law {P = λ u c. true} (record { own = λ u c h. h; near = λ u c x h link. tt }) u A (λ c h. row-of rep c) (λ c near l. quiet c l) t idle v lo hi c tt)

@@ -3,3 +3,4 @@ pub mod Division
 pub mod Check
 pub mod Joined
 pub mod Sides
+pub mod Apart

@@ -1,3 +1,4 @@
 pub mod Plan
 pub mod Check
 pub mod Joined
+pub mod Apart

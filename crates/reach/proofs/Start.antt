@@ -9,7 +9,7 @@ use Rattle.rules.specs.Rules.{Rules}
 use Rattle.plan.proofs.Truth.{split, equal}
 use Rattle.budget.specs.Done.{Labels}
 use Rattle.budget.specs.Emission.{exactSeed}
-use Rattle.budget.proofs.Emission.{row-of}
+use Rattle.budget.proofs.Layer.{row-of}
 use Rattle.budget.proofs.Reaches.{source-seed, seed-at-source, exact-view, reaches-start}
 use Rattle.lists.specs.Lists.{Place}
 use Rattle.rows.specs.Words.{Kept}

@@ -12,12 +12,11 @@ use Rattle.budget.specs.Table.{layer}
 use Rattle.budget.specs.Done.{NotAfter, Labels, Lawful}
 use Rattle.budget.specs.Search.{IdleUntil}
 use Rattle.budget.specs.Emission.{exactSeed, Reaches}
-use Rattle.budget.proofs.Active.{layer-least, pushes-layer}
 use Rattle.budget.proofs.Search.{same-table}
 use Rattle.budget.proofs.Reaches.{exact-view, exact-test, exact-later, reaches-layer, reaches-until}
-use Rattle.lists.proofs.Lists.{empty-flags}
 use Rattle.table.specs.Problem.{budgetOf, seedOf}
 use Rattle.table.specs.Layer.{Layered}
+use Rattle.table.proofs.Quiet.{quiet-layer}
 use Rattle.table.proofs.Views.{budget-kept, seeds-kept}
 use Rattle.labels.specs.Labels.{registersOf, stepsOf, labelsOf, orderOf, ArrivedAll}
 use Rattle.labels.proofs.Labels.{known-below}
@@ -87,8 +86,8 @@ module _ (R : Rules) (n k : ℕ) (old : List ℕ) (count : ℕ) where
             same = l .same ∙ f .same;
             labels = λ i lo hi. l .labels i lo hi ∙ f .labels i lo hi;
             rest = λ i lo. l .rest i (omega arith) ∙ f .rest i lo;
-            table = rw (add-one u) (reaches-layer R m k law u (f .table) (λ c d. l .table c d ∙ exact-layer c d));
-            list = l .active;
+            table = rw (add-one u) (reaches-layer R m k law u (f .table) (λ c d. l .table (f .list) c (λ x t. tt) d ∙ exact-layer c d));
+            list = l .active (f .list);
             ordered = f .ordered;
             atEnd = f .atEnd;
             endCount = f .endCount;
@@ -100,10 +99,7 @@ module _ (R : Rules) (n k : ℕ) (old : List ℕ) (count : ℕ) where
       -- with no active cell a layer changes nothing
       quiet : active ≡ 0 → (c l : ℕ) → budgetOf n words c l ≡ layer R (exactSeed R m k u) (R .bound 0) (budgetOf n words) c l
       quiet none c l =
-          pushes-layer R (seedOf n words) (R .bound 0) (budgetOf n words) (budgetOf n words) (λ c l. omega arith)
-          (layer-least R (seedOf n words) (R .bound 0) (budgetOf n words))
-          (λ i c l h. f .list .settled i (omega arith) (empty-flags (f .list .listed) none i (omega arith)) c l) c l
-          ∙ exact-layer c l
+          quiet-layer R n words active cells (f .list) none c (λ x t. tt) l ∙ exact-layer c l
 
       idle : (t : ℕ) → (at < end → t ≤ stepsOf n old (orderOf n old at)) → IdleUntil m k u t
       idle t first c known e = go (f .complete c (stepsOf n old c) inPlan (exact-own R m k (stepsOf n old c) c known e (omega arith)))

@@ -1,20 +1,21 @@
 -- New seeds are listed, so the active list stays right.
 use Prim.Native.Nat.{ℕ, _+_, _*_, _≤_, _<_}
 use mathlib.Core.Path.{_≡_, sym, _∙_}
-use mathlib.Core.Bool.{false}
+use mathlib.Core.Bool.{Bool, false}
 use mathlib.Core.Logic.{_⊎_, inl, inr}
 use mathlib.Core.List.{List}
 use native.Mathlib.Omega.{arith}
+use lib.Dec.{T}
 use lib.ListN.{getD}
 use Rattle.rules.specs.Rules.{Rules}
 use Rattle.plan.proofs.Truth.{equal}
 use Rattle.budget.specs.Table.{Table, arrival}
 use Rattle.budget.proofs.Active.{arrival-row, arrival-none, given-row, given-none}
-use Rattle.lists.specs.Lists.{flagOf}
+use Rattle.lists.specs.Lists.{flagOf, Listed}
 use Rattle.lists.proofs.Lists.{listed-none}
 use Rattle.costs.specs.Costs.{rowWords}
 use Rattle.table.specs.Problem.{budgetOf, seedOf}
-use Rattle.table.specs.Layer.{Settled, Active}
+use Rattle.table.specs.Layer.{Settled, ActiveIn}
 use Rattle.table.proofs.Views.{inside, budget-at, budget-outside, budget-kept}
 use Rattle.labels.specs.Labels.{orderOf, Planted, Arrived}
 
@@ -24,7 +25,7 @@ module _ (R : Rules) (n : ℕ) (old new : List ℕ) where
   same-seed c e = rw e
 
   -- a cell with the same row and seed stays settled in the same table
-  pub settled-kept : (c : ℕ) → ((k : ℕ) → k < n * 64 → getD new k 0 ≡ getD old k 0) → seedOf n new c ≡ seedOf n old c → Settled R n old c → Settled R n new c
+  settled-kept : (c : ℕ) → ((k : ℕ) → k < n * 64 → getD new k 0 ≡ getD old k 0) → seedOf n new c ≡ seedOf n old c → Settled R n old c → Settled R n new c
   settled-kept c kept seed settled m l =
       let same = budget-kept n old new (λ k lo hi. kept k hi) in
       omega (
@@ -35,19 +36,28 @@ module _ (R : Rules) (n : ℕ) (old new : List ℕ) where
         same m l,
       )
 
-  pub active-planted : (cell before after : ℕ) → Active R n old before → Planted n cell old new after → Active R n new after
-  active-planted cell before after a p = record { listed = p .listed; settled = λ c h z. go c h z (equal c cell) }
-    where
-      go : (c : ℕ) → c < n → flagOf n new c ≡ 0 → (c ≡ cell) ⊎ (c ≡ cell → ⊥) → Settled R n new c
-      go c h z (inl e) = absurd (let w : flagOf n new c ≡ 1 = rw e (p .nowFlagged) in omega arith)
-      go c h z (inr e) = settled-kept c (λ k q. p .low k (omega arith)) (same-seed c (p .otherSeeds c h e)) (a .settled c h (sym (p .others c h e) ∙ z))
+  -- with the same table the list stays right in Q, if each cell of Q that is not listed was settled and has its seed as before
+  pub active-kept : {P Q : ℕ → Bool} {before after : ℕ} → ActiveIn R n P old before → Listed n new (n * 132) after → ((k : ℕ) → k < n * 64 → getD new k 0 ≡ getD old k 0) → ((c : ℕ) → c < n → T (Q c) → flagOf n new c ≡ 0 → T (P c) × ((flagOf n old c ≡ 0) × (seedOf n new c ≡ seedOf n old c))) → ActiveIn R n Q new after
+  active-kept a listed kept was =
+      record {
+        listed = listed;
+        settled = λ c h t z. let w = was c h t z in settled-kept c kept (w .1 .1) (a .settled c h (w .0) (w .1 .0));
+      }
 
-  pub active-arrived : (from to steps before after : ℕ) → Active R n old before → Arrived n from to steps old new after → Active R n new after
-  active-arrived from to steps before after a r = record { listed = r .listed; settled = go }
+  pub active-planted : {P : ℕ → Bool} (cell before after : ℕ) → ActiveIn R n P old before → Planted n cell old new after → ActiveIn R n P new after
+  active-planted cell before after a p =
+      active-kept a (p .listed) (λ k q. p .low k (omega arith)) (λ c h t z. (t, go c h z (equal c cell)))
     where
-      go : (c : ℕ) → c < n → flagOf n new c ≡ 0 → Settled R n new c
-      go c h z =
-          settled-kept c (λ k q. r .low k (omega arith)) (same-seed c (r .otherSeeds c h none)) (a .settled c h (sym (r .otherFlags c h none) ∙ z))
+      go : (c : ℕ) → c < n → flagOf n new c ≡ 0 → (c ≡ cell) ⊎ (c ≡ cell → ⊥) → (flagOf n old c ≡ 0) × (seedOf n new c ≡ seedOf n old c)
+      go c h z (inl e) = absurd (let w : flagOf n new c ≡ 1 = rw e (p .nowFlagged) in omega arith)
+      go c h z (inr e) = (sym (p .others c h e) ∙ z, same-seed c (p .otherSeeds c h e))
+
+  pub active-arrived : {P : ℕ → Bool} (from to steps before after : ℕ) → ActiveIn R n P old before → Arrived n from to steps old new after → ActiveIn R n P new after
+  active-arrived from to steps before after a r =
+      active-kept a (r .listed) (λ k q. r .low k (omega arith)) (λ c h t z. (t, go c h z))
+    where
+      go : (c : ℕ) → c < n → flagOf n new c ≡ 0 → (flagOf n old c ≡ 0) × (seedOf n new c ≡ seedOf n old c)
+      go c h z = (sym (r .otherFlags c h none) ∙ z, same-seed c (r .otherSeeds c h none))
         where
           none : (i : ℕ) → from ≤ i → i < to → orderOf n old i ≡ c → ⊥
           none i lo hi e = let w : flagOf n new c ≡ 1 = rw e at (r .flags i lo hi) in omega arith
@@ -65,11 +75,11 @@ unfolding seedOf
 cleared-seed n words c e = rw e
 
 -- with no flag and no seed either, no cell gives anything
-pub cleared-active : (R : Rules) (n : ℕ) (words : List ℕ) → ((i : ℕ) → i < n * 64 → getD words i 0 ≡ 0) → ((i : ℕ) → n * 134 ≤ i → i < n * 136 → getD words i 0 ≡ 0) → Active R n words 0
+pub cleared-active : (R : Rules) (n : ℕ) {P : ℕ → Bool} (words : List ℕ) → ((i : ℕ) → i < n * 64 → getD words i 0 ≡ 0) → ((i : ℕ) → n * 134 ≤ i → i < n * 136 → getD words i 0 ≡ 0) → ActiveIn R n P words 0
 cleared-active R n words rows flags =
     record {
       listed = listed-none n words (n * 132) (λ c h. flags (n * 134 + c) (omega arith) (omega arith));
-      settled = λ c h z m l. omega (arith, given-none R B c (arrival-none R (seedOf n words) (R .bound 0) (budgetOf n words) c (cleared-table n words rows c) (cleared-seed n words c (flags (n * 135 + c) (omega arith) (omega arith)))) m l);
+      settled = λ c h t z m l. omega (arith, given-none R B c (arrival-none R (seedOf n words) (R .bound 0) (budgetOf n words) c (cleared-table n words rows c) (cleared-seed n words c (flags (n * 135 + c) (omega arith) (omega arith)))) m l);
     }
   where
     B : Table

@@ -107,16 +107,16 @@ module _ (R : Rules) (law : Lawful R) (n : ℕ) (cells : R .cellCount ≡ n) whe
     module _ (new : List ℕ) (next : ℕ) (l : Layered R n words new next) where
       pub front-next : Next R (labelsOf n words) k s (budgetOf n words) (budgetOf n new)
       front-next c d =
-          l .table c d ∙ layer-seeds R (seedOf n words) (seedAt R (labelsOf n words) k s) (R .bound 0) (budgetOf n words) (λ x h. front-seeds x (omega arith)) c d
+          l .table (w .list) c (λ x t. tt) d ∙ layer-seeds R (seedOf n words) (seedAt R (labelsOf n words) k s) (R .bound 0) (budgetOf n words) (λ x h. front-seeds x (omega arith)) c d
 
       pub front-least : (c d : ℕ) → budgetOf n words c d ≤ budgetOf n new c d
-      front-least c d = omega (arith, l .table c d, layer-least R (seedOf n words) (R .bound 0) (budgetOf n words) c d)
+      front-least c d = omega (arith, l .table (w .list) c (λ x t. tt) d, layer-least R (seedOf n words) (R .bound 0) (budgetOf n words) c d)
 
       -- a layer that lists a cell has raised the table
       pub front-grows : 0 < next → total n words < total n new
       front-grows h =
           total-grows n words new front-least (getD new (n * 132 + 0) 0)
-          (l .grew (getD new (n * 132 + 0) 0) (l .active .listed .cells 0 h) (l .active .listed .flagged 0 h))
+          (l .grew (getD new (n * 132 + 0) 0) (l .listed .cells 0 h) (l .listed .flagged 0 h))
 
       pub front-sink : R .start .delay < budgetOf n new (R .sink) (R .start .load) → Least R k (suc s) (R .sink) (R .start .load) (R .start .delay)
       front-sink h = layer-found R law (w .searching) front-next h
@@ -132,7 +132,7 @@ module _ (R : Rules) (law : Lawful R) (n : ℕ) (cells : R .cellCount ≡ n) whe
           where
             go : (n ≤ c) ⊎ (c < n) → budgetOf n new c d ≡ budgetOf n words c d
             go (inl h) = Rattle.table.proofs.Views.budget-outside n new c d (λ a b. omega arith) ∙ sym (Rattle.table.proofs.Views.budget-outside n words c d (λ a b. omega arith))
-            go (inr h) = l .quiet c h (empty-flags (l .active .listed) none c h) d
+            go (inr h) = l .quiet c h (empty-flags (l .listed) none c h) d
 
         same-total : total n new ≡ total n words
         same-total = omega (arith, total-least n words new (λ c d. omega (arith, still c d)), total-least n new words (λ c d. omega (arith, still c d)))
@@ -148,7 +148,7 @@ module _ (R : Rules) (law : Lawful R) (n : ℕ) (cells : R .cellCount ≡ n) whe
                           labels = labelled-kept n words new (λ i lo hi. l .labels i lo (omega arith)) R k s (w .searching .labels);
                           unreached = w .searching .unreached;
                         };
-                    list = l .active;
+                    list = l .active (w .list);
                     ordered = new-order;
                     sourceSeed = rw (seeds-kept n words new (l .rest) (R .source)) (w .sourceSeed);
                     orderSeed = λ i h. rw (seeds-kept n words new (l .rest) (orderOf n new i), order-same n words new count (w .ordered) (l .labels) i (omega (arith, w .atEnd, w .endCount))) (w .orderSeed i h);

@@ -26,7 +26,7 @@ use Rattle.labels.specs.Additions.{LabelsAdded}
 use Rattle.labels.proofs.Labels.{known-below, known-kept, label-kept, labelled-kept, ordered-kept, ordered-none, word-unknown, unknown-not}
 use Rattle.search.specs.Front.{total, Waiting, Front}
 use Rattle.search.proofs.Total.{total-kept}
-use Rattle.search.proofs.Arrivals.{settled-kept, active-planted, active-arrived, cleared-table, cleared-active}
+use Rattle.search.proofs.Arrivals.{active-kept, active-planted, active-arrived, cleared-table, cleared-active}
 use Rattle.search.proofs.Fronts.{order-same, order-registers, order-steps, front-next, front-grows}
 
 pub seed-word : (n : ℕ) (words : List ℕ) (c : ℕ) → T (seedOf n words c) → getD words (n * 135 + c) 0 ≡ 1
@@ -89,7 +89,7 @@ module _ (R : Rules) (law : Lawful R) (n : ℕ) (cells : R .cellCount ≡ n) (wo
     where
       every : (c : ℕ) → T (mayStand R c registerCode) → R .fresh .delay < budgetOf n last c (R .fresh .load) → (n ≤ c) ⊎ (c < n) → T (knownOf n last c)
       every c may h (inl q) = absurd (omega (arith, budget-outside n last c (R .fresh .load) (λ a b. omega arith)))
-      every c may h (inr q) = go (bit-cases (flagOf n new c) (l .active .listed .bits c q))
+      every c may h (inr q) = go (bit-cases (flagOf n new c) (l .listed .bits c q))
         where
           go : (flagOf n new c ≡ 0) ⊎ (flagOf n new c ≡ 1) → T (knownOf n last c)
           go (inl z) =
@@ -113,12 +113,10 @@ module _ (R : Rules) (law : Lawful R) (n : ℕ) (cells : R .cellCount ≡ n) (wo
 
   list-last : Active R n last next
   list-last =
-      record {
-        listed = listed-kept (l .active .listed) last (λ c h. added .high (n * 134 + c) (omega arith)) (λ i h. added .high (n * 132 + i) (omega arith));
-        settled = λ c h z.
-            settled-kept R n new last c (λ i q. added .low i (omega arith)) (seeds-kept n new last (λ i lo. added .high i (omega arith)) c)
-            (l .active .settled c h (sym (added .high (n * 134 + c) (omega arith)) ∙ z));
-      }
+      active-kept R n new last (l .active (w .list))
+      (listed-kept (l .listed) last (λ c h. added .high (n * 134 + c) (omega arith)) (λ i h. added .high (n * 132 + i) (omega arith)))
+      (λ i q. added .low i (omega arith))
+      (λ c h t z. (t, (sym (added .high (n * 134 + c) (omega arith)) ∙ z, seeds-kept n new last (λ i lo. added .high i (omega arith)) c)))
 
   pub grown-front : (R .start .delay < budgetOf n new (R .sink) (R .start .load) → ⊥) → Waiting R n last k (suc s) next at end count′
   grown-front not-yet =

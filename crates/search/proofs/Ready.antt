@@ -4,11 +4,19 @@ use mathlib.Core.Path.{_≡_, sym}
 use mathlib.Core.List.{List}
 use lib.ListN.{length}
 use Rattle.rules.specs.Rules.{rulesOf}
+use Rattle.plan.specs.Apart.{apart}
 use Rattle.budget.specs.Done.{Lawful}
+use Rattle.budget.specs.Cone.{Lipschitz}
 use Rattle.budget.proofs.Document01.{rules-lawful}
+use Rattle.budget.proofs.Cone.{apart-lipschitz}
 use Rattle.table.specs.declared.problem.Problem.{Problem}
 use Rattle.table.specs.Problem.{planFor, rulesFor, Ready}
 use Rattle.table.proofs.Spreads.{cells-are}
+
+-- rows and columns from any cell are a distance
+pub rules-apart : (p : Problem) (marks : List ℕ) (start : ℕ) → Lipschitz (rulesFor p marks) (apart (planFor p marks) start)
+unfolding rulesFor
+rules-apart p marks start = apart-lipschitz (planFor p marks) (p .elements) (p .source) (p .sink) start
 
 module _ (p : Problem) (marks : List ℕ) (ready : Ready p marks) where
   pub ready-lawful : Lawful (rulesFor p marks)

@@ -11,11 +11,10 @@ use Rattle.plan.proofs.Truth.{equal}
 use Rattle.budget.specs.Done.{NotAfter, Lawful, seedAt}
 use Rattle.budget.specs.Search.{Next}
 use Rattle.budget.proofs.Done.{not-after-trans}
-use Rattle.budget.proofs.Active.{pushes-layer, layer-least}
-use Rattle.lists.proofs.Lists.{empty-flags}
 use Rattle.rows.specs.Words.{KeptFrom}
 use Rattle.table.specs.Problem.{budgetOf, seedOf}
 use Rattle.table.specs.Layer.{Layered}
+use Rattle.table.proofs.Quiet.{quiet-layer}
 use Rattle.labels.specs.Labels.{knownOf, registersOf, stepsOf, labelsOf}
 use Rattle.labels.specs.Additions.{LabelsAdded}
 use Rattle.labels.proofs.Labels.{known-below, known-kept, label-kept, labelled-kept, ordered-kept}
@@ -32,9 +31,7 @@ module _ (R : Rules) (law : Lawful R) (n : ℕ) (cells : R .cellCount ≡ n) whe
   -- with no cell listed, the layer is the table itself
   quiet-next : (words : List ℕ) (k s at end count : ℕ) → Front R n words k s 0 at end count → Next R (labelsOf n words) k s (budgetOf n words) (budgetOf n words)
   quiet-next words k s at end count f c l =
-      pushes-layer R (seedOf n words) (R .bound 0) (budgetOf n words) (budgetOf n words) (λ x y. omega arith)
-      (λ x y. layer-least R (seedOf n words) (R .bound 0) (budgetOf n words) x y)
-      (λ m x y h. f .waiting .list .settled m (omega arith) (empty-flags (f .waiting .list .listed) refl m (omega arith)) x y) c l
+      quiet-layer R n words 0 cells (f .waiting .list) refl c (λ x t. tt) l
       ∙ layer-seeds R (seedOf n words) (seedAt R (labelsOf n words) k s) (R .bound 0) (budgetOf n words)
       (λ x h. front-seeds R law n cells words k s 0 at end count f x (omega arith)) c l
 

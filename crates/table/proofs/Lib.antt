@@ -5,3 +5,4 @@ pub mod Follows
 pub mod Offers
 pub mod Spreads
 pub mod WholeLayer
+pub mod Quiet

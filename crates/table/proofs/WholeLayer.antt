@@ -1,23 +1,25 @@
 -- The parts of a layer put together.
 use Prim.Native.Nat.{ℕ, _+_, _*_, _≤_, _<_}
 use mathlib.Core.Path.{_≡_, sym, _∙_}
+use mathlib.Core.Bool.{Bool}
 use mathlib.Core.Logic.{_⊎_, inl, inr}
 use mathlib.Core.List.{List}
 use native.Mathlib.Omega.{arith}
+use lib.Dec.{T}
 use lib.ListN.{getD}
 use Rattle.rules.specs.Rules.{Rules}
 use Rattle.budget.specs.Table.{Table, arrival, given, layer}
 use Rattle.budget.proofs.Active.{pushes-layer, given-most, layer-least, arrival-row, given-row}
 use Rattle.rows.specs.Words.{Kept}
 use Rattle.costs.specs.Costs.{rowWords}
-use Rattle.lists.specs.Lists.{flagOf, Place, Taken}
+use Rattle.lists.specs.Lists.{flagOf, Place, Listed, Taken}
 use Rattle.lists.proofs.Lists.{bit-cases, listed-count}
 use Rattle.trail.specs.declared.Trail.{Trail}
 use Rattle.trail.specs.Trail.{Sound, History}
 use Rattle.trail.proofs.History.{sound-kept, history-kept}
 use Rattle.table.specs.declared.pushes.Grown.{Grown}
 use Rattle.table.specs.Problem.{budgetOf, seedOf}
-use Rattle.table.specs.Layer.{arrivalsOf, Settled, Active, Grew, SameRow, ArrivalsFilled, Raised, SpreadAll, Layered}
+use Rattle.table.specs.Layer.{arrivalsOf, Settled, ActiveIn, Grew, SameRow, ArrivalsFilled, Raised, SpreadAll, Layered}
 use Rattle.table.proofs.Fills.{filled-row}
 use Rattle.table.proofs.Views.{budget-kept, seeds-kept}
 
@@ -43,7 +45,7 @@ raised-more n a b d k m up1 up2 r s =
     quiet c h z (inr e) l = absurd (omega (arith, e .0))
 
 -- From the arrival rows, the pushes and the new list to the layer.
-module _ (R : Rules) (n : ℕ) (t : Trail) (old mid pushed new : List ℕ) (active : ℕ) (next : Grown) (cells : R .cellCount ≡ n) (start : Active R n old active) (sound : Sound n old t) (filled : ArrivalsFilled R n old mid) (spread : SpreadAll R n active t mid pushed next) (taken : Taken n (next .count) pushed new) where
+module _ (R : Rules) (n : ℕ) (t : Trail) (old mid pushed new : List ℕ) (active : ℕ) (next : Grown) (cells : R .cellCount ≡ n) (start : Listed n old (n * 132) active) (sound : Sound n old t) (filled : ArrivalsFilled R n old mid) (spread : SpreadAll R n active t mid pushed next) (taken : Taken n (next .count) pushed new) where
   abbrev B : Table
   B = arrival R (seedOf n old) (R .bound 0) (budgetOf n old)
 
@@ -54,7 +56,7 @@ module _ (R : Rules) (n : ℕ) (t : Trail) (old mid pushed new : List ℕ) (acti
   final-budget = budget-kept n pushed new (λ i lo hi. taken .low i (omega arith))
 
   same-list : (i : ℕ) → i < active → getD mid (n * 132 + i) 0 ≡ getD old (n * 132 + i) 0
-  same-list i h = filled .labels (n * 132 + i) (omega arith) (omega (arith, listed-count (start .listed)))
+  same-list i h = filled .labels (n * 132 + i) (omega arith) (omega (arith, listed-count start))
 
   module _ (lim : R .limit < rowWords) where
     -- what a cell on the list gives
@@ -62,7 +64,7 @@ module _ (R : Rules) (n : ℕ) (t : Trail) (old mid pushed new : List ℕ) (acti
     gives i h c l =
         let x : ℕ = getD old (n * 132 + i) 0 in
         let e : getD mid (n * 132 + i) 0 ≡ x = same-list i h in
-        rw e (given-row R B (arrivalsOf n mid) x (filled-row R n old mid filled lim x (start .listed .cells i h) (start .listed .flagged i h)) c l)
+        rw e (given-row R B (arrivalsOf n mid) x (filled-row R n old mid filled lim x (start .cells i h) (start .flagged i h)) c l)
 
     least : (c l : ℕ) → budgetOf n old c l ≤ budgetOf n new c l
     least c l = omega (arith, same-budget c l, spread .least c l, final-budget c l)
@@ -78,12 +80,13 @@ module _ (R : Rules) (n : ℕ) (t : Trail) (old mid pushed new : List ℕ) (acti
               omega (
                 arith,
                 gives i h c l,
-                given-most R (seedOf n old) (R .bound 0) (budgetOf n old) (getD old (n * 132 + i) 0) c l (omega (arith, start .listed .cells i h)),
+                given-most R (seedOf n old) (R .bound 0) (budgetOf n old) (getD old (n * 132 + i) 0) c l (omega (arith, start .cells i h)),
               )),
         )
 
-    all : (x c l : ℕ) → x < n → given R B x c l ≤ budgetOf n new c l
-    all x c l h = go (bit-cases (flagOf n old x) (start .listed .bits x h))
+    -- where the list was right, the table has what a cell gives
+    all : {P : ℕ → Bool} {count : ℕ} → ActiveIn R n P old count → (x c l : ℕ) → x < n → T (P x) → given R B x c l ≤ budgetOf n new c l
+    all right x c l h t = go (bit-cases (flagOf n old x) (start .bits x h))
       where
         listed : Place n old (n * 132) active x → given R B x c l ≤ budgetOf n new c l
         listed p =
@@ -91,8 +94,8 @@ module _ (R : Rules) (n : ℕ) (t : Trail) (old mid pushed new : List ℕ) (acti
             rw (p .holds) at q
 
         go : (flagOf n old x ≡ 0) ⊎ (flagOf n old x ≡ 1) → given R B x c l ≤ budgetOf n new c l
-        go (inl z) = omega (arith, start .settled x h z c l, least c l)
-        go (inr z) = listed (start .listed .covered x h z)
+        go (inl z) = omega (arith, right .settled x h t z c l, least c l)
+        go (inr z) = listed (start .covered x h z)
 
     flag-new : (c : ℕ) → flagOf n new c ≡ flagOf n pushed c
     flag-new c = taken .high (n * 134 + c) (omega arith)
@@ -117,21 +120,22 @@ module _ (R : Rules) (n : ℕ) (t : Trail) (old mid pushed new : List ℕ) (acti
         (spread .follows .history (λ c h e. absurd (omega (arith, filled .cleared c h))) u Z below
         (history-kept n old t mid sound (λ i lo hi. filled .rest i (omega arith)) u Z (λ c h l k. filled .table (c * 64 + l) (omega arith) (omega arith)) past))
 
-    settled : (x : ℕ) → x < n → flagOf n new x ≡ 0 → Settled R n new x
-    settled x h f c l =
+    settled : {P : ℕ → Bool} {count : ℕ} → ActiveIn R n P old count → (x : ℕ) → x < n → T (P x) → flagOf n new x ≡ 0 → Settled R n new x
+    settled right x h t f c l =
         omega (
           arith,
           given-row R B (arrival R (seedOf n new) (R .bound 0) (budgetOf n new)) x
               (arrival-row R (seedOf n old) (seedOf n new) (R .bound 0) (budgetOf n old) (budgetOf n new) x (quiet x h f) (seeds-kept n old new seeds x h)) c l,
-          all x c l h,
+          all right x c l h t,
         )
 
     pub layered : Layered R n t old new next
     layered =
         record {
           same = taken .same ∙ (spread .raised .same ∙ filled .same);
-          table = pushes-layer R (seedOf n old) (R .bound 0) (budgetOf n old) (budgetOf n new) least most (λ x c l h. all x c l (omega arith));
-          active = record { listed = taken .listed; settled = settled };
+          listed = taken .listed;
+          table = λ right c near l. pushes-layer R (seedOf n old) (R .bound 0) (budgetOf n old) (budgetOf n new c l) c l (least c l) (most c l) (λ x h t. all right x c l (omega arith) (near x t));
+          active = λ right. record { listed = taken .listed; settled = settled right };
           grew = grew;
           quiet = quiet;
           labels = λ i lo hi. taken .low i hi ∙ (spread .raised .kept i (omega arith) (omega arith) ∙ filled .labels i lo (omega arith));

@@ -1,10 +1,10 @@
 -- What one layer does to the scratch words.
 use Prim.Native.Nat.{ℕ, _+_, _*_, _≤_, _<_, max}
 use mathlib.Core.Path.{_≡_}
-use mathlib.Core.Bool.{_&&_}
+use mathlib.Core.Bool.{Bool, true, _&&_}
 use mathlib.Core.Logic.{_⊎_}
 use mathlib.Core.List.{List}
-use lib.Dec.{ltb}
+use lib.Dec.{T, ltb}
 use lib.ListN.{length, getD}
 use Rattle.timing.specs.declared.elements.Wire.{Wire}
 use Rattle.rules.specs.Rules.{Rules}
@@ -30,10 +30,14 @@ abbrev pub Settled : Rules → ℕ → List ℕ → ℕ → Type 0
 Settled R n words cell =
     (c l : ℕ) → given R (arrival R (seedOf n words) (R .bound 0) (budgetOf n words)) cell c l ≤ budgetOf n words c l
 
--- the active list is right: what a cell that is not listed gives is in the table already
-pub record Active (R : Rules) (n : ℕ) (words : List ℕ) (active : ℕ) : Type 0 where
+-- the active list is right in P: what a cell of P that is not listed gives is in the table already
+pub record ActiveIn (R : Rules) (n : ℕ) (P : ℕ → Bool) (words : List ℕ) (active : ℕ) : Type 0 where
   pub listed : Listed n words (n * 132) active
-  pub settled : (c : ℕ) → c < n → flagOf n words c ≡ 0 → Settled R n words c
+  pub settled : (c : ℕ) → c < n → T (P c) → flagOf n words c ≡ 0 → Settled R n words c
+
+-- it is right in every cell
+abbrev pub Active : Rules → ℕ → List ℕ → ℕ → Type 0
+Active R n words active = ActiveIn R n (λ c. true) words active
 
 -- some word of the cell's row grew
 pub record Grew (n : ℕ) (old new : List ℕ) (c : ℕ) : Type 0 where
@@ -130,11 +134,12 @@ pub record SpreadAll (R : Rules) (n active : ℕ) (t : Trail) (old new : List �
   pub most : (x c l : ℕ) → budgetOf n old c l ≤ x → ((i : ℕ) → i < active → given R (arrivalsOf n old) (getD old (n * 132 + i) 0) c l ≤ x) → budgetOf n new c l ≤ x
   pub gave : (i : ℕ) → i < active → (c l : ℕ) → given R (arrivalsOf n old) (getD old (n * 132 + i) 0) c l ≤ budgetOf n new c l
 
--- After a layer.
+-- After a layer. Wherever the active list was right: the rows of the cells whose neighbours are all there are the next ones, and the new list is right.
 pub record Layered (R : Rules) (n : ℕ) (t : Trail) (old new : List ℕ) (next : Grown) : Type 0 where
   pub same : length new ≡ length old
-  pub table : (c l : ℕ) → budgetOf n new c l ≡ layer R (seedOf n old) (R .bound 0) (budgetOf n old) c l
-  pub active : Active R n new (next .count)
+  pub listed : Listed n new (n * 132) (next .count)
+  pub table : {P : ℕ → Bool} {active : ℕ} → ActiveIn R n P old active → (c : ℕ) → ((x : ℕ) → T (R .linked c x) → T (P x)) → (l : ℕ) → budgetOf n new c l ≡ layer R (seedOf n old) (R .bound 0) (budgetOf n old) c l
+  pub active : {P : ℕ → Bool} {active : ℕ} → ActiveIn R n P old active → ActiveIn R n P new (next .count)
   pub grew : (c : ℕ) → c < n → flagOf n new c ≡ 1 → Grew n old new c
   pub quiet : (c : ℕ) → c < n → flagOf n new c ≡ 0 → SameRow n old new c
   -- labels and order

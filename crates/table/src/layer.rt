@@ -4,7 +4,7 @@ ghost use lib.ListN.{length};
 ghost use Rattle.lists.specs.Lists.{Listed};
 ghost use Rattle.trail.specs.Trail.{Sound};
 ghost use Rattle.table.specs.Problem.{Ready, Room, rulesFor};
-ghost use Rattle.table.specs.Layer.{Active, ArrivalsFilled, Layered};
+ghost use Rattle.table.specs.Layer.{ArrivalsFilled, Layered};
 use crate::arrival::fill_arrival;
 use crate::problem::Problem;
 use crate::pushes::Grown;
@@ -28,6 +28,7 @@ fn fill_arrivals(plan: &[u8], scratch: &mut [u16], p: Problem, active: usize)
 }
 
 // One layer. The new active list has every cell whose row grew; its count, and the trail with these rows.
+// Where a cell is missing on the active list, only the rows of its neighbours may stay too low.
 pub fn next_layer(
     plan: &[u8],
     scratch: &mut [u16],
@@ -35,7 +36,7 @@ pub fn next_layer(
     active: usize,
     trail: Trail,
 ) -> Grown
-    requires { ⌜ Ready p (now plan) × (Room (length (now plan)) (now scratch) × (Active (rulesFor p (now plan)) (length (now plan)) (now scratch) active × Sound (length (now plan)) (now scratch) trail)) ⌝ }
+    requires { ⌜ Ready p (now plan) × (Room (length (now plan)) (now scratch) × (Listed (length (now plan)) (now scratch) (length (now plan) * 132) active × Sound (length (now plan)) (now scratch) trail)) ⌝ }
     ensures { λ r. ⌜ Layered (rulesFor p (now (plan .entry))) (length (now (plan .entry))) trail (now (scratch .entry)) (now (scratch .exit)) r ⌝ }
 {
     let n = plan.len();

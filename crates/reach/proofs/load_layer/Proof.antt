@@ -84,7 +84,7 @@ next-layer-requires : tie.Need-next-layer-requires Inv-loop μ-loop
 next-layer-requires c κs =
     let a = c .before .before .before in
     let f = head a .reaching in
-    (start a .pre .ready, (omega (arith, f .same, start a .pre .room), f .list))
+    (start a .pre .ready, (omega (arith, f .same, start a .pre .room), f .list .listed))
 
 add-u : tie.Need-add-u Inv-loop μ-loop
 add-u c = omega arith

@@ -15,7 +15,7 @@ use Rattle.search.proofs.turns.take_turn.Statement.{statement}
 use Rattle.search.proofs.turns.take_turn.Tie as tie
 
 next-layer-requires : tie.Need-next-layer-requires
-next-layer-requires c κs = (c .before .before .before .pre .0, (c .before .before .before .pre .1 .0, c .before .before .before .pre .1 .1 .waiting .list))
+next-layer-requires c κs = (c .before .before .before .pre .0, (c .before .before .before .pre .1 .0, c .before .before .before .pre .1 .1 .waiting .list .listed))
 
 after-quiet-requires : tie.Need-after-quiet-requires
 after-quiet-requires c κs =
@@ -71,7 +71,7 @@ label-active-requires c κs =
         last = labels-before _ (ready-lawful _ _ r) _ (ready-cells _ _ r) _ _ (s .pre .1 .1) _ _ (c .before .before .before .before .before .before .before .before .next-layer .ensures);
         few = omega (arith, w .waves, w .endCount, ordered-count (w .ordered), few-cells _ _ r);
       },
-      c .before .before .before .before .before .before .before .before .next-layer .ensures .active .listed,
+      c .before .before .before .before .before .before .before .before .next-layer .ensures .listed,
     )
 
 same-length-3 : tie.Need-same-length-3

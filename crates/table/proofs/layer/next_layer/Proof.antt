@@ -10,12 +10,12 @@ use Rattle.table.proofs.layer.next_layer.Statement.{statement}
 use Rattle.table.proofs.layer.next_layer.Tie as tie
 
 fill-arrivals-requires : tie.Need-fill-arrivals-requires
-fill-arrivals-requires c κs = (c .before .before .before .pre .0, (c .before .before .before .pre .1 .0, c .before .before .before .pre .1 .1 .0 .listed))
+fill-arrivals-requires c κs = (c .before .before .before .pre .0, (c .before .before .before .pre .1 .0, c .before .before .before .pre .1 .1 .0))
 
 spread-all-requires : tie.Need-spread-all-requires
 spread-all-requires c κs =
     let s = c .before .before .before .before .before .before .before in
-    fills-asks _ _ _ _ _ _ (s .pre .0) (s .pre .1 .0) (s .pre .1 .1 .1) (s .pre .1 .1 .0 .listed) (c .before .before .before .fill-arrivals .ensures)
+    fills-asks _ _ _ _ _ _ (s .pre .0) (s .pre .1 .0) (s .pre .1 .1 .1) (s .pre .1 .1 .0) (c .before .before .before .fill-arrivals .ensures)
 
 take-list-requires : tie.Need-take-list-requires
 take-list-requires c κs =
