@@ -4,3 +4,4 @@ pub mod Fills
 pub mod Offers
 pub mod Spreads
 pub mod WholeLayer
+pub mod Colours

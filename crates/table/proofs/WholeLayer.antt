@@ -14,6 +14,8 @@ use Rattle.lists.specs.Lists.{flagOf, Place, Taken}
 use Rattle.lists.proofs.Lists.{bit-cases, listed-count}
 use Rattle.table.specs.Problem.{budgetOf, seedOf}
 use Rattle.table.specs.Layer.{arrivalsOf, Settled, Active, Grew, SameRow, ArrivalsFilled, Raised, SpreadAll, Layered}
+use Rattle.table.specs.Colours.{Giver}
+use Rattle.table.proofs.Colours.{pushes-giver}
 use Rattle.table.proofs.Fills.{filled-row}
 use Rattle.table.proofs.Views.{budget-kept, seeds-kept}
 
@@ -103,6 +105,11 @@ module _ (R : Rules) (n : ℕ) (old mid pushed new : List ℕ) (active next : �
     quiet : (c : ℕ) → c < n → flagOf n new c ≡ 0 → SameRow n old new c
     quiet c h f l = final-budget c l ∙ (spread .raised .quiet c h (sym (flag-new c) ∙ f) l ∙ same-budget c l)
 
+    giver : (c : ℕ) → c < n → flagOf n new c ≡ 1 → Giver R n old c
+    giver c h f =
+        let g = grew c h f in
+        pushes-giver R n old mid pushed active next (start .listed) same-list spread c (g .load) (omega (arith, g .more, same-budget c (g .load), final-budget c (g .load)))
+
     rest : KeptFrom (n * 135) old new
     rest i h = taken .high i (omega arith) ∙ (spread .raised .rest i h ∙ filled .rest i h)
 
@@ -125,4 +132,5 @@ module _ (R : Rules) (n : ℕ) (old mid pushed new : List ℕ) (active next : �
           quiet = quiet;
           labels = λ i lo hi. taken .low i hi ∙ (spread .raised .kept i (omega arith) (omega arith) ∙ filled .labels i lo (omega arith));
           rest = rest;
+          giver = giver;
         }

@@ -16,6 +16,7 @@ use Rattle.lists.specs.Lists.{flagOf, Listed}
 use Rattle.timing.specs.Ranges.{loadMax}
 use Rattle.timing.specs.Elements.{WireInRange}
 use Rattle.table.specs.Problem.{Ready, Room, budgetOf, seedOf}
+use Rattle.table.specs.Colours.{Giver}
 use Rattle.table.specs.declared.problem.Problem.{Problem}
 
 -- the arrival table in the words; 0 outside cells and loads
@@ -112,3 +113,5 @@ pub record Layered (R : Rules) (n : ℕ) (old new : List ℕ) (next : ℕ) : Typ
   pub labels : Kept (n * 128) (n * 132) old new
   -- seed flags, and all beyond
   pub rest : KeptFrom (n * 135) old new
+  -- where what a cell has got came from
+  pub giver : (c : ℕ) → c < n → flagOf n new c ≡ 1 → Giver R n old c
