@@ -11,7 +11,7 @@ use Rattle.rules.specs.Legal.{Route}
 use Rattle.rules.proofs.Document01.{rules-linked}
 use Rattle.rules.proofs.View.{Ending, ending-view}
 use Rattle.budget.specs.Done.{stage, Least, Labels, Labelled}
-use Rattle.budget.specs.Colours.{Colouring, InStep}
+use Rattle.budget.specs.Colours.{Colouring, InStep, LabelsInStep}
 use Rattle.budget.proofs.Emission.{least-exact}
 
 -- Document 01's rules have the chessboard's colouring.
@@ -47,5 +47,5 @@ module _ {R : Rules} where
       let e = m .enough in
       rw (least-exact m (e .route) (e .ending) (e .within) .1) at (ending-in-step (ending-view R c 0 (stage l d) (e .route) (e .ending)))
 
-  pub label-in-step : {k s : ℕ} {m : Labels} → Labelled R k s m → (c : ℕ) → T (m .known c) → InStep R (m .steps c) c
+  pub label-in-step : {k s : ℕ} {m : Labels} → Labelled R k s m → LabelsInStep R m
   label-in-step m c t = least-in-step (m .least c t)

@@ -3,6 +3,7 @@ use Prim.Native.Nat.{ℕ, _+_, _%_}
 use mathlib.Core.Path.{_≡_}
 use lib.Dec.{T}
 use Rattle.rules.specs.Rules.{Rules}
+use Rattle.budget.specs.Done.{Labels}
 
 -- Two cells have the same colour if the sum of their numbers is even; linked cells have not.
 pub record Colouring (R : Rules) : Type 0 where
@@ -12,3 +13,7 @@ pub record Colouring (R : Rules) : Type 0 where
 -- by every colouring the cell has the colour of the cells that are s steps from the source
 pub record InStep (R : Rules) (s c : ℕ) : Type 0 where
   pub even : (K : Colouring R) → (K .colour c + K .colour (R .source) + s) % 2 ≡ 0
+
+-- every label has the colour of its steps
+abbrev pub LabelsInStep : Rules → Labels → Type 0
+LabelsInStep R m = (c : ℕ) → T (m .known c) → InStep R (m .steps c) c

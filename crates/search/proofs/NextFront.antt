@@ -158,7 +158,7 @@ module _ (R : Rules) (law : Lawful R) (n : ℕ) (cells : R .cellCount ≡ n) (wo
         endCount = omega (arith, w .endCount, added .more);
         waves = w .waves;
         soon = λ h. omega (arith, steps-last at (omega (arith, w .endCount)), f .late h);
-        coloured = coloured-kept (coloured-layer l (w .coloured)) last (λ c h. added .high (n * 134 + c) (omega arith));
+        coloured = coloured-kept (coloured-layer l (w .coloured)) last (λ c h o. omega (arith, added .high (n * 134 + c) (omega arith)));
         stepsLow = omega (arith, w .stepsLow, total-last);
         labelsLow = λ c t. low c t (decided (knownOf n words c));
       }

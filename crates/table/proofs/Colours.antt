@@ -29,9 +29,9 @@ coloured-apart K k c d h i f g = same-apart K (k .inStep c h f) (k .inStep d i g
 pub coloured-none : (R : Rules) {n : ℕ} (s : ℕ) {words : List ℕ} {base count : ℕ} → Listed n words base count → count ≡ 0 → Coloured R n s words
 coloured-none R s l none = record { inStep = λ c h f. absurd (omega (arith, empty-flags l none c h)) }
 
--- words with the same flags
-pub coloured-kept : {R : Rules} {n s : ℕ} {old : List ℕ} → Coloured R n s old → (new : List ℕ) → ((c : ℕ) → c < n → flagOf n new c ≡ flagOf n old c) → Coloured R n s new
-coloured-kept k new same = record { inStep = λ c h f. k .inStep c h (omega (arith, same c h)) }
+-- words with no new flags
+pub coloured-kept : {R : Rules} {n s : ℕ} {old : List ℕ} → Coloured R n s old → (new : List ℕ) → ((c : ℕ) → c < n → flagOf n new c ≡ 1 → flagOf n old c ≡ 1) → Coloured R n s new
+coloured-kept k new old = record { inStep = λ c h f. k .inStep c h (old c h f) }
 
 -- Proof: what is in the table after the pushes was there or is given by a listed cell, and a cell gives only over a wire. Qed.
 pub pushes-giver : (R : Rules) (n : ℕ) (old mid pushed : List ℕ) (active next : ℕ) → Listed n old (n * 132) active → ((i : ℕ) → i < active → getD mid (n * 132 + i) 0 ≡ getD old (n * 132 + i) 0) → SpreadAll R n active mid pushed next → (c l : ℕ) → budgetOf n mid c l < budgetOf n pushed c l → Giver R n old c
