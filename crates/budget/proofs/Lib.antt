@@ -12,3 +12,4 @@ pub mod Emission
 pub mod Best
 pub mod Emit
 pub mod Document01
+pub mod Colours

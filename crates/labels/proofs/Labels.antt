@@ -99,13 +99,13 @@ module _ {n : ℕ} {words : List ℕ} {count : ℕ} (o : Ordered n words count) 
   ordered-room c h e =
       omega (arith, sum-short n (λ c. one (knownOf n words c)) c (λ c h. one-bit (knownOf n words c)) h (ap one e))
 
-  -- past a label of more steps, all of the same registers have more
-  pub late-all : (steps i j : ℕ) → i ≤ j → j < count → registersOf n words (orderOf n words i) ≡ registersOf n words (orderOf n words j) → steps < stepsOf n words (orderOf n words i) → steps < stepsOf n words (orderOf n words j)
-  late-all steps i j h k e l = go (o .ascending i j h k)
+  -- labels of the same registers ascend by steps
+  pub steps-ascend : (i j : ℕ) → i ≤ j → j < count → registersOf n words (orderOf n words i) ≡ registersOf n words (orderOf n words j) → stepsOf n words (orderOf n words i) ≤ stepsOf n words (orderOf n words j)
+  steps-ascend i j h k e = go (o .ascending i j h k)
     where
-      go : NotAfter (registersOf n words (orderOf n words i)) (stepsOf n words (orderOf n words i)) (registersOf n words (orderOf n words j)) (stepsOf n words (orderOf n words j)) → steps < stepsOf n words (orderOf n words j)
+      go : NotAfter (registersOf n words (orderOf n words i)) (stepsOf n words (orderOf n words i)) (registersOf n words (orderOf n words j)) (stepsOf n words (orderOf n words j)) → stepsOf n words (orderOf n words i) ≤ stepsOf n words (orderOf n words j)
       go (inl q) = absurd (omega arith)
-      go (inr q) = omega arith
+      go (inr q) = q .1
 
 pub ordered-none : (n : ℕ) (words : List ℕ) → ((c : ℕ) → c < n → getD words (n * 128 + c) 0 ≡ 0) → Ordered n words 0
 ordered-none n words z =

@@ -9,7 +9,7 @@ use borrow.Author.Tests.{eq-eqb}
 use lib.Dec.{T, eqb, ltb, eqb→eq, ltb→lt}
 use Rattle.plan.specs.Plan.{Plan, cells, row, column, marksAt, cutRight, cutBelow}
 use Rattle.plan.specs.Joined.{wireRight, wireBelow, bothIn, horizontal, vertical, joined}
-use Rattle.plan.proofs.Truth.{fst, snd, or-cases, or-comm, is-false}
+use Rattle.plan.proofs.Truth.{fst, snd, tests, or-cases, or-comm, is-false}
 use Rattle.plan.proofs.Division.{right-row, right-column, right-is, down-row, down-column, down-is}
 
 swapped : (a b c d : Bool) → (a && b && (c || d)) ≡ (b && a && (d || c))
@@ -47,6 +47,34 @@ pub joined-in : (p : Plan) (a b : ℕ) → T (joined p a b) → (a < cells p) ×
 unfolding joined
 joined-in p a b t =
     ⊎-elim (horizontal-in p a b) (vertical-in p a b) (or-cases (horizontal p a b) (vertical p a b) t)
+
+-- The chessboard: the number of a cell's diagonal is odd or even, by the cell's colour. A step changes it by one.
+abbrev pub diagonal : Plan → ℕ → ℕ
+diagonal p c = row p c + column p c
+
+right-odd : (p : Plan) (a b : ℕ) → T (wireRight p a b) → (diagonal p a + diagonal p b) % 2 ≡ 1
+unfolding wireRight
+right-odd p a b t =
+    let r = eqb (row p b) (row p a) in
+    let c = eqb (column p b) (column p a + 1) in
+    let u = not (cutRight (marksAt p a)) in
+    omega (arith, tests, fst r c (fst (r && c) u t), snd r c (fst (r && c) u t))
+
+below-odd : (p : Plan) (a b : ℕ) → T (wireBelow p a b) → (diagonal p a + diagonal p b) % 2 ≡ 1
+unfolding wireBelow
+below-odd p a b t =
+    let c = eqb (column p b) (column p a) in
+    let r = eqb (row p b) (row p a + 1) in
+    let u = not (cutBelow (marksAt p a)) in
+    omega (arith, tests, fst c r (fst (c && r) u t), snd c r (fst (c && r) u t))
+
+pub joined-odd : (p : Plan) (a b : ℕ) → T (joined p a b) → (diagonal p a + diagonal p b) % 2 ≡ 1
+unfolding joined horizontal vertical
+joined-odd p a b t =
+    ⊎-elim
+    (λ h. ⊎-elim (right-odd p a b) (λ w. omega (arith, right-odd p b a w)) (or-cases (wireRight p a b) (wireRight p b a) (snd (bothIn p a b) (wireRight p a b || wireRight p b a) h)))
+    (λ v. ⊎-elim (below-odd p a b) (λ w. omega (arith, below-odd p b a w)) (or-cases (wireBelow p a b) (wireBelow p b a) (snd (bothIn p a b) (wireBelow p a b || wireBelow p b a) v)))
+    (or-cases (horizontal p a b) (vertical p a b) t)
 
 -- a wire that leads right from a to b, as numbers
 pub record Right (p : Plan) (a b : ℕ) : Type 0 where

@@ -1,6 +1,6 @@
 -- The start of a span: the source is its only seed, or its labels wait in the order; and its end.
 use Prim.Native.Nat.{ℕ, zero, suc, _+_, _-_, _*_, _≤_, _<_}
-use mathlib.Core.Path.{_≡_, ap, _∙_}
+use mathlib.Core.Path.{_≡_, refl, ap, _∙_}
 use mathlib.Core.Logic.{_⊎_, inl, inr}
 use mathlib.Core.List.{List}
 use native.Mathlib.Omega.{arith}
@@ -10,17 +10,20 @@ use Rattle.plan.proofs.Truth.{split, equal}
 use Rattle.budget.specs.Done.{Labels}
 use Rattle.budget.specs.Emission.{exactSeed}
 use Rattle.budget.proofs.Layer.{row-of}
+use Rattle.budget.specs.Colours.{LabelsInStep}
+use Rattle.budget.proofs.Colours.{source-in-step}
 use Rattle.budget.proofs.Reaches.{source-seed, seed-at-source, exact-view, reaches-start}
 use Rattle.lists.specs.Lists.{Place}
 use Rattle.rows.specs.Words.{Kept}
 use Rattle.table.specs.Problem.{seedOf}
 use Rattle.table.specs.Layer.{Active}
 use Rattle.table.proofs.Views.{budget-kept}
+use Rattle.table.proofs.Colours.{coloured-none}
 use Rattle.labels.specs.Labels.{registersOf, labelsOf, orderOf, Ordered, Planted}
 use Rattle.labels.proofs.Labels.{unknown-not, ordered-kept}
 use Rattle.search.proofs.Arrivals.{active-planted, cleared-table, cleared-seed, cleared-active}
 use Rattle.search.proofs.Fronts.{order-registers}
-use Rattle.search.proofs.NextFront.{seed-word, word-seed}
+use Rattle.search.proofs.NextFront.{seed-word, word-seed, coloured-planted}
 use Rattle.reach.specs.Reach.{FirstWith, Cleared, Due, Reaching, Current, noLayers, Held, Loaded}
 use Rattle.reach.specs.declared.Layers.{Layers}
 use Rattle.reach.proofs.Kept.{table-kept}
@@ -37,8 +40,8 @@ module _ (R : Rules) (n : ℕ) (old mid : List ℕ) (z : Cleared n old mid) wher
   start-labels i lo hi = z .kept i (omega arith) (omega arith)
 
   -- with no registers to go
-  pub source-start : (count : ℕ) → Ordered n old count → R .source < n → (new : List ℕ) (active : ℕ) → Planted n (R .source) mid new active → Current R n 0 old new 0 active 0 0 count
-  source-start count o inPlan new active p =
+  pub source-start : (count : ℕ) → Ordered n old count → LabelsInStep R (labelsOf n old) → R .source < n → (new : List ℕ) (active : ℕ) → Planted n (R .source) mid new active → Current R n 0 old new 0 active 0 0 count
+  source-start count o inStep inPlan new active p =
       record {
         reaching =
             record {
@@ -53,6 +56,9 @@ module _ (R : Rules) (n : ℕ) (old mid : List ℕ) (z : Cleared n old mid) wher
               waits = λ i lo hi. absurd (omega arith);
               sound = λ c h t. source-seed R (labelsOf n old) 0 c (is-source c h t (equal c (R .source)));
               complete = λ c t h e. inl (rw (seed-at-source R (labelsOf n old) t c e) (word-seed n new (R .source) (p .nowSeed)));
+              inStep = inStep;
+              soon = λ h. absurd (omega arith);
+              coloured = coloured-planted (coloured-none R 0 (start-list .listed) refl) source-in-step p;
             };
         late = λ h. absurd (omega arith);
       }
@@ -63,7 +69,7 @@ module _ (R : Rules) (n : ℕ) (old mid : List ℕ) (z : Cleared n old mid) wher
           absurd (omega (arith, seed-word n new c t, p .otherSeeds c h e, z .flags (n * 135 + c) (omega arith) (omega arith)))
 
   -- with k registers to go, of which the first is at a label
-  module _ (k count : ℕ) (some : 0 < k) (o : Ordered n old count) (from end : ℕ) (f : FirstWith n mid count (k - 1) from) (g : FirstWith n mid count k end) where
+  module _ (k count : ℕ) (some : 0 < k) (o : Ordered n old count) (inStep : LabelsInStep R (labelsOf n old)) (from end : ℕ) (f : FirstWith n mid count (k - 1) from) (g : FirstWith n mid count k end) where
     registers-are : (i : ℕ) → i < count → registersOf n mid (orderOf n mid i) ≡ registersOf n old (orderOf n old i)
     registers-are i h = order-registers n old mid count o start-labels i h
 
@@ -88,6 +94,9 @@ module _ (R : Rules) (n : ℕ) (old mid : List ℕ) (z : Cleared n old mid) wher
           waits = λ i lo hi. omega (arith, registers-are i (omega (arith, g .within)), f .enough i lo (omega (arith, g .within)), g .fewer i hi);
           sound = λ c h t. absurd (unknown-not (cleared-seed n mid c (z .flags (n * 135 + c) (omega arith) (omega arith))) t);
           complete = λ c t h e. let x = exact-label R (labelsOf n old) k t c some e in inr (due c (x .1) (o .covered c (x .0)));
+          inStep = inStep;
+          soon = λ h. omega arith;
+          coloured = coloured-none R 0 (start-list .listed) refl;
         }
       where
         due : (c : ℕ) → suc (registersOf n old c) ≡ k → Place n old (n * 131) count c → Due n old from end c

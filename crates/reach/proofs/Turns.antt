@@ -12,17 +12,19 @@ use Rattle.budget.specs.Table.{layer}
 use Rattle.budget.specs.Done.{NotAfter, Labels, Lawful}
 use Rattle.budget.specs.Search.{IdleUntil}
 use Rattle.budget.specs.Emission.{exactSeed, Reaches}
+use Rattle.budget.specs.Colours.{InStep}
 use Rattle.budget.proofs.Search.{same-table}
 use Rattle.budget.proofs.Reaches.{exact-view, exact-test, exact-later, reaches-layer, reaches-until}
 use Rattle.table.specs.Problem.{budgetOf, seedOf}
 use Rattle.table.specs.Layer.{Layered}
 use Rattle.table.proofs.Quiet.{quiet-layer}
 use Rattle.table.proofs.Views.{budget-kept, seeds-kept}
+use Rattle.table.proofs.Colours.{coloured-none, coloured-layer}
 use Rattle.labels.specs.Labels.{registersOf, stepsOf, labelsOf, orderOf, ArrivedAll}
 use Rattle.labels.proofs.Labels.{known-below}
 use Rattle.search.proofs.Arrivals.{active-arrived}
 use Rattle.search.proofs.Fronts.{bool-same, layer-seeds, order-same, order-steps}
-use Rattle.search.proofs.NextFront.{seed-word, word-seed, find}
+use Rattle.search.proofs.NextFront.{seed-word, word-seed, find, coloured-arrived}
 use Rattle.reach.specs.Reach.{NextSteps, Due, Reaching, Current}
 
 exact-early : (R : Rules) (m : Labels) (k u c : ℕ) → 0 < k → T (exactSeed R m k u c) → m .steps c ≤ u
@@ -94,6 +96,9 @@ module _ (R : Rules) (n k : ℕ) (old : List ℕ) (count : ℕ) where
             waits = f .waits;
             sound = λ c h t. exact-more R m k u (u + 1) c (omega arith) (f .sound c h (rw (seeds-kept n words new (l .rest) c) at t));
             complete = λ c t h e. rw (seeds-kept n words new (l .rest) c) (f .complete c t h e);
+            inStep = f .inStep;
+            soon = λ h. omega (arith, g .late h);
+            coloured = rw (add-one u) (coloured-layer l (f .coloured));
           }
 
       -- with no active cell a layer changes nothing
@@ -137,6 +142,9 @@ module _ (R : Rules) (n k : ℕ) (old : List ℕ) (count : ℕ) where
               waits = f .waits;
               sound = λ c i s. exact-more R m k u t c (omega (arith, leap-forth)) (f .sound c i s);
               complete = f .complete;
+              inStep = f .inStep;
+              soon = first;
+              coloured = coloured-none R t (f .list .listed) none;
             }
 
   -- labels whose steps have come become seeds
@@ -160,10 +168,23 @@ module _ (R : Rules) (n k : ℕ) (old : List ℕ) (count : ℕ) where
                 waits = λ i lo hi. f .waits i (omega (arith, a .arrived .forth)) hi;
                 sound = λ c h t. sound c h t (find n words c at to);
                 complete = λ c t h e. complete c h (f .complete c t h e);
+                inStep = f .inStep;
+                soon = λ h. omega (arith, later h);
+                coloured = coloured-arrived (f .coloured) comes (a .arrived);
               };
-          late = λ h. omega (arith, a .late h, steps-are words u active at end f to h);
+          late = later;
         }
       where
+        later : to < end → u < stepsOf n old (orderOf n old to)
+        later h = omega (arith, a .late h, steps-are words u active at end f to h)
+
+        -- a label that arrives has just u steps
+        comes : (i : ℕ) → at ≤ i → i < to → InStep R u (orderOf n words i)
+        comes i lo hi =
+            let b : i < end = in-end i hi in
+            let e : stepsOf n old (orderOf n old i) ≡ u = omega (arith, a .arrived .inTime i lo hi, steps-are words u active at end f i b, f .soon (omega arith), sorted words u active at end f i lo b) in
+            rw (order-is words u active at end f i b) (rw e at (f .inStep (orderOf n old i) (f .ordered .known i (omega (arith, f .endCount)))))
+
         sound : (c : ℕ) → c < n → T (seedOf n new c) → ((i : ℕ) × (at ≤ i) × (i < to) × (orderOf n words i ≡ c)) ⊎ ((i : ℕ) → at ≤ i → i < to → orderOf n words i ≡ c → ⊥) → T (exactSeed R m k u c)
         sound c h t (inl p) =
             let b : p .0 < end = in-end (p .0) (p .2) in

@@ -9,9 +9,11 @@ use lib.ListN.{length, getD}
 use Rattle.rules.specs.Rules.{Rules}
 use Rattle.budget.specs.Table.{Represents, RepresentsRow}
 use Rattle.budget.specs.Emission.{exactSeed, Reaches}
+use Rattle.budget.specs.Colours.{LabelsInStep}
 use Rattle.rows.specs.Words.{Kept, KeptFrom}
-use Rattle.table.specs.Problem.{Ready, Room, budgetOf, seedOf}
+use Rattle.table.specs.Problem.{rulesFor, Ready, Room, budgetOf, seedOf}
 use Rattle.table.specs.Layer.{Active}
+use Rattle.table.specs.Colours.{Coloured}
 use Rattle.table.specs.declared.problem.Problem.{Problem}
 use Rattle.reach.specs.declared.Layers.{Layers}
 use Rattle.labels.specs.Labels.{registersOf, stepsOf, labelsOf, orderOf, Ordered}
@@ -57,6 +59,10 @@ pub record Reaching (R : Rules) (n k : ℕ) (old words : List ℕ) (u active at 
   pub waits : (i : ℕ) → at ≤ i → i < end → suc (registersOf n old (orderOf n old i)) ≡ k
   pub sound : (c : ℕ) → c < n → T (seedOf n words c) → T (exactSeed R (labelsOf n old) k u c)
   pub complete : (c t : ℕ) → c < n → T (exactSeed R (labelsOf n old) k t c) → T (seedOf n words c) ⊎ Due n old at end c
+  -- the labels that wait have u steps or more, and the active cells are u steps from the source
+  pub inStep : LabelsInStep R (labelsOf n old)
+  pub soon : at < end → u ≤ stepsOf n old (orderOf n old at)
+  pub coloured : Coloured R n u words
 
 -- and every label that waits has more steps than u
 pub record Current (R : Rules) (n k : ℕ) (old words : List ℕ) (u active at end count : ℕ) : Type 0 where
@@ -67,6 +73,7 @@ pub record SpanAsks (p : Problem) (marks : List ℕ) (count : ℕ) (words : List
   pub ready : Ready p marks
   pub room : Room (length marks) words
   pub ordered : Ordered (length marks) words count
+  pub inStep : LabelsInStep (rulesFor p marks) (labelsOf (length marks) words)
 
 -- before the first call of `load_layer`
 abbrev pub noLayers : Layers
@@ -80,6 +87,7 @@ pub record LoadAsks (p : Problem) (marks : List ℕ) (count : ℕ) (words : List
   pub ready : Ready p marks
   pub room : Room (length marks) words
   pub held : Held (length marks) count words layers
+  pub inStep : LabelsInStep (rulesFor p marks) (labelsOf (length marks) words)
 
 -- After `load_layer`: the rows of the cells that a wire joins to `cell` are those of the span's table; the labels and the words past the scratch stay.
 pub record Loaded (R : Rules) (n count cell registers steps : ℕ) (old new : List ℕ) (layers : Layers) : Type 0 where

@@ -22,9 +22,10 @@ use Rattle.rows.specs.Words.{Kept}
 use Rattle.table.specs.Problem.{budgetOf, seedOf}
 use Rattle.table.specs.Layer.{Layered}
 use Rattle.table.proofs.Views.{seeds-kept}
+use Rattle.table.proofs.Colours.{coloured-none}
 use Rattle.labels.specs.Labels as labels
 use Rattle.labels.specs.Labels.{knownOf, registersOf, stepsOf, labelsOf, orderOf, Ordered}
-use Rattle.labels.proofs.Labels.{known-below, known-kept, label-kept, labelled-kept, ordered-count, ordered-kept, late-all}
+use Rattle.labels.proofs.Labels.{known-below, known-kept, label-kept, labelled-kept, ordered-count, ordered-kept, steps-ascend}
 use Rattle.search.specs.Front.{total, Waiting, Front}
 use Rattle.search.proofs.Total.{total-least, total-grows}
 
@@ -56,6 +57,11 @@ module _ (n : ℕ) (old new : List ℕ) (count : ℕ) (o : Ordered n old count) 
       rw (order-same i h)
       (label-kept n old new (λ k lo hi. kept k lo (omega arith)) (orderOf n old i) (o .cells i h) .steps)
 
+-- the labels that wait ascend by steps
+pub waiting-ascend : {R : Rules} {n : ℕ} {words : List ℕ} {k s active at end count : ℕ} → Waiting R n words k s active at end count → (i : ℕ) → at ≤ i → i < end → stepsOf n words (orderOf n words at) ≤ stepsOf n words (orderOf n words i)
+waiting-ascend {at = at} w i lo hi =
+    steps-ascend (w .ordered) at i lo (omega (arith, w .endCount)) (omega (arith, w .waits at (omega arith) (omega arith), w .waits i lo hi))
+
 module _ (R : Rules) (law : Lawful R) (n : ℕ) (cells : R .cellCount ≡ n) where
   -- the seed flags are the seeds by the labels
   module _ (words : List ℕ) (k s active at end count : ℕ) (f : Front R n words k s active at end count) where
@@ -74,8 +80,7 @@ module _ (R : Rules) (law : Lawful R) (n : ℕ) (cells : R .cellCount ≡ n) whe
         too-late : at ≤ p .at → p .at < end → NotAfter (suc (registersOf n words c)) (stepsOf n words c) k s → ⊥
         too-late lo hi (inl h) = omega (arith, w .waits (p .at) lo hi, registers-are)
         too-late lo hi (inr h) =
-            let x : s < stepsOf n words (orderOf n words (p .at)) = late-all (w .ordered) s at (p .at) lo (p .below) (omega (arith, w .waits at (omega arith) (omega arith), w .waits (p .at) lo hi)) (f .late (omega arith)) in
-            omega (arith, steps-are)
+            omega (arith, steps-are, waiting-ascend w (p .at) lo hi, f .late (omega arith))
 
         own-wave : end ≤ p .at → NotAfter (suc (registersOf n words c)) (stepsOf n words c) k s → ⊥
         own-wave lo (inl h) = omega (arith, w .own (p .at) lo (p .below), registers-are)
@@ -159,12 +164,17 @@ module _ (R : Rules) (law : Lawful R) (n : ℕ) (cells : R .cellCount ≡ n) whe
                     atEnd = w .atEnd;
                     endCount = w .endCount;
                     waves = w .waves;
+                    soon = λ h. omega (arith, later h);
+                    coloured = coloured-none R s (l .active .listed) none;
                     stepsLow = omega (arith, w .stepsLow, same-total);
                     labelsLow = λ c t. labels-low c (rw (known-kept n words new (λ i lo hi. l .labels i lo (omega arith)) c) at t);
                   };
-              late = λ h. rw (order-steps n words new count (w .ordered) (l .labels) at (omega (arith, w .endCount))) (f .late h);
+              late = later;
             }
           where
+            later : at < end → s < stepsOf n new (orderOf n new at)
+            later h = rw (order-steps n words new count (w .ordered) (l .labels) at (omega (arith, w .endCount))) (f .late h)
+
             seeds : (c : ℕ) → c < n → T (seedOf n words c) → (c ≡ R .source) ⊎ Place n new (n * 131) at c
             seeds c h t = go (w .seeds c h t)
               where
@@ -195,17 +205,13 @@ module _ (R : Rules) (law : Lawful R) (n : ℕ) (cells : R .cellCount ≡ n) whe
               early (inl q) = absurd (omega (arith, label-at c p))
               early (inr q) = omega (arith, label-at c p)
 
-              sorted : NotAfter (registersOf n words (orderOf n words at)) (stepsOf n words (orderOf n words at)) (registersOf n words (orderOf n words (p .at))) (stepsOf n words (orderOf n words (p .at))) → at ≤ p .at → p .at < end → stepsOf n words (orderOf n words at) ≤ stepsOf n words c
-              sorted (inl q) lo hi = absurd (omega (arith, w .waits at (omega arith) h, w .waits (p .at) lo hi))
-              sorted (inr q) lo hi = omega (arith, label-at c p)
-
               pick : (at ≤ p .at) ⊎ (p .at < at) → (end ≤ p .at) ⊎ (p .at < end) → (stepsOf n words c ≤ s) ⊎ (stepsOf n words (orderOf n words at) ≤ stepsOf n words c)
               pick (inr q) z = inl (early (w .past (p .at) q))
-              pick (inl q) (inr z) = inr (sorted (w .ordered .ascending at (p .at) q (p .below)) q z)
+              pick (inl q) (inr z) = inr (omega (arith, waiting-ascend w (p .at) q z, label-at c p))
               pick (inl q) (inl z) = absurd (omega (arith, w .own (p .at) z (p .below), label-at c p))
 
-      pub pending-front : at < end → Waiting R n words k (stepsOf n words (orderOf n words at)) active at end count
-      pending-front h =
+      pub pending-front : active ≡ 0 → at < end → Waiting R n words k (stepsOf n words (orderOf n words at)) active at end count
+      pending-front none h =
           record {
             searching = pending-turn R law (w .searching) (stepsOf n words (orderOf n words at)) quiet (omega (arith, f .late h)) (idle h);
             list = w .list;
@@ -219,6 +225,8 @@ module _ (R : Rules) (law : Lawful R) (n : ℕ) (cells : R .cellCount ≡ n) whe
             atEnd = w .atEnd;
             endCount = w .endCount;
             waves = w .waves;
+            soon = λ g. omega arith;
+            coloured = coloured-none R (stepsOf n words (orderOf n words at)) (w .list .listed) none;
             stepsLow = w .labelsLow (orderOf n words at) (w .ordered .known at (omega (arith, w .endCount)));
             labelsLow = w .labelsLow;
           }
@@ -250,8 +258,8 @@ module _ (R : Rules) (law : Lawful R) (n : ℕ) (cells : R .cellCount ≡ n) whe
           pick (inl z) = z
           pick (inr z) = absurd (never (w .past (p .at) (omega arith)))
 
-      pub wave-front : at ≡ end → end < count → Waiting R n words (suc k) (stepsOf n words (orderOf n words at)) active at count count
-      wave-front e h =
+      pub wave-front : active ≡ 0 → at ≡ end → end < count → Waiting R n words (suc k) (stepsOf n words (orderOf n words at)) active at count count
+      wave-front none e h =
           record {
             searching = wave-turn R law (w .searching) (stepsOf n words (orderOf n words at)) quiet (none-waits e) first;
             list = w .list;
@@ -265,6 +273,8 @@ module _ (R : Rules) (law : Lawful R) (n : ℕ) (cells : R .cellCount ≡ n) whe
             atEnd = omega arith;
             endCount = omega arith;
             waves = omega (arith, w .waves);
+            soon = λ g. omega arith;
+            coloured = coloured-none R (stepsOf n words (orderOf n words at)) (w .list .listed) none;
             stepsLow = w .labelsLow (orderOf n words at) (w .ordered .known at (omega arith));
             labelsLow = w .labelsLow;
           }

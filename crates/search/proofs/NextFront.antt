@@ -12,22 +12,26 @@ use Rattle.rules.specs.Legal.{mayStand}
 use Rattle.plan.proofs.Truth.{split, equal, decided, eq→eqb}
 use Rattle.budget.specs.Done.{NotAfter, Done, Lawful}
 use Rattle.budget.specs.Search.{Relabelled}
+use Rattle.budget.specs.Colours.{InStep}
 use Rattle.budget.proofs.Done.{not-after-trans}
 use Rattle.budget.proofs.Search.{same-table}
 use Rattle.budget.proofs.Turns.{search-start, layer-turn}
+use Rattle.budget.proofs.Colours.{source-in-step, label-in-step}
 use Rattle.lists.specs.Lists.{flagOf, Place}
 use Rattle.lists.proofs.Lists.{bit-cases, listed-kept}
 use Rattle.rows.specs.Words.{Kept}
 use Rattle.table.specs.Problem.{budgetOf, seedOf}
 use Rattle.table.specs.Layer.{Active, Layered}
+use Rattle.table.specs.Colours.{Coloured}
 use Rattle.table.proofs.Views.{budget-kept, budget-outside, seeds-kept}
-use Rattle.labels.specs.Labels.{knownOf, registersOf, stepsOf, labelsOf, orderOf, Planted, ArrivedAll}
+use Rattle.table.proofs.Colours.{coloured-none, coloured-kept, coloured-layer}
+use Rattle.labels.specs.Labels.{knownOf, registersOf, stepsOf, labelsOf, orderOf, Planted, Arrived, ArrivedAll}
 use Rattle.labels.specs.Additions.{LabelsAdded}
 use Rattle.labels.proofs.Labels.{known-below, known-kept, label-kept, labelled-kept, ordered-kept, ordered-none, word-unknown, unknown-not}
 use Rattle.search.specs.Front.{total, Waiting, Front}
 use Rattle.search.proofs.Total.{total-kept}
 use Rattle.search.proofs.Arrivals.{active-kept, active-planted, active-arrived, cleared-table, cleared-active}
-use Rattle.search.proofs.Fronts.{order-same, order-registers, order-steps, front-next, front-grows}
+use Rattle.search.proofs.Fronts.{order-same, order-registers, order-steps, waiting-ascend, front-next, front-grows}
 
 pub seed-word : (n : ℕ) (words : List ℕ) (c : ℕ) → T (seedOf n words c) → getD words (n * 135 + c) 0 ≡ 1
 unfolding seedOf
@@ -51,6 +55,22 @@ find n words c at (suc end) = go (find n words c at end) (equal (orderOf n words
         pick : (i : ℕ) → at ≤ i → i < suc end → orderOf n words i ≡ c → (i ≡ end) ⊎ (i ≡ end → ⊥) → ⊥
         pick i lo hi q (inl e) = g (rw e at q)
         pick i lo hi q (inr e) = f i lo (omega arith) q
+
+-- the active cells stay of one colour when cells of it join them
+module _ {R : Rules} {n s : ℕ} {old new : List ℕ} (k : Coloured R n s old) where
+  pub coloured-planted : {cell active : ℕ} → InStep R s cell → Planted n cell old new active → Coloured R n s new
+  coloured-planted {cell} i p = record { inStep = λ c h f. go c h f (equal c cell) }
+    where
+      go : (c : ℕ) → c < n → flagOf n new c ≡ 1 → (c ≡ cell) ⊎ (c ≡ cell → ⊥) → InStep R s c
+      go c h f (inl e) = rw e i
+      go c h f (inr e) = k .inStep c h (omega (arith, p .others c h e))
+
+  pub coloured-arrived : {from to steps active : ℕ} → ((i : ℕ) → from ≤ i → i < to → InStep R s (orderOf n old i)) → Arrived n from to steps old new active → Coloured R n s new
+  coloured-arrived {from} {to} come a = record { inStep = λ c h f. go c h f (find n old c from to) }
+    where
+      go : (c : ℕ) → c < n → flagOf n new c ≡ 1 → ((i : ℕ) × (from ≤ i) × (i < to) × (orderOf n old i ≡ c)) ⊎ ((i : ℕ) → from ≤ i → i < to → orderOf n old i ≡ c → ⊥) → InStep R s c
+      go c h f (inl p) = rw (p .3) at (come (p .0) (p .1) (p .2))
+      go c h f (inr none) = k .inStep c h (omega (arith, a .otherFlags c h none))
 
 -- the layer grew, and its new labels are set
 module _ (R : Rules) (law : Lawful R) (n : ℕ) (cells : R .cellCount ≡ n) (words : List ℕ) (k s active at end count : ℕ) (f : Front R n words k s active at end count) (new : List ℕ) (next : ℕ) (l : Layered R n words new next) (some : 0 < next) (last : List ℕ) (count′ : ℕ) (added : LabelsAdded R n k (suc s) new last count count′) where
@@ -135,6 +155,8 @@ module _ (R : Rules) (law : Lawful R) (n : ℕ) (cells : R .cellCount ≡ n) (wo
         atEnd = w .atEnd;
         endCount = omega (arith, w .endCount, added .more);
         waves = w .waves;
+        soon = λ h. omega (arith, steps-last at (omega (arith, w .endCount)), f .late h);
+        coloured = coloured-kept (coloured-layer l (w .coloured)) last (λ c h o. omega (arith, added .high (n * 134 + c) (omega arith)));
         stepsLow = omega (arith, w .stepsLow, total-last);
         labelsLow = λ c t. low c t (decided (knownOf n words c));
       }
@@ -187,12 +209,23 @@ module _ (R : Rules) (n : ℕ) (inPlan : R .source < n) (words : List ℕ) (k s 
               atEnd = a .within;
               endCount = w .endCount;
               waves = w .waves;
+              soon = λ h. omega (arith, later h);
+              coloured = coloured-arrived (w .coloured) (λ i lo hi. in-step i lo hi) (a .arrived);
               stepsLow = omega (arith, w .stepsLow, total-kept n words new (λ i lo hi. low i (omega arith)));
               labelsLow = λ c t. labels-low c (rw (known-kept n words new (λ i lo hi. low i (omega arith)) c) at t);
             };
-        late = λ h. rw (order-steps n words new count (w .ordered) labels-kept to (omega (arith, w .endCount))) (a .late h);
+        late = later;
       }
     where
+      later : to < end → s < stepsOf n new (orderOf n new to)
+      later h = rw (order-steps n words new count (w .ordered) labels-kept to (omega (arith, w .endCount))) (a .late h)
+
+      -- a label that arrives has just s steps
+      in-step : (i : ℕ) → at ≤ i → i < to → InStep R s (orderOf n words i)
+      in-step i lo hi =
+          let e : stepsOf n words (orderOf n words i) ≡ s = omega (arith, a .arrived .inTime i lo hi, w .soon (omega (arith, a .within)), waiting-ascend w i lo (omega (arith, a .within))) in
+          rw e at (label-in-step (w .searching .labels) (orderOf n words i) (w .ordered .known i (omega (arith, a .within, w .endCount))))
+
       before : (i : ℕ) → i < to → i < count
       before i h = omega (arith, a .within, w .endCount)
 
@@ -246,6 +279,8 @@ module _ (R : Rules) (n : ℕ) (inPlan : R .source < n) (words : List ℕ) (zero
               atEnd = omega arith;
               endCount = omega arith;
               waves = omega arith;
+              soon = λ h. absurd (omega arith);
+              coloured = coloured-planted (coloured-none R 0 (start-active .listed) refl) source-in-step p;
               stepsLow = omega arith;
               labelsLow = λ c t. absurd (unknown c t);
             };

@@ -65,12 +65,12 @@ module _ (R : Rules) (law : Lawful R) (n : ℕ) (cells : R .cellCount ≡ n) whe
           go (inl a) (inr b) =
               let h : f .end < f .count = omega (arith, front .waiting .endCount) in
               rw (e ∙ quiet-wave n new f a b)
-              (TurnDone.on _ (rw (← add-one) at (wave-front R law n cells new k s 0 (f .at) (f .end) (f .count) front′ quiet a h))
+              (TurnDone.on _ (rw (← add-one k) at (wave-front R law n cells new k s 0 (f .at) (f .end) (f .count) front′ quiet refl a h))
               (Advance.comes same-total refl (omega arith) (omega arith)))
           go (inr a) b =
               let h : f .at < f .end = omega (arith, front .waiting .atEnd) in
               rw (e ∙ quiet-pending n new f a)
-              (TurnDone.on _ (pending-front R law n cells new k s 0 (f .at) (f .end) (f .count) front′ quiet h) (Advance.comes same-total refl h (omega arith)))
+              (TurnDone.on _ (pending-front R law n cells new k s 0 (f .at) (f .end) (f .count) front′ quiet refl h) (Advance.comes same-total refl h (omega arith)))
 
     pub turn-sink : R .start .delay < budgetOf n new (R .sink) (R .start .load) → TurnEffect R n words f new (Turn.Sink k (s + 1) (f .count))
     turn-sink h =

@@ -11,6 +11,7 @@ use Rattle.budget.specs.Search.{Searching}
 use Rattle.lists.specs.Lists.{sumBelow, Place}
 use Rattle.table.specs.Problem.{budgetOf, seedOf}
 use Rattle.table.specs.Layer.{Active}
+use Rattle.table.specs.Colours.{Coloured}
 use Rattle.labels.specs.Labels.{knownOf, registersOf, stepsOf, labelsOf, orderOf, Ordered}
 
 -- the sum of the budget table; every layer that changes it raises it
@@ -31,6 +32,9 @@ pub record Waiting (R : Rules) (n : ℕ) (words : List ℕ) (k s active at end c
   pub atEnd : at ≤ end
   pub endCount : end ≤ count
   pub waves : k ≤ end
+  -- the labels that wait have s steps or more, and the active cells are s steps from the source
+  pub soon : at < end → s ≤ stepsOf n words (orderOf n words at)
+  pub coloured : Coloured R n s words
   pub stepsLow : s ≤ total n words
   pub labelsLow : (c : ℕ) → T (knownOf n words c) → stepsOf n words c ≤ total n words
 

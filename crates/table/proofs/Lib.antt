@@ -6,3 +6,4 @@ pub mod Offers
 pub mod Spreads
 pub mod WholeLayer
 pub mod Quiet
+pub mod Colours

@@ -20,6 +20,8 @@ use Rattle.trail.proofs.History.{sound-kept, history-kept}
 use Rattle.table.specs.declared.pushes.Grown.{Grown}
 use Rattle.table.specs.Problem.{budgetOf, seedOf}
 use Rattle.table.specs.Layer.{arrivalsOf, Settled, ActiveIn, Grew, SameRow, ArrivalsFilled, Raised, SpreadAll, Layered}
+use Rattle.table.specs.Colours.{Giver}
+use Rattle.table.proofs.Colours.{pushes-giver}
 use Rattle.table.proofs.Fills.{filled-row}
 use Rattle.table.proofs.Views.{budget-kept, seeds-kept}
 
@@ -113,6 +115,11 @@ module _ (R : Rules) (n : ℕ) (t : Trail) (old mid pushed new : List ℕ) (acti
     seeds : Kept (n * 135) (n * 136) old new
     seeds i lo hi = taken .high i (omega arith) ∙ (spread .raised .seeds i lo hi ∙ filled .rest i lo)
 
+    giver : (c : ℕ) → c < n → flagOf n new c ≡ 1 → Giver R n old c
+    giver c h f =
+        let g = grew c h f in
+        pushes-giver R n t old mid pushed active next start same-list spread c (g .load) (omega (arith, g .more, same-budget c (g .load), final-budget c (g .load)))
+
     -- the arrival rows and the new list leave the table and the trail
     history : (u : ℕ) (Z : ℕ → Table) → u < t .stamp → History n old t u Z → History n new (next .trail) u Z
     history u Z below past =
@@ -145,4 +152,5 @@ module _ (R : Rules) (n : ℕ) (t : Trail) (old mid pushed new : List ℕ) (acti
           room = spread .follows .room;
           stamp = spread .follows .stamp;
           history = history;
+          giver = giver;
         }

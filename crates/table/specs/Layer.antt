@@ -18,6 +18,7 @@ use Rattle.trail.specs.Trail.{Sound, History, Noted}
 use Rattle.timing.specs.Ranges.{loadMax}
 use Rattle.timing.specs.Elements.{WireInRange}
 use Rattle.table.specs.Problem.{Ready, Room, budgetOf, seedOf}
+use Rattle.table.specs.Colours.{Giver}
 use Rattle.table.specs.declared.problem.Problem.{Problem}
 use Rattle.table.specs.declared.pushes.Grown.{Grown}
 
@@ -152,3 +153,5 @@ pub record Layered (R : Rules) (n : ℕ) (t : Trail) (old new : List ℕ) (next 
   pub room : next .trail .room ≡ t .room
   pub stamp : next .trail .stamp ≡ t .stamp
   pub history : (u : ℕ) (Z : ℕ → Table) → u < t .stamp → History n old t u Z → History n new (next .trail) u Z
+  -- where what a cell has got came from
+  pub giver : (c : ℕ) → c < n → flagOf n new c ≡ 1 → Giver R n old c

@@ -1,3 +1,4 @@
 pub mod Problem
 pub mod ArrivalRow
 pub mod Layer
+pub mod Colours

@@ -8,6 +8,7 @@ use lib.Dec.{T}
 use lib.ListN.{length, set}
 use Rattle.rules.specs.Rules.{Rules, registerCode, rulesOf}
 use Rattle.timing.specs.Formulas.{registerLoad, setupDelay}
+use Rattle.budget.proofs.Colours.{label-in-step}
 use Rattle.table.specs.Problem.{rulesFor, budgetOf}
 use Rattle.table.proofs.Spreads.{few-cells}
 use Rattle.labels.specs.Labels.{labelsOf}
@@ -72,7 +73,7 @@ sub-load-layer c = omega (arith, c .before .before .if1 .taken)
 load-layer-requires : tie.Need-load-layer-requires Inv-loop μ-loop
 load-layer-requires c κs =
     let a = c .before .before .before .before in
-    record { ready = start a .pre .ready; room = omega (arith, start a .pre .room, head a .same); held = head a .held }
+    record { ready = start a .pre .ready; room = omega (arith, start a .pre .room, head a .same); held = head a .held; inStep = label-in-step (head a .labels) }
 
 choose-requires : tie.Need-choose-requires Inv-loop μ-loop
 choose-requires c κs =

@@ -64,7 +64,7 @@ middle j old g =
 start-span-requires : tie.Need-start-span-requires Inv-loop μ-loop
 start-span-requires c κs =
     let pre = c .before .before .before .pre in
-    record { ready = pre .ready; room = pre .room; ordered = pre .held .ordered }
+    record { ready = pre .ready; room = pre .room; ordered = pre .held .ordered; inStep = pre .inStep }
 
 loop-holds : tie.Need-loop-holds Inv-loop μ-loop
 loop-holds c = (omega arith, λ old f. f)

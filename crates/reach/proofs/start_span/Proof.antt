@@ -31,7 +31,7 @@ unfolding rulesFor rulesOf
 returns c =
     let s = c .before .before .before .before .before .before .before .before .before .before .before in
     let zero : s .args .registers ≡ 0 = c .before .before .before .before .if1 .taken in
-    rw zero (source-start (rulesFor (s .args .p) (s .args .plan .now)) _ _ _ (c .before .before .before .before .before .before .before .clear-span .ensures) _ (s .pre .ordered) (s .pre .ready .source) _ _ (c .before .before .plant .ensures))
+    rw zero (source-start (rulesFor (s .args .p) (s .args .plan .now)) _ _ _ (c .before .before .before .before .before .before .before .clear-span .ensures) _ (s .pre .ordered) (s .pre .inStep) (s .pre .ready .source) _ _ (c .before .before .plant .ensures))
 
 sub-first-with : tie.Need-sub-first-with
 sub-first-with c = search needs
@@ -57,7 +57,7 @@ arrive-requires c κs =
     let g = c .before .first-with2 .ensures in (
       start-list (rulesFor (s .args .p) (s .args .plan .now)) _ _ _ z .listed,
       (
-        from-end (rulesFor (s .args .p) (s .args .plan .now)) _ _ _ z _ _ (omega (arith, c .before .before .before .before .before .if1 .left)) (s .pre .ordered) _ _ f g,
+        from-end (rulesFor (s .args .p) (s .args .plan .now)) _ _ _ z _ _ (omega (arith, c .before .before .before .before .before .if1 .left)) (s .pre .ordered) (s .pre .inStep) _ _ f g,
         (
           omega (arith, g .within, ordered-count (s .pre .ordered)),
           (λ i h. o .cells i (omega (arith, g .within)), (few-cells _ _ (s .pre .ready), omega (arith, s .pre .room, z .same))),
@@ -74,7 +74,7 @@ returns-2 c =
     let z = c .before .before .before .before .before .before .before .before .before .before .before .clear-span .ensures in
     let R = rulesFor (s .args .p) (s .args .plan .now) in
     arrive-turn R _ _ _ _ _ _ _ _ _
-    (labels-start R _ _ _ z _ _ (omega (arith, c .before .before .before .before .before .before .before .before .if1 .left)) (s .pre .ordered) _ _ (c .before .before .before .before .before .before .first-with .ensures) (c .before .before .before .before .first-with2 .ensures)) _ _ _ (c .before .before .arrive .ensures)
+    (labels-start R _ _ _ z _ _ (omega (arith, c .before .before .before .before .before .before .before .before .if1 .left)) (s .pre .ordered) (s .pre .inStep) _ _ (c .before .before .before .before .before .before .first-with .ensures) (c .before .before .before .before .first-with2 .ensures)) _ _ _ (c .before .before .arrive .ensures)
 
 pub start-span-spec : {M : Type 1} → statement M
 start-span-spec =

@@ -1,0 +1,51 @@
+-- A legal ending of s steps, and so a label of s steps, is on a cell of the colour that s steps from the source lead to.
+use Prim.Native.Nat.{ℕ, suc}
+use native.Mathlib.Omega.{arith}
+use lib.Dec.{T}
+use lib.ListN.{length}
+use Rattle.plan.specs.Plan.{Plan}
+use Rattle.plan.proofs.Joined.{diagonal, joined-odd}
+use Rattle.timing.specs.declared.elements.Elements.{Elements}
+use Rattle.rules.specs.Rules.{Stage, Rules, rulesOf}
+use Rattle.rules.specs.Legal.{Route}
+use Rattle.rules.proofs.Document01.{rules-linked}
+use Rattle.rules.proofs.View.{Ending, ending-view}
+use Rattle.budget.specs.Done.{stage, Least, Labels, Labelled}
+use Rattle.budget.specs.Colours.{Colouring, InStep, LabelsInStep}
+use Rattle.budget.proofs.Emission.{least-exact}
+
+-- Document 01's rules have the chessboard's colouring.
+pub rules-colouring : (p : Plan) (e : Elements) (from to : ℕ) → Colouring (rulesOf p e from to)
+rules-colouring p e from to =
+    record {
+      colour = diagonal p;
+      differs = λ c d h. joined-odd p c d (rw (rules-linked p e from to c d) at h);
+    }
+
+module _ {R : Rules} where
+  pub source-in-step : InStep R 0 (R .source)
+  source-in-step = record { even = λ K. omega arith }
+
+  -- one step more
+  pub linked-in-step : {s d : ℕ} (c : ℕ) → T (R .linked c d) → InStep R s d → InStep R (suc s) c
+  linked-in-step {s} {d} c h i = record { even = λ K. omega (arith, K .differs c d h, i .even K) }
+
+  -- cells that are as many steps away are not linked
+  pub same-apart : Colouring R → {s c d : ℕ} → InStep R s c → InStep R s d → T (R .linked c d) → ⊥
+  same-apart K {s} {c} {d} i j h = omega (arith, K .differs c d h, i .even K, j .even K)
+
+  pub ending-in-step : {c i : ℕ} {st : Stage} {vs : Route} → Ending R c i st vs → InStep R (length vs) c
+  ending-in-step {c} (Ending.ends {v = v} h) =
+      let i : InStep R 0 (v .cell) = rw (h .atSource) source-in-step in
+      linked-in-step c (h .reached .wired) i
+  ending-in-step {c} (Ending.passes h e) = linked-in-step c (h .reached .wired) (ending-in-step e)
+  ending-in-step {c} (Ending.buffers h e) = linked-in-step c (h .reached .wired) (ending-in-step e)
+  ending-in-step {c} (Ending.closes h e) = linked-in-step c (h .reached .wired) (ending-in-step e)
+
+  pub least-in-step : {r t c l d : ℕ} → Least R r t c l d → InStep R t c
+  least-in-step {c = c} {l = l} {d = d} m =
+      let e = m .enough in
+      rw (least-exact m (e .route) (e .ending) (e .within) .1) at (ending-in-step (ending-view R c 0 (stage l d) (e .route) (e .ending)))
+
+  pub label-in-step : {k s : ℕ} {m : Labels} → Labelled R k s m → LabelsInStep R m
+  label-in-step m c t = least-in-step (m .least c t)
