@@ -18,7 +18,6 @@ use Rattle.rows.specs.Words.{Filled}
 use Rattle.rows.specs.Rows.{pushed, RowGrows}
 use Rattle.rows.proofs.Words.{filled-none, filled-longer}
 use Rattle.lists.specs.Lists.{flagOf, Enlisted}
-use Rattle.lists.proofs.Lists.{listed-kept}
 use Rattle.table.specs.Problem.{budgetOf}
 use Rattle.table.specs.Layer.{arrivalsOf, Grew, SameRow, Offered, OfferAsks}
 use Rattle.table.proofs.Views.{budget-at, budget-outside, budget-kept, arrivals-at, inside}
