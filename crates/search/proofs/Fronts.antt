@@ -20,6 +20,8 @@ use Rattle.lists.specs.Lists.{Place}
 use Rattle.lists.proofs.Lists.{empty-flags}
 use Rattle.rows.specs.Words.{Kept}
 use Rattle.table.specs.Problem.{budgetOf, seedOf}
+use Rattle.trail.specs.Trail.{noTrail}
+use Rattle.table.specs.declared.pushes.Grown.{Grown}
 use Rattle.table.specs.Layer.{Layered}
 use Rattle.table.proofs.Views.{seeds-kept}
 use Rattle.table.proofs.Colours.{coloured-none}
@@ -109,7 +111,7 @@ module _ (R : Rules) (law : Lawful R) (n : ℕ) (cells : R .cellCount ≡ n) whe
         back (inr a) = place-seed c (w .ordered .covered c (a .known)) a
 
     -- the layer on the words is the layer of the search
-    module _ (new : List ℕ) (next : ℕ) (l : Layered R n words new next) where
+    module _ (new : List ℕ) (next : Grown) (l : Layered R n noTrail words new next) where
       pub front-next : Next R (labelsOf n words) k s (budgetOf n words) (budgetOf n new)
       front-next c d =
           l .table (w .list) c (λ x t. tt) d ∙ layer-seeds R (seedOf n words) (seedAt R (labelsOf n words) k s) (R .bound 0) (budgetOf n words) (λ x h. front-seeds x (omega arith)) c d
@@ -118,7 +120,7 @@ module _ (R : Rules) (law : Lawful R) (n : ℕ) (cells : R .cellCount ≡ n) whe
       front-least c d = omega (arith, l .table (w .list) c (λ x t. tt) d, layer-least R (seedOf n words) (R .bound 0) (budgetOf n words) c d)
 
       -- a layer that lists a cell has raised the table
-      pub front-grows : 0 < next → total n words < total n new
+      pub front-grows : 0 < next .count → total n words < total n new
       front-grows h =
           total-grows n words new front-least (getD new (n * 132 + 0) 0)
           (l .grew (getD new (n * 132 + 0) 0) (l .listed .cells 0 h) (l .listed .flagged 0 h))
@@ -131,7 +133,7 @@ module _ (R : Rules) (law : Lawful R) (n : ℕ) (cells : R .cellCount ≡ n) whe
       new-order = ordered-kept (w .ordered) new (λ i lo hi. l .labels i lo hi)
 
       -- a layer that lists no cell changed nothing
-      module _ (none : next ≡ 0) where
+      module _ (none : next .count ≡ 0) where
         pub still : (c d : ℕ) → budgetOf n new c d ≡ budgetOf n words c d
         still c d = go (split n c)
           where
@@ -142,7 +144,7 @@ module _ (R : Rules) (law : Lawful R) (n : ℕ) (cells : R .cellCount ≡ n) whe
         same-total : total n new ≡ total n words
         same-total = omega (arith, total-least n words new (λ c d. omega (arith, still c d)), total-least n new words (λ c d. omega (arith, still c d)))
 
-        pub quiet-front : Front R n new k s next at end count
+        pub quiet-front : Front R n new k s (next .count) at end count
         quiet-front =
             record {
               waiting =
@@ -155,9 +157,10 @@ module _ (R : Rules) (law : Lawful R) (n : ℕ) (cells : R .cellCount ≡ n) whe
                         };
                     list = l .active (w .list);
                     ordered = new-order;
-                    sourceSeed = rw (seeds-kept n words new (l .rest) (R .source)) (w .sourceSeed);
-                    orderSeed = λ i h. rw (seeds-kept n words new (l .rest) (orderOf n new i), order-same n words new count (w .ordered) (l .labels) i (omega (arith, w .atEnd, w .endCount))) (w .orderSeed i h);
-                    seeds = λ c h t. seeds c h (rw (seeds-kept n words new (l .rest) c) at t);
+                    sourceIn = w .sourceIn;
+                    sourceSeed = rw (seeds-kept n words new (l .seeds) (R .source) (w .sourceIn)) (w .sourceSeed);
+                    orderSeed = λ i h. rw (seeds-kept n words new (l .seeds) (orderOf n new i) (new-order .cells i (omega (arith, w .atEnd, w .endCount))), order-same n words new count (w .ordered) (l .labels) i (omega (arith, w .atEnd, w .endCount))) (w .orderSeed i h);
+                    seeds = λ c h t. seeds c h (rw (seeds-kept n words new (l .seeds) c h) at t);
                     past = λ i h. rw (order-registers n words new count (w .ordered) (l .labels) i (omega (arith, w .atEnd, w .endCount)), order-steps n words new count (w .ordered) (l .labels) i (omega (arith, w .atEnd, w .endCount))) (w .past i h);
                     waits = λ i lo hi. rw (order-registers n words new count (w .ordered) (l .labels) i (omega (arith, w .endCount))) (w .waits i lo hi);
                     own = λ i lo hi. rw (order-registers n words new count (w .ordered) (l .labels) i hi) (w .own i lo hi);
@@ -165,7 +168,7 @@ module _ (R : Rules) (law : Lawful R) (n : ℕ) (cells : R .cellCount ≡ n) whe
                     endCount = w .endCount;
                     waves = w .waves;
                     soon = λ h. omega (arith, later h);
-                    coloured = coloured-none R s (l .active .listed) none;
+                    coloured = coloured-none R s (l .listed) none;
                     stepsLow = omega (arith, w .stepsLow, same-total);
                     labelsLow = λ c t. labels-low c (rw (known-kept n words new (λ i lo hi. l .labels i lo (omega arith)) c) at t);
                   };
@@ -216,6 +219,7 @@ module _ (R : Rules) (law : Lawful R) (n : ℕ) (cells : R .cellCount ≡ n) whe
             searching = pending-turn R law (w .searching) (stepsOf n words (orderOf n words at)) quiet (omega (arith, f .late h)) (idle h);
             list = w .list;
             ordered = w .ordered;
+            sourceIn = w .sourceIn;
             sourceSeed = w .sourceSeed;
             orderSeed = w .orderSeed;
             seeds = w .seeds;
@@ -264,6 +268,7 @@ module _ (R : Rules) (law : Lawful R) (n : ℕ) (cells : R .cellCount ≡ n) whe
             searching = wave-turn R law (w .searching) (stepsOf n words (orderOf n words at)) quiet (none-waits e) first;
             list = w .list;
             ordered = w .ordered;
+            sourceIn = w .sourceIn;
             sourceSeed = w .sourceSeed;
             orderSeed = w .orderSeed;
             seeds = w .seeds;

@@ -21,6 +21,8 @@ use Rattle.lists.specs.Lists.{flagOf, Place}
 use Rattle.lists.proofs.Lists.{bit-cases, listed-kept}
 use Rattle.rows.specs.Words.{Kept}
 use Rattle.table.specs.Problem.{budgetOf, seedOf}
+use Rattle.trail.specs.Trail.{noTrail}
+use Rattle.table.specs.declared.pushes.Grown.{Grown}
 use Rattle.table.specs.Layer.{Active, Layered}
 use Rattle.table.specs.Colours.{Coloured}
 use Rattle.table.proofs.Views.{budget-kept, budget-outside, seeds-kept}
@@ -73,15 +75,15 @@ module _ {R : Rules} {n s : ℕ} {old new : List ℕ} (k : Coloured R n s old) w
       go c h f (inr none) = k .inStep c h (omega (arith, a .otherFlags c h none))
 
 -- the layer grew, and its new labels are set
-module _ (R : Rules) (law : Lawful R) (n : ℕ) (cells : R .cellCount ≡ n) (words : List ℕ) (k s active at end count : ℕ) (f : Front R n words k s active at end count) (new : List ℕ) (next : ℕ) (l : Layered R n words new next) (some : 0 < next) (last : List ℕ) (count′ : ℕ) (added : LabelsAdded R n k (suc s) new last count count′) where
+module _ (R : Rules) (law : Lawful R) (n : ℕ) (cells : R .cellCount ≡ n) (words : List ℕ) (k s active at end count : ℕ) (f : Front R n words k s active at end count) (new : List ℕ) (next : Grown) (l : Layered R n noTrail words new next) (some : 0 < next .count) (last : List ℕ) (count′ : ℕ) (added : LabelsAdded R n k (suc s) new last count count′) where
   w : Waiting R n words k s active at end count
   w = f .waiting
 
   last-table : (c d : ℕ) → budgetOf n last c d ≡ budgetOf n new c d
   last-table = budget-kept n new last (λ i lo hi. added .low i (omega arith))
 
-  last-seed : (c : ℕ) → seedOf n last c ≡ seedOf n words c
-  last-seed c = seeds-kept n new last (λ i lo. added .high i (omega arith)) c ∙ seeds-kept n words new (l .rest) c
+  last-seed : (c : ℕ) → c < n → seedOf n last c ≡ seedOf n words c
+  last-seed c h = seeds-kept n new last (λ i lo hi. added .high i (omega arith)) c h ∙ seeds-kept n words new (l .seeds) c h
 
   kept-words : (i : ℕ) → n * 128 ≤ i → i < n * 131 → getD new i 0 ≡ getD words i 0
   kept-words i lo hi = l .labels i lo (omega arith)
@@ -131,14 +133,14 @@ module _ (R : Rules) (law : Lawful R) (n : ℕ) (cells : R .cellCount ≡ n) (wo
   total-last =
       omega (arith, front-grows R law n cells words k s active at end count f new next l some, total-kept n new last (λ i lo hi. added .low i (omega arith)))
 
-  list-last : Active R n last next
+  list-last : Active R n last (next .count)
   list-last =
       active-kept R n new last (l .active (w .list))
       (listed-kept (l .listed) last (λ c h. added .high (n * 134 + c) (omega arith)) (λ i h. added .high (n * 132 + i) (omega arith)))
       (λ i q. added .low i (omega arith))
-      (λ c h t z. (t, (sym (added .high (n * 134 + c) (omega arith)) ∙ z, seeds-kept n new last (λ i lo. added .high i (omega arith)) c)))
+      (λ c h t z. (t, (sym (added .high (n * 134 + c) (omega arith)) ∙ z, seeds-kept n new last (λ i lo hi. added .high i (omega arith)) c h)))
 
-  pub grown-front : (R .start .delay < budgetOf n new (R .sink) (R .start .load) → ⊥) → Waiting R n last k (suc s) next at end count′
+  pub grown-front : (R .start .delay < budgetOf n new (R .sink) (R .start .load) → ⊥) → Waiting R n last k (suc s) (next .count) at end count′
   grown-front not-yet =
       record {
         searching =
@@ -146,9 +148,10 @@ module _ (R : Rules) (law : Lawful R) (n : ℕ) (cells : R .cellCount ≡ n) (wo
             (λ h. not-yet (omega (arith, last-table (R .sink) (R .start .load))));
         list = list-last;
         ordered = added .ordered;
-        sourceSeed = rw (last-seed (R .source)) (w .sourceSeed);
-        orderSeed = λ i h. rw (last-seed (orderOf n last i), order-last i (omega (arith, w .atEnd, w .endCount))) (w .orderSeed i h);
-        seeds = λ c h t. seeds c (w .seeds c h (rw (last-seed c) at t));
+        sourceIn = w .sourceIn;
+        sourceSeed = rw (last-seed (R .source) (w .sourceIn)) (w .sourceSeed);
+        orderSeed = λ i h. rw (last-seed (orderOf n last i) (added .ordered .cells i (omega (arith, w .atEnd, w .endCount, added .more))), order-last i (omega (arith, w .atEnd, w .endCount))) (w .orderSeed i h);
+        seeds = λ c h t. seeds c (w .seeds c h (rw (last-seed c h) at t));
         past = λ i h. past i h;
         waits = λ i lo hi. rw (registers-last i (omega (arith, w .endCount))) (w .waits i lo hi);
         own = λ i lo hi. own i lo hi (split count i);
@@ -200,6 +203,7 @@ module _ (R : Rules) (n : ℕ) (inPlan : R .source < n) (words : List ℕ) (k s 
                   };
               list = active-arrived R n words new at to s active active′ (w .list) (a .arrived);
               ordered = ordered-kept (w .ordered) new labels-kept;
+              sourceIn = w .sourceIn;
               sourceSeed = word-seed n new (R .source) (a .arrived .seedsStay (R .source) inPlan (seed-word n words (R .source) (w .sourceSeed)));
               orderSeed = λ i h. order-seed i h (split at i);
               seeds = λ c h t. seeds c h t (find n words c at to);
@@ -270,6 +274,7 @@ module _ (R : Rules) (n : ℕ) (inPlan : R .source < n) (words : List ℕ) (zero
               searching = search-start R (budgetOf n new) (labelsOf n new) (λ c l. budget-kept n words new (λ i lo hi. p .low i (omega arith)) c l ∙ cleared-table n words (λ i h. zeros i (omega arith)) c l) (λ c t. unknown c t);
               list = active-planted R n words new (R .source) 0 active start-active p;
               ordered = ordered-none n new (λ c h. p .low (n * 128 + c) (omega arith) ∙ zeros (n * 128 + c) (omega arith));
+              sourceIn = inPlan;
               sourceSeed = word-seed n new (R .source) (p .nowSeed);
               orderSeed = λ i h. absurd (omega arith);
               seeds = λ c h t. seeds c h t (equal c (R .source));

@@ -13,6 +13,8 @@ use Rattle.budget.specs.Search.{Next}
 use Rattle.budget.proofs.Done.{not-after-trans}
 use Rattle.rows.specs.Words.{KeptFrom}
 use Rattle.table.specs.Problem.{budgetOf, seedOf}
+use Rattle.trail.specs.Trail.{noTrail}
+use Rattle.table.specs.declared.pushes.Grown.{Grown}
 use Rattle.table.specs.Layer.{Layered}
 use Rattle.table.proofs.Quiet.{quiet-layer}
 use Rattle.labels.specs.Labels.{knownOf, registersOf, stepsOf, labelsOf}
@@ -35,7 +37,7 @@ module _ (R : Rules) (law : Lawful R) (n : ℕ) (cells : R .cellCount ≡ n) whe
       ∙ layer-seeds R (seedOf n words) (seedAt R (labelsOf n words) k s) (R .bound 0) (budgetOf n words)
       (λ x h. front-seeds R law n cells words k s 0 at end count f x (omega arith)) c l
 
-  module _ (words : List ℕ) (f : Progress) (front : FrontOf R n words f) (new : List ℕ) (next : ℕ) (l : Layered R n words new next) where
+  module _ (words : List ℕ) (f : Progress) (front : FrontOf R n words f) (new : List ℕ) (next : Grown) (l : Layered R n noTrail words new next) where
     abbrev k : ℕ
     k = f .registers
 
@@ -43,9 +45,9 @@ module _ (R : Rules) (law : Lawful R) (n : ℕ) (cells : R .cellCount ≡ n) whe
     s = f .steps
 
     rest : KeptFrom (n * 136) words new
-    rest i h = l .rest i (omega arith)
+    rest i h = l .beyond i (omega arith)
 
-    module _ (none : next ≡ 0) where
+    module _ (none : next .count ≡ 0) where
       front′ : Front R n new k s 0 (f .at) (f .end) (f .count)
       front′ = rw none at (quiet-front R law n cells words k s (f .active) (f .at) (f .end) (f .count) front new next l none)
 
@@ -94,9 +96,9 @@ module _ (R : Rules) (law : Lawful R) (n : ℕ) (cells : R .cellCount ≡ n) whe
         let b = label-kept n words new (λ i lo hi. l .labels i lo (omega arith)) c (known-below n words c u) in
         rw (b .registers, b .steps) (not-after-trans (front .waiting .searching .labels .found c u) (inr (refl, omega arith)))
 
-    pub turn-grown : 0 < next → (R .start .delay < budgetOf n new (R .sink) (R .start .load) → ⊥) → (last : List ℕ) (count : ℕ) → LabelsAdded R n k (s + 1) new last (f .count) count → TurnEffect R n words f last (Turn.On (record { registers = k; steps = s + 1; active = next; at = f .at; end = f .end; count = count }))
+    pub turn-grown : 0 < next .count → (R .start .delay < budgetOf n new (R .sink) (R .start .load) → ⊥) → (last : List ℕ) (count : ℕ) → LabelsAdded R n k (s + 1) new last (f .count) count → TurnEffect R n words f last (Turn.On (record { registers = k; steps = s + 1; active = next .count; at = f .at; end = f .end; count = count }))
     turn-grown some not-yet last count added =
-        let g : Progress = record { registers = k; steps = s + 1; active = next; at = f .at; end = f .end; count = count } in
+        let g : Progress = record { registers = k; steps = s + 1; active = next .count; at = f .at; end = f .end; count = count } in
         let w : WaitingOf R n last g = rw (add-one s) (grown-front R law n cells words k s (f .active) (f .at) (f .end) (f .count) front new next l some last count (rw (add-one s) at added) not-yet) in
         record {
           same = added .same ∙ l .same;

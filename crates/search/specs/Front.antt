@@ -23,6 +23,7 @@ pub record Waiting (R : Rules) (n : ℕ) (words : List ℕ) (k s active at end c
   pub searching : Searching R k s (budgetOf n words) (labelsOf n words)
   pub list : Active R n words active
   pub ordered : Ordered n words count
+  pub sourceIn : R .source < n
   pub sourceSeed : T (seedOf n words (R .source))
   pub orderSeed : (i : ℕ) → i < at → T (seedOf n words (orderOf n words i))
   pub seeds : (c : ℕ) → c < n → T (seedOf n words c) → (c ≡ R .source) ⊎ Place n words (n * 131) at c
