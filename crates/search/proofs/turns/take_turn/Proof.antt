@@ -2,6 +2,7 @@
 use mathlib.Core.Path.{refl, sym, _∙_}
 use native.Mathlib.Omega.{arith}
 use borrow.Author.Tests.{ltb-true, ltb-false}
+use borrow.Author.Needs.{needs}
 use lib.ListN.{length}
 use Rattle.rules.specs.Rules.{rulesOf}
 use Rattle.trail.specs.Trail.{noTrail}
@@ -16,6 +17,9 @@ use Rattle.search.proofs.Fronts.{front-grows}
 use Rattle.search.proofs.TakeTurn.{turn-quiet, turn-sink, turn-grown, labels-before}
 use Rattle.search.proofs.turns.take_turn.Statement.{statement}
 use Rattle.search.proofs.turns.take_turn.Tie as tie
+
+no-trail-requires : tie.Need-no-trail-requires
+no-trail-requires c κs = search needs
 
 next-layer-requires : tie.Need-next-layer-requires
 next-layer-requires c κs =
@@ -95,4 +99,4 @@ returns-3 c =
     turn-grown _ (ready-lawful _ _ r) _ (ready-cells _ _ r) _ _ (s .pre .1 .1) _ _ (made (c .before .before .before .before .before .before .before .before .before .before .before)) (omega (arith, c .before .before .before .before .before .before .before .before .if1 .left)) (λ h. omega (arith, ltb-false (rulesFor (s .args .p) (s .args .plan .now) .start .delay) (budgetOf (length (s .args .plan .now)) (c .before .before .before .before .before .before .before .before .before .before .before .next-layer .last .1 .0) (rulesFor (s .args .p) (s .args .plan .now) .sink) (rulesFor (s .args .p) (s .args .plan .now) .start .load)) (sym (c .before .before .before .before .before .fresh-in .ensures .start (s .args .plan .now) (r .sink)) ∙ c .before .before .before .before .if2 .left))) _ _ (c .before .before .label-active .ensures)
 
 pub take-turn-spec : {M : Type 1} → statement M
-take-turn-spec = tie.close (tie.spec next-layer-requires after-quiet-requires same-length returns add-steps fresh-in-requires same-length-2 returns-2 label-active-requires same-length-3 returns-3)
+take-turn-spec = tie.close (tie.spec no-trail-requires next-layer-requires after-quiet-requires same-length returns add-steps fresh-in-requires same-length-2 returns-2 label-active-requires same-length-3 returns-3)
