@@ -9,7 +9,6 @@ use Rattle.rules.specs.Rules.{Rules}
 use Rattle.plan.proofs.Truth.{split, equal}
 use Rattle.budget.specs.Done.{Labels}
 use Rattle.budget.specs.Emission.{exactSeed}
-use Rattle.budget.proofs.Layer.{row-of}
 use Rattle.budget.specs.Colours.{LabelsInStep}
 use Rattle.budget.proofs.Colours.{source-in-step}
 use Rattle.budget.proofs.Reaches.{source-seed, seed-at-source, exact-view, reaches-start}
@@ -20,13 +19,11 @@ use Rattle.table.specs.Layer.{Active}
 use Rattle.table.proofs.Views.{budget-kept}
 use Rattle.table.proofs.Colours.{coloured-none}
 use Rattle.labels.specs.Labels.{registersOf, labelsOf, orderOf, Ordered, Planted}
-use Rattle.labels.proofs.Labels.{unknown-not, ordered-kept}
+use Rattle.labels.proofs.Labels.{unknown-not}
 use Rattle.search.proofs.Arrivals.{active-planted, cleared-table, cleared-seed, cleared-active}
 use Rattle.search.proofs.Fronts.{order-registers}
 use Rattle.search.proofs.NextFront.{seed-word, word-seed, coloured-planted}
-use Rattle.reach.specs.Reach.{FirstWith, Cleared, Due, Reaching, Current, noLayers, Held, Loaded}
-use Rattle.reach.specs.declared.Layers.{Layers}
-use Rattle.reach.proofs.Kept.{table-kept}
+use Rattle.reach.specs.Reach.{FirstWith, Cleared, Due, Reaching, Current}
 
 exact-label : (R : Rules) (m : Labels) (k t c : ℕ) → 0 < k → T (exactSeed R m k t c) → T (m .known c) × (suc (m .registers c) ≡ k)
 exact-label R m zero t c h e = absurd (omega arith)
@@ -47,7 +44,7 @@ module _ (R : Rules) (n : ℕ) (old mid : List ℕ) (z : Cleared n old mid) wher
             record {
               same = p .same ∙ z .same;
               labels = λ i lo hi. p .low i hi ∙ start-labels i lo hi;
-              rest = λ i lo. p .high i lo ∙ z .rest i lo;
+              rest = λ i lo. p .high i (omega arith) ∙ z .rest i (omega arith);
               table = reaches-start R (labelsOf n old) 0 (λ c l. budget-kept n mid new (λ i lo hi. p .low i (omega arith)) c l ∙ cleared-table n mid (z .rows) c l);
               list = active-planted R n mid new (R .source) 0 active start-list p;
               ordered = o;
@@ -85,7 +82,7 @@ module _ (R : Rules) (n : ℕ) (old mid : List ℕ) (z : Cleared n old mid) wher
         record {
           same = z .same;
           labels = start-labels;
-          rest = z .rest;
+          rest = λ i lo. z .rest i (omega arith);
           table = reaches-start R (labelsOf n old) k (cleared-table n mid (z .rows));
           list = start-list;
           ordered = o;
@@ -109,20 +106,3 @@ module _ (R : Rules) (n : ℕ) (old mid : List ℕ) (z : Cleared n old mid) wher
             go (inl lo) (inr hi) = record { place = p .at; from = lo; below = hi; holds = p .holds }
             go (inr lo) q = absurd (omega (arith, f .fewer (p .at) lo, are))
             go (inl lo) (inl hi) = absurd (omega (arith, g .enough (p .at) hi (p .below), are))
-
--- before the first call
-pub held-start : {n count : ℕ} {words : List ℕ} → Ordered n words count → Held n count words noLayers
-held-start o = record { ordered = o }
-
--- once u is at `steps`
-pub loaded : (R : Rules) (n k : ℕ) (old new : List ℕ) (u active at end count steps : ℕ) → Current R n k old new u active at end count → u ≡ steps → (cell : ℕ) (layers : Layers) → Loaded R n count cell k steps old new layers
-loaded R n k old new u active at end count steps g e cell layers =
-    let f = g .reaching in
-    let table = rw e at (table-kept R n old new (λ i lo hi. f .labels i lo (omega arith)) k u (f .table)) in
-    record {
-      same = f .same;
-      near = λ c link. row-of table c;
-      labels = f .labels;
-      rest = λ i h. f .rest i (omega arith);
-      held = record { ordered = ordered-kept (f .ordered) new (f .labels) };
-    }

@@ -1,5 +1,5 @@
 -- One turn of the loading: a layer, or a leap over layers that change nothing; then the labels whose steps have come.
-use Prim.Native.Nat.{ℕ, zero, suc, _+_, _≤_, _<_}
+use Prim.Native.Nat.{ℕ, zero, suc, _+_, _*_, _≤_, _<_}
 use mathlib.Core.Path.{_≡_, sym, ap, _∙_}
 use mathlib.Core.Logic.{_⊎_, inl, inr}
 use mathlib.Core.List.{List}
@@ -8,7 +8,7 @@ use native.Mathlib.Omega.{arith}
 use lib.Dec.{T}
 use Rattle.rules.specs.Rules.{Rules}
 use Rattle.plan.proofs.Truth.{split}
-use Rattle.budget.specs.Table.{layer}
+use Rattle.budget.specs.Table.{Represents, layer}
 use Rattle.budget.specs.Done.{NotAfter, Labels, Lawful}
 use Rattle.budget.specs.Search.{IdleUntil}
 use Rattle.budget.specs.Emission.{exactSeed, Reaches}
@@ -16,6 +16,8 @@ use Rattle.budget.specs.Colours.{InStep}
 use Rattle.budget.proofs.Search.{same-table}
 use Rattle.budget.proofs.Reaches.{exact-view, exact-test, exact-later, reaches-layer, reaches-until}
 use Rattle.table.specs.Problem.{budgetOf, seedOf}
+use Rattle.trail.specs.declared.Trail.{Trail}
+use Rattle.table.specs.declared.pushes.Grown.{Grown}
 use Rattle.table.specs.Layer.{Layered}
 use Rattle.table.proofs.Quiet.{quiet-layer}
 use Rattle.table.proofs.Views.{budget-kept, seeds-kept}
@@ -82,20 +84,20 @@ module _ (R : Rules) (n k : ℕ) (old : List ℕ) (count : ℕ) where
       exact-layer : (c l : ℕ) → layer R (seedOf n words) (R .bound 0) (budgetOf n words) c l ≡ layer R (exactSeed R m k u) (R .bound 0) (budgetOf n words) c l
       exact-layer = layer-seeds R (seedOf n words) (exactSeed R m k u) (R .bound 0) (budgetOf n words) (λ c h. seeds-exact c (omega arith))
 
-      pub layer-turn : (new : List ℕ) (next : ℕ) → Layered R n words new next → Reaching R n k old new (u + 1) next at end count
-      layer-turn new next l =
+      pub layer-turn : (t : Trail) (new : List ℕ) (next : Grown) → t .room * 67 ≤ n * 120 → Layered R n t words new next → Reaching R n k old new (u + 1) (next .count) at end count
+      layer-turn t new next slots l =
           record {
             same = l .same ∙ f .same;
             labels = λ i lo hi. l .labels i lo hi ∙ f .labels i lo hi;
-            rest = λ i lo. l .rest i (omega arith) ∙ f .rest i lo;
+            rest = λ i lo. l .beyond i (omega arith) ∙ f .rest i lo;
             table = rw (add-one u) (reaches-layer R m k law u (f .table) (λ c d. l .table (f .list) c (λ x t. tt) d ∙ exact-layer c d));
             list = l .active (f .list);
             ordered = f .ordered;
             atEnd = f .atEnd;
             endCount = f .endCount;
             waits = f .waits;
-            sound = λ c h t. exact-more R m k u (u + 1) c (omega arith) (f .sound c h (rw (seeds-kept n words new (l .rest) c) at t));
-            complete = λ c t h e. rw (seeds-kept n words new (l .rest) c) (f .complete c t h e);
+            sound = λ c h t. exact-more R m k u (u + 1) c (omega arith) (f .sound c h (rw (seeds-kept n words new (l .seeds) c h) at t));
+            complete = λ c t h e. rw (seeds-kept n words new (l .seeds) c h) (f .complete c t h e);
             inStep = f .inStep;
             soon = λ h. omega (arith, g .late h);
             coloured = rw (add-one u) (coloured-layer l (f .coloured));
@@ -128,13 +130,16 @@ module _ (R : Rules) (n k : ℕ) (old : List ℕ) (count : ℕ) where
         first : at < end → t ≤ stepsOf n old (orderOf n old at)
         first h = omega (arith, next .early h, steps-are words u active at end f at h)
 
+        pub leap-tables : (s : ℕ) → u ≤ s → s ≤ t → Represents (budgetOf n words) (Reaches R m k s)
+        leap-tables s lo hi = reaches-until R m k law u (budgetOf n words) (f .table) (quiet none) t (idle t first) s lo hi
+
         pub leap-turn : Reaching R n k old words t active at end count
         leap-turn =
             record {
               same = f .same;
               labels = f .labels;
               rest = f .rest;
-              table = reaches-until R m k law u (budgetOf n words) (f .table) (quiet none) t (idle t first) t (omega (arith, leap-forth)) (omega arith);
+              table = leap-tables t (omega (arith, leap-forth)) (omega arith);
               list = f .list;
               ordered = f .ordered;
               atEnd = f .atEnd;
@@ -159,7 +164,7 @@ module _ (R : Rules) (n k : ℕ) (old : List ℕ) (count : ℕ) where
               record {
                 same = a .arrived .same ∙ f .same;
                 labels = λ i lo hi. a .arrived .low i hi ∙ f .labels i lo hi;
-                rest = λ i lo. a .arrived .high i lo ∙ f .rest i lo;
+                rest = λ i lo. a .arrived .high i (omega arith) ∙ f .rest i lo;
                 table = same-table (Reaches R m k u) (budget-kept n words new (λ i lo hi. a .arrived .low i (omega arith))) (f .table);
                 list = active-arrived R n words new at to u active active′ (f .list) (a .arrived);
                 ordered = f .ordered;

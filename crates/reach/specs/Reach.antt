@@ -2,20 +2,24 @@
 -- The seeds of a span with k registers to go are the source for k = 0, else the labels with k - 1 registers. Those wait in the order and come in by their steps.
 use Prim.Native.Nat.{ℕ, suc, _*_, _≤_, _<_}
 use mathlib.Core.Path.{_≡_}
+use mathlib.Core.Bool.{Bool, _&&_}
 use mathlib.Core.Logic.{_⊎_}
 use mathlib.Core.List.{List}
-use lib.Dec.{T}
+use lib.Dec.{T, eqb, leb}
 use lib.ListN.{length, getD}
 use Rattle.rules.specs.Rules.{Rules}
-use Rattle.budget.specs.Table.{Represents, RepresentsRow}
+use Rattle.budget.specs.Table.{Table, Represents, RepresentsRow}
 use Rattle.budget.specs.Emission.{exactSeed, Reaches}
 use Rattle.budget.specs.Colours.{LabelsInStep}
+use Rattle.costs.specs.Costs.{rowWords}
 use Rattle.rows.specs.Words.{Kept, KeptFrom}
+use Rattle.trail.specs.declared.Trail.{Trail}
+use Rattle.trail.specs.Trail.{Sound, History}
 use Rattle.table.specs.Problem.{rulesFor, Ready, Room, budgetOf, seedOf}
 use Rattle.table.specs.Layer.{Active}
 use Rattle.table.specs.Colours.{Coloured}
 use Rattle.table.specs.declared.problem.Problem.{Problem}
-use Rattle.reach.specs.declared.Layers.{Layers}
+use Rattle.reach.specs.declared.layers.Layers.{Layers}
 use Rattle.labels.specs.Labels.{registersOf, stepsOf, labelsOf, orderOf, Ordered}
 
 -- r is the first place of the order, up to `count`, whose label has at least these registers to go
@@ -29,6 +33,20 @@ pub record NextSteps (n : ℕ) (words : List ℕ) (at end steps r : ℕ) : Type 
   pub within : r ≤ steps
   pub early : at < end → r ≤ stepsOf n words (orderOf n words at)
   pub met : (r ≡ steps) ⊎ ((at < end) × (r ≡ stepsOf n words (orderOf n words at)))
+
+-- The layers that the trail holds, up to that of the table: Z s is the one of s steps, the first is empty.
+pub record Past (n : ℕ) (words : List ℕ) (layers : Layers) : Type 0 where
+  pub Z : ℕ → Table
+  pub sound : Sound n words (layers .trail)
+  pub history : History n words (layers .trail) (layers .steps) Z
+  pub none : (c l : ℕ) → Z 0 c l ≡ 0
+  pub outside : (s c l : ℕ) → (c < n → l < rowWords → ⊥) → Z s c l ≡ 0
+
+-- After `clear_table`: no budget; the words after the table stay.
+pub record TableCleared (n : ℕ) (old new : List ℕ) : Type 0 where
+  pub same : length new ≡ length old
+  pub rows : (i : ℕ) → i < n * 64 → getD new i 0 ≡ 0
+  pub rest : KeptFrom (n * 64) old new
 
 -- After `clear_span`: no budget, no cell listed, no seed; the other words stay.
 pub record Cleared (n : ℕ) (old new : List ℕ) : Type 0 where
@@ -50,7 +68,7 @@ pub record Due (n : ℕ) (words : List ℕ) (at end c : ℕ) : Type 0 where
 pub record Reaching (R : Rules) (n k : ℕ) (old words : List ℕ) (u active at end count : ℕ) : Type 0 where
   pub same : length words ≡ length old
   pub labels : Kept (n * 128) (n * 132) old words
-  pub rest : KeptFrom (n * 136) old words
+  pub rest : KeptFrom (n * 256) old words
   pub table : Represents (budgetOf n words) (Reaches R (labelsOf n old) k u)
   pub list : Active R n words active
   pub ordered : Ordered n old count
@@ -64,35 +82,56 @@ pub record Reaching (R : Rules) (n k : ℕ) (old words : List ℕ) (u active at 
   pub soon : at < end → u ≤ stepsOf n old (orderOf n old at)
   pub coloured : Coloured R n u words
 
+-- and the trail holds the layers up to u
+pub record Trailing (R : Rules) (n k : ℕ) (old words : List ℕ) (u : ℕ) (t : Trail) : Type 0 where
+  pub past : Past n words (record { registers = k; steps = u; trail = t })
+  pub means : (s : ℕ) → s ≤ u → Represents (past .Z s) (Reaches R (labelsOf n old) k s)
+  pub stamp : t .stamp ≤ u
+
 -- and every label that waits has more steps than u
 pub record Current (R : Rules) (n k : ℕ) (old words : List ℕ) (u active at end count : ℕ) : Type 0 where
   pub reaching : Reaching R n k old words u active at end count
   pub late : at < end → u < stepsOf n old (orderOf n old at)
 
-pub record SpanAsks (p : Problem) (marks : List ℕ) (count : ℕ) (words : List ℕ) : Type 0 where
+pub record SpanAsks (p : Problem) (marks : List ℕ) (count : ℕ) (words : List ℕ) (layers : Layers) : Type 0 where
   pub ready : Ready p marks
   pub room : Room (length marks) words
   pub ordered : Ordered (length marks) words count
   pub inStep : LabelsInStep (rulesFor p marks) (labelsOf (length marks) words)
+  pub past : Past (length marks) words layers
 
 -- before the first call of `load_layer`
 abbrev pub noLayers : Layers
-noLayers = record {}
+noLayers = record { registers = 0; steps = 0; trail = record { room = 0; start = 0; count = 0; low = 1; stamp = 1 } }
 
--- What holds of the words and of `layers` from one call of `load_layer` to the next: the search's labels stand in their order.
-pub record Held (n count : ℕ) (words : List ℕ) (layers : Layers) : Type 0 where
+-- the table of this span and these steps can be had back
+abbrev pub heldBy : Layers → ℕ → ℕ → Bool
+heldBy layers registers steps = eqb (layers .registers) registers && (leb (layers .trail .low) steps && leb steps (layers .steps))
+
+-- What holds of the words and of `layers` from one call of `load_layer` to the next: the search's labels stand in their order, and each layer that can be had back is the span's.
+pub record Held (R : Rules) (n count : ℕ) (words : List ℕ) (layers : Layers) : Type 0 where
   pub ordered : Ordered n words count
+  pub past : Past n words layers
+  pub means : (s : ℕ) → layers .trail .low ≤ s → s ≤ layers .steps → Represents (past .Z s) (Reaches R (labelsOf n words) (layers .registers) s)
 
 pub record LoadAsks (p : Problem) (marks : List ℕ) (count : ℕ) (words : List ℕ) (layers : Layers) : Type 0 where
   pub ready : Ready p marks
   pub room : Room (length marks) words
-  pub held : Held (length marks) count words layers
+  pub held : Held (rulesFor p marks) (length marks) count words layers
   pub inStep : LabelsInStep (rulesFor p marks) (labelsOf (length marks) words)
 
--- After `load_layer`: the rows of the cells that a wire joins to `cell` are those of the span's table; the labels and the words past the scratch stay.
+-- After `run_span`: the table is the span's; the labels and the words past the scratch stay.
+pub record SpanRun (R : Rules) (n count registers steps : ℕ) (old new : List ℕ) (layers : Layers) : Type 0 where
+  pub same : length new ≡ length old
+  pub table : Represents (budgetOf n new) (Reaches R (labelsOf n new) registers steps)
+  pub labels : Kept (n * 128) (n * 132) old new
+  pub rest : KeptFrom (n * 256) old new
+  pub held : Held R n count new layers
+
+-- After `load_layer`: the rows of the cells that a wire joins to `cell` are those of the span's table.
 pub record Loaded (R : Rules) (n count cell registers steps : ℕ) (old new : List ℕ) (layers : Layers) : Type 0 where
   pub same : length new ≡ length old
   pub near : (c : ℕ) → T (R .linked cell c) → RepresentsRow (budgetOf n new) (Reaches R (labelsOf n new) registers steps) c
   pub labels : Kept (n * 128) (n * 132) old new
   pub rest : KeptFrom (n * 256) old new
-  pub held : Held n count new layers
+  pub held : Held R n count new layers

@@ -4,6 +4,7 @@ use mathlib.Core.Path.{_≡_, refl, sym, _∙_}
 use mathlib.Core.Logic.{_⊎_, inl, inr}
 use mathlib.Core.List.{List}
 use native.Mathlib.Omega.{arith}
+use borrow.Author.Tests.{le-leb, lt-leb}
 use lib.ListN.{length, getD}
 use Rattle.plan.proofs.Truth.{split, equal}
 use Rattle.budget.specs.Table.{Table}
@@ -11,7 +12,7 @@ use Rattle.rows.specs.Words.{Kept, KeptFrom}
 use Rattle.rows.specs.Rows.{viewOf}
 use Rattle.costs.specs.Costs.{rowWords}
 use Rattle.trail.specs.declared.Trail.{Trail}
-use Rattle.trail.specs.Trail.{slotOf, placeOf, rowAt, cellAt, stampAt, Sound, Unstored, Stored, RowOf, History, Entry, Noted, stamped}
+use Rattle.trail.specs.Trail.{slotOf, placeOf, rowAt, cellAt, stampAt, Sound, Unstored, Stored, RowOf, History, Entry, Noted, stamped, followed}
 use Rattle.trail.proofs.Slots.{place-in, cell-alike, stamp-alike, unstored-alike, stored-alike, entry-alike}
 
 -- some entry has this cell and a layer above s
@@ -69,13 +70,30 @@ module _ (n : ℕ) (old : List ℕ) (t : Trail) (new : List ℕ) (sound : Sound 
       pick s c lo hi h (inl e) (inr x) =
           inr (record { at = x .at; below = x .below; above = omega (arith, x .now); holds = x .holds ∙ sym e })
 
--- the layers up to v have the table of now, which is that after layer u + 1
-pub history-more : (n : ℕ) (words : List ℕ) (t : Trail) (u v : ℕ) (Z : ℕ → Table) → Sound n words t → t .stamp ≤ u + 1 → ((s c l : ℕ) → u < s → s ≤ v → c < n → l < rowWords → viewOf words c l ≡ Z s c l) → History n words t u Z → History n words t v Z
-history-more n words t u v Z sound stamp same past s c lo hi h = go (split s u)
-  where
-    go : (s ≤ u) ⊎ (u < s) → RowOf n words t s c (Z s c)
-    go (inl q) = past s c lo q h
-    go (inr q) = RowOf.stays (λ i k a e. omega (arith, sound .late i k)) (λ l k. same s c l q hi h k)
+module _ (Z : ℕ → Table) (u : ℕ) (A : Table) where
+  pub followed-before : (s : ℕ) → s ≤ u → followed Z u A s ≡ Z s
+  unfolding followed
+  followed-before s h = simp (le-leb _ _ h)
+
+  pub followed-after : (s : ℕ) → u < s → followed Z u A s ≡ A
+  unfolding followed
+  followed-after s h = simp (lt-leb _ _ h)
+
+  -- what holds of each layer
+  pub followed-all : (Q : ℕ → Table → Type 0) (v : ℕ) → ((s : ℕ) → s ≤ u → Q s (Z s)) → ((s : ℕ) → u < s → s ≤ v → Q s A) → (s : ℕ) → s ≤ v → Q s (followed Z u A s)
+  followed-all Q v before after s h = go (split s u)
+    where
+      go : (s ≤ u) ⊎ (u < s) → Q s (followed Z u A s)
+      go (inl k) = rw (followed-before s k) (before s k)
+      go (inr k) = rw (followed-after s k) (after s k h)
+
+  -- the table of now is that of the layers after u
+  pub history-followed : (n : ℕ) (words : List ℕ) (t : Trail) (v : ℕ) → Sound n words t → t .stamp ≤ u + 1 → ((c l : ℕ) → c < n → l < rowWords → viewOf words c l ≡ A c l) → History n words t u Z → History n words t v (followed Z u A)
+  history-followed n words t v sound stamp same past s c lo hi h = go (split s u)
+    where
+      go : (s ≤ u) ⊎ (u < s) → RowOf n words t s c (followed Z u A s c)
+      go (inl q) = rw (followed-before s q) (past s c lo q h)
+      go (inr q) = rw (followed-after s q) (RowOf.stays (λ i k a e. omega (arith, sound .late i k)) (λ l k. same c l h k))
 
 -- an empty trail, with the table of layer 0
 pub history-start : (n : ℕ) (words : List ℕ) (t : Trail) (Z : ℕ → Table) → t .count ≡ 0 → ((c l : ℕ) → c < n → l < rowWords → viewOf words c l ≡ Z 0 c l) → History n words t 0 Z

@@ -5,7 +5,7 @@ use mathlib.Core.Path.{_≡_}
 use mathlib.Core.Bool.{cond}
 use mathlib.Core.Logic.{_⊎_}
 use mathlib.Core.List.{List}
-use lib.Dec.{ltb}
+use lib.Dec.{leb, ltb}
 use lib.ListN.{length, getD}
 use Rattle.budget.specs.Table.{Table}
 use Rattle.costs.specs.Costs.{rowWords}
@@ -82,6 +82,10 @@ pub data RowOf (n : ℕ) (words : List ℕ) (t : Trail) (s c : ℕ) (row : ℕ �
 -- every layer from `low` up to u can be had back; Z s is the table after layer s
 abbrev pub History : ℕ → List ℕ → Trail → ℕ → (ℕ → Table) → Type 0
 History n words t u Z = (s c : ℕ) → t .low ≤ s → s ≤ u → c < n → RowOf n words t s c (Z s c)
+
+-- the layers up to u, and from there on the table A
+unfoldable pub followed : (ℕ → Table) → ℕ → Table → ℕ → Table
+followed Z u A s = cond (leb s u) (Z s) A
 
 -- the layer being made has saved the cell, or the trail was too short
 pub record Entry (n : ℕ) (words : List ℕ) (t : Trail) (c : ℕ) : Type 0 where

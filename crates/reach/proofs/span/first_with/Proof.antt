@@ -1,4 +1,4 @@
--- `reach::first_with`: the labels before i have too few registers; the order ascends, so from the first that has enough all have.
+-- `reach::span::first_with`: the labels before i have too few registers; the order ascends, so from the first that has enough all have.
 use Prim.Native.Nat.{ℕ, _+_, _*_, _-_, _<_, _≤_}
 use mathlib.Core.Logic.{inl, inr}
 use mathlib.Core.List.{List}
@@ -8,8 +8,8 @@ use Rattle.budget.specs.Done.{NotAfter}
 use Rattle.labels.specs.Labels.{registersOf, stepsOf, orderOf, Ordered}
 use Rattle.labels.proofs.Labels.{known-word, ordered-count}
 use borrow.Author.Count.{below-more}
-use Rattle.reach.proofs.first_with.Statement.{statement}
-use Rattle.reach.proofs.first_with.Tie as tie
+use Rattle.reach.proofs.span.first_with.Statement.{statement}
+use Rattle.reach.proofs.span.first_with.Tie as tie
 
 -- the order ascends by registers
 more-registers : {n : ℕ} {words : List ℕ} {count : ℕ} → Ordered n words count → (i j : ℕ) → i ≤ j → j < count → registersOf n words (orderOf n words i) ≤ registersOf n words (orderOf n words j)

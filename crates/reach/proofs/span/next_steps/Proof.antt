@@ -1,10 +1,10 @@
--- `reach::next_steps`: the lesser of the next label's steps and `steps`.
+-- `reach::span::next_steps`: the lesser of the next label's steps and `steps`.
 use mathlib.Core.Path.{refl}
 use mathlib.Core.Logic.{inl, inr}
 use native.Mathlib.Omega.{arith}
 use borrow.Author.Needs.{needs}
-use Rattle.reach.proofs.next_steps.Statement.{statement}
-use Rattle.reach.proofs.next_steps.Tie as tie
+use Rattle.reach.proofs.span.next_steps.Statement.{statement}
+use Rattle.reach.proofs.span.next_steps.Tie as tie
 
 returns : tie.Need-returns
 returns c = record { within = omega arith; early = λ h. absurd (omega arith); met = inl refl }

@@ -1,4 +1,4 @@
--- `reach::start_span`: with no registers to go the source is planted; else the labels with one register fewer lie between two places of the order.
+-- `reach::span::start_span`: with no registers to go the source is planted; else the labels with one register fewer lie between two places of the order.
 use mathlib.Core.Path.{_≡_}
 use native.Mathlib.Omega.{arith}
 use borrow.Author.Needs.{needs}
@@ -8,13 +8,13 @@ use Rattle.table.proofs.Spreads.{few-cells}
 use Rattle.labels.proofs.Labels.{ordered-count, ordered-kept}
 use Rattle.reach.proofs.Turns.{arrive-turn}
 use Rattle.reach.proofs.Start.{start-list, source-start, from-end, labels-start}
-use Rattle.reach.proofs.start_span.Statement.{statement}
-use Rattle.reach.proofs.start_span.Tie as tie
+use Rattle.reach.proofs.span.start_span.Statement.{statement}
+use Rattle.reach.proofs.span.start_span.Tie as tie
 
 clear-span-requires : tie.Need-clear-span-requires
 clear-span-requires c κs =
     let s = c .before .before .before in
-    (few-cells _ _ (s .pre .ready), omega (arith, s .pre .room))
+    (s .pre .past, (few-cells _ _ (s .pre .ready), s .pre .room))
 
 plant-requires : tie.Need-plant-requires
 unfolding rulesFor rulesOf

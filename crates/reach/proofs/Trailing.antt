@@ -1,0 +1,216 @@
+-- The trail from turn to turn of a span, and what `load_layer` leaves.
+use Prim.Native.Nat.{ℕ, _+_, _*_, _/_, _%_, _≤_, _<_}
+use mathlib.Core.Path.{_≡_, refl, sym, _∙_}
+use mathlib.Core.Bool.{Bool, _&&_}
+use mathlib.Core.Logic.{_⊎_, inl, inr}
+use mathlib.Core.List.{List}
+use native.Mathlib.Omega.{arith}
+use lib.Dec.{T, eqb, leb, eqb→eq, leb→le}
+use lib.ListN.{getD}
+use Rattle.rules.specs.Rules.{Rules}
+use Rattle.plan.proofs.Truth.{split, fst, snd}
+use Rattle.budget.specs.Table.{Table, Represents}
+use Rattle.budget.specs.Emission.{Reaches}
+use Rattle.budget.proofs.Layer.{row-of, same-row}
+use Rattle.budget.proofs.Reaches.{reaches-start}
+use Rattle.costs.specs.Costs.{rowWords}
+use Rattle.rows.specs.Words.{Kept}
+use Rattle.rows.specs.Rows.{viewOf}
+use Rattle.trail.specs.declared.Trail.{Trail}
+use Rattle.trail.specs.Trail.{stamped, newTrail, followed, Rewound}
+use Rattle.trail.proofs.History.{sound-none, sound-kept, sound-stamped, history-start, history-kept, history-stamped, history-followed, followed-before, followed-all}
+use Rattle.table.specs.declared.pushes.Grown.{Grown}
+use Rattle.table.specs.Problem.{budgetOf}
+use Rattle.table.specs.Layer.{Layered}
+use Rattle.table.proofs.Views.{budget-at, budget-outside, inside}
+use Rattle.labels.specs.Labels.{labelsOf, Ordered, ArrivedAll}
+use Rattle.labels.proofs.Labels.{ordered-kept}
+use Rattle.reach.specs.declared.layers.Layers.{Layers}
+use Rattle.reach.specs.Reach.{noLayers, heldBy, Past, Held, Trailing, Cleared, Current, SpanRun, Loaded}
+use Rattle.reach.proofs.Kept.{table-kept}
+
+pub no-budget : {A : Table} → Represents A (λ c l d. ⊥) → (c l : ℕ) → A c l ≡ 0
+no-budget {A} rep c l = go (split (A c l) 0)
+  where
+    go : (A c l ≤ 0) ⊎ (0 < A c l) → A c l ≡ 0
+    go (inl h) = omega arith
+    go (inr h) = absurd (rep .sound c l 0 h)
+
+-- before the first call
+pub held-start : {R : Rules} {n count : ℕ} {words : List ℕ} → Ordered n words count → Held R n count words noLayers
+held-start {R} {n} {count} {words} o =
+    record {
+      ordered = o;
+      past =
+          record {
+            Z = λ s c l. 0;
+            sound = sound-none n words _ refl refl (omega arith) (omega arith);
+            history = λ s c lo hi h. absurd (omega arith);
+            none = λ c l. refl;
+            outside = λ s c l f. refl;
+          };
+      means = λ s lo hi. absurd (omega arith);
+    }
+
+module _ (R : Rules) (n k : ℕ) (old : List ℕ) where
+  -- a span begins with no budget and an empty trail
+  pub trail-start : (words : List ℕ) (t : Trail) → t ≡ newTrail n → ((c l : ℕ) → budgetOf n words c l ≡ 0) → Trailing R n k old words 0 t
+  trail-start words t e none =
+      record {
+        past =
+            record {
+              Z = λ s c l. 0;
+              sound = rw e (sound-none n words (newTrail n) refl refl (omega arith) (omega arith));
+              history = rw e (history-start n words (newTrail n) (λ s c l. 0) refl (λ c l h q. sym (budget-at n words c l h q) ∙ none c l));
+              none = λ c l. refl;
+              outside = λ s c l f. refl;
+            };
+        means = λ s h. rw (zero s h) (reaches-start R (labelsOf n old) k (λ c l. refl));
+        stamp = rw e (omega arith);
+      }
+    where
+      zero : (s : ℕ) → s ≤ 0 → s ≡ 0
+      zero s h = omega arith
+
+  -- the layers up to v have the table of now
+  further : (words : List ℕ) (t : Trail) (u v : ℕ) (p : Past n words (record { registers = k; steps = u; trail = t })) → t .stamp ≤ u + 1 → Past n words (record { registers = k; steps = v; trail = t })
+  further words t u v p stamp =
+      record {
+        Z = followed (p .Z) u (budgetOf n words);
+        sound = p .sound;
+        history = history-followed (p .Z) u (budgetOf n words) n words t v (p .sound) stamp (λ c l h q. sym (budget-at n words c l h q)) (p .history);
+        none = λ c l. rw (followed-before (p .Z) u (budgetOf n words) 0 (omega arith)) (p .none c l);
+        outside = λ s c l f. followed-all (p .Z) u (budgetOf n words) (λ x A. A c l ≡ 0) s (λ x h. p .outside x c l f) (λ x a b. budget-outside n words c l f) s (omega arith);
+      }
+
+  module _ (words : List ℕ) (u : ℕ) (t : Trail) (r : Trailing R n k old words u t) where
+    -- after a layer
+    pub trail-layer : (new : List ℕ) (next : Grown) → Layered R n (stamped t (u + 1)) words new next → Represents (budgetOf n new) (Reaches R (labelsOf n old) k (u + 1)) → Trailing R n k old new (u + 1) (next .trail)
+    unfolding further followed
+    trail-layer new next l table =
+        record {
+          past = further new (next .trail) u (u + 1) before (omega (arith, l .stamp));
+          means =
+              followed-all (r .past .Z) u (budgetOf n new) (λ s A. Represents A (Reaches R (labelsOf n old) k s)) (u + 1) (r .means)
+              (λ s lo hi. let e : u + 1 ≡ s = omega arith in rw e at table);
+          stamp = omega (arith, l .stamp);
+        }
+      where
+        before : Past n new (record { registers = k; steps = u; trail = next .trail })
+        before =
+            record {
+              Z = r .past .Z;
+              sound = l .sound;
+              history = l .history u (r .past .Z) (omega arith) (history-stamped n words t (u + 1) u (r .past .Z) (r .past .history));
+              none = r .past .none;
+              outside = r .past .outside;
+            }
+
+    -- after a leap
+    pub trail-leap : (v : ℕ) → u ≤ v → ((s : ℕ) → u ≤ s → s ≤ v → Represents (budgetOf n words) (Reaches R (labelsOf n old) k s)) → Trailing R n k old words v t
+    unfolding further followed
+    trail-leap v h table =
+        record {
+          past = further words t u v (r .past) (omega (arith, r .stamp));
+          means =
+              followed-all (r .past .Z) u (budgetOf n words) (λ s A. Represents A (Reaches R (labelsOf n old) k s)) v (r .means)
+              (λ s lo hi. table s (omega arith) hi);
+          stamp = omega (arith, r .stamp);
+        }
+
+    -- the table and the trail stay
+    pub trail-kept : (new : List ℕ) → Kept 0 (n * 64) words new → Kept (n * 136) (n * 256) words new → Trailing R n k old new u t
+    trail-kept new table kept =
+        record {
+          past =
+              record {
+                Z = r .past .Z;
+                sound = sound-kept n words t new (r .past .sound) kept;
+                history = history-kept n words t new (r .past .sound) kept u (r .past .Z) (λ c h l q. table (c * 64 + l) (omega arith) (omega arith)) (r .past .history);
+                none = r .past .none;
+                outside = r .past .outside;
+              };
+          means = r .means;
+          stamp = r .stamp;
+        }
+
+    pub trail-arrive : {at end to active : ℕ} (new : List ℕ) → ArrivedAll n at end u words new to active → Trailing R n k old new u t
+    trail-arrive new a = trail-kept new (λ i lo hi. a .arrived .low i (omega arith)) (λ i lo hi. a .arrived .high i lo)
+
+    pub trail-sound : Rattle.trail.specs.Trail.Sound n words (stamped t (u + 1))
+    trail-sound = sound-stamped n words t (u + 1) (omega (arith, r .stamp)) (r .past .sound)
+
+-- the end of a span's run
+span-done : (R : Rules) (n k : ℕ) (old new : List ℕ) (u active at end count : ℕ) (t : Trail) → Current R n k old new u active at end count → Trailing R n k old new u t → SpanRun R n count k u old new (record { registers = k; steps = u; trail = t })
+span-done R n k old new u active at end count t g r =
+    let f = g .reaching in
+    let kept : Kept (n * 128) (n * 131) old new = λ i lo hi. f .labels i lo (omega arith) in
+    record {
+      same = f .same;
+      table = table-kept R n old new kept k u (f .table);
+      labels = f .labels;
+      rest = f .rest;
+      held =
+          record {
+            ordered = ordered-kept (f .ordered) new (f .labels);
+            past = r .past;
+            means = λ s lo hi. table-kept R n old new kept k s (r .means s hi);
+          };
+    }
+
+pub span-run : (R : Rules) (n k : ℕ) (old new : List ℕ) (u active at end count steps : ℕ) (t : Trail) → Current R n k old new u active at end count → Trailing R n k old new u t → u ≡ steps → SpanRun R n count k steps old new (record { registers = k; steps = steps; trail = t })
+span-run R n k old new u active at end count steps t g r e = rw e at (span-done R n k old new u active at end count t g r)
+
+pub run-loaded : {R : Rules} {n count registers steps : ℕ} {old new : List ℕ} {layers : Layers} → SpanRun R n count registers steps old new layers → (cell : ℕ) → Loaded R n count cell registers steps old new layers
+run-loaded s cell = record { same = s .same; near = λ c link. row-of (s .table) c; labels = s .labels; rest = s .rest; held = s .held }
+
+-- what `heldBy` tests
+pub held-parts : (layers : Layers) (registers steps : ℕ) → T (heldBy layers registers steps) → (layers .registers ≡ registers) × ((layers .trail .low ≤ steps) × (steps ≤ layers .steps))
+held-parts layers registers steps h =
+    let low : Bool = leb (layers .trail .low) steps in
+    let high : Bool = leb steps (layers .steps) in
+    let rest = snd (eqb (layers .registers) registers) (low && high) h in
+    (eqb→eq _ _ (fst (eqb (layers .registers) registers) (low && high) h), (leb→le _ _ (fst low high rest), leb→le _ _ (snd low high rest)))
+
+-- back on the trail
+module _ (R : Rules) (n count steps : ℕ) (old : List ℕ) (layers : Layers) (held : Held R n count old layers) (low : layers .trail .low ≤ steps) (high : steps ≤ layers .steps) (new : List ℕ) (t : Trail) (back : Rewound n steps old (layers .trail) new t) where
+  kept-labels : Kept (n * 128) (n * 131) old new
+  kept-labels i lo hi = back .kept i (omega arith)
+
+  pub back-table : (c l : ℕ) → budgetOf n new c l ≡ held .past .Z steps c l
+  back-table c l = go (inside n c l)
+    where
+      go : ((c < n) × (l < rowWords)) ⊎ (c < n → l < rowWords → ⊥) → budgetOf n new c l ≡ held .past .Z steps c l
+      go (inl h) = budget-at n new c l (h .0) (h .1) ∙ back .table (layers .steps) (held .past .Z) low high (held .past .history) c l (h .0) (h .1)
+      go (inr f) = budget-outside n new c l f ∙ sym (held .past .outside steps c l f)
+
+  loaded-back : (cell : ℕ) → Loaded R n count cell (layers .registers) steps old new (record { registers = layers .registers; steps = steps; trail = t })
+  loaded-back cell =
+      record {
+        same = back .same;
+        near = λ c link. same-row (back-table c) (row-of (table-kept R n old new kept-labels (layers .registers) steps (held .means steps low high)) c);
+        labels = λ i lo hi. back .kept i (omega arith);
+        rest = λ i h. back .kept i (omega arith);
+        held =
+            record {
+              ordered = ordered-kept (held .ordered) new (λ i lo hi. back .kept i (omega arith));
+              past =
+                  record {
+                    Z = held .past .Z;
+                    sound = back .sound;
+                    history = back .history (layers .steps) (held .past .Z) high (held .past .history);
+                    none = held .past .none;
+                    outside = held .past .outside;
+                  };
+              means = λ s lo hi. table-kept R n old new kept-labels (layers .registers) s (held .means s (omega (arith, back .lowest)) (omega arith));
+            };
+      }
+
+  pub back-loaded : (cell registers : ℕ) → layers .registers ≡ registers → Loaded R n count cell registers steps old new (record { registers = registers; steps = steps; trail = t })
+  back-loaded cell registers e = rw e at (loaded-back cell)
+
+-- at layer 0 there is no budget
+pub back-empty : (n : ℕ) (old : List ℕ) (layers : Layers) → Past n old layers → layers .trail .low ≡ 0 → (new : List ℕ) (t : Trail) → Rewound n 0 old (layers .trail) new t → (i : ℕ) → i < n * 64 → getD new i 0 ≡ 0
+back-empty n old layers p low new t back i h =
+    let e : i / 64 * 64 + i % 64 ≡ i = omega arith in
+    rw e at (back .table (layers .steps) (p .Z) (omega arith) (omega arith) (p .history) (i / 64) (i % 64) (omega arith) (omega arith) ∙ p .none (i / 64) (i % 64))

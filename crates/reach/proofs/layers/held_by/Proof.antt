@@ -1,0 +1,28 @@
+-- `reach::layers::held_by`: the three tests of `heldBy`.
+use mathlib.Core.Path.{_≡_}
+use borrow.Author.Tests.{le-leb, lt-leb}
+use lib.Dec.{eqb}
+use Rattle.plan.proofs.Truth.{is-true, is-false, eq→eqb, ne→neqb}
+use Rattle.reach.proofs.layers.held_by.Statement.{statement}
+use Rattle.reach.proofs.layers.held_by.Tie as tie
+
+returns : tie.Need-returns
+returns c =
+    let two = c .before in
+    let one = two .before .before in
+    let a = one .before .before .before .args in
+    simp (is-true (eqb (a .layers .registers) (a .registers)) (eq→eqb _ _ (one .if1 .taken)), le-leb (a .layers .trail .low) (a .steps) (two .if2 .taken))
+
+returns-2 : tie.Need-returns-2
+returns-2 c =
+    let one = c .before .before in
+    let a = one .before .before .before .args in
+    simp (is-true (eqb (a .layers .registers) (a .registers)) (eq→eqb _ _ (one .if1 .taken)), lt-leb (a .layers .trail .low) (a .steps) (c .if2 .left))
+
+returns-3 : tie.Need-returns-3
+returns-3 c =
+    let a = c .before .before .before .args in
+    simp (is-false (eqb (a .layers .registers) (a .registers)) (ne→neqb _ _ (c .if1 .left)))
+
+pub held-by-spec : {M : Type 1} → statement M
+held-by-spec = tie.close (tie.spec returns returns-2 returns-3)

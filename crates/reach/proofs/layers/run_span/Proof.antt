@@ -1,0 +1,168 @@
+-- `reach::layers::run_span`: the table is that of u steps, and the labels with at most u steps are seeds; a turn is a layer or a leap, and then the arrivals.
+-- The loop does not see the words at the entry: what it keeps, it keeps for whatever words the labels are from.
+use Prim.Native.Nat.{ℕ, _-_, _<_, _≤_}
+use mathlib.Core.Logic.{⊎-elim}
+use mathlib.Core.List.{List}
+use native.Mathlib.Omega.{arith}
+use borrow.Author.Needs.{needs}
+use lib.ListN.{length}
+use Rattle.rules.specs.Rules.{Rules}
+use Rattle.table.specs.Problem.{rulesFor}
+use Rattle.table.proofs.Spreads.{few-cells}
+use Rattle.labels.proofs.Labels.{ordered-count}
+use Rattle.reach.specs.Reach.{Reaching, Current, Trailing}
+use Rattle.search.proofs.Ready.{ready-lawful, ready-cells}
+use Rattle.reach.proofs.Turns.{layer-turn, leap-forth, leap-turn, leap-tables, arrive-turn, cells-in}
+use Rattle.reach.proofs.Trailing.{no-budget, trail-start, trail-layer, trail-leap, trail-arrive, trail-sound, span-run}
+use Rattle.reach.proofs.layers.run_span.Statement.{statement}
+use Rattle.reach.proofs.layers.run_span.Tie as tie
+
+abbrev Inv-loop : tie.InvT-loop
+Inv-loop plan scratch₀ p count registers steps n span u₀ at₀ active₀ trail₀ scratch u at active trail =
+    (u ≤ steps) × ((old : List ℕ) → Current (rulesFor p plan) (length plan) registers old scratch₀ 0 active₀ at₀ (span .end) count → Current (rulesFor p plan) (length plan) registers old scratch u active at (span .end) count × Trailing (rulesFor p plan) (length plan) registers old scratch u trail)
+
+abbrev μ-loop : tie.MeasureT-loop
+μ-loop plan scratch₀ p count registers steps n span u₀ at₀ active₀ trail₀ scratch u at active trail = steps - u
+
+-- the entry, the problem's rules and cells, and the end of the span's labels
+
+abbrev start : tie.At-loop Inv-loop μ-loop → tie.Start Inv-loop μ-loop
+start a = a .before .before .before .before .before .before .before .before
+
+abbrev R : tie.At-loop Inv-loop μ-loop → Rules
+R a = rulesFor (start a .args .p) (start a .args .plan .now)
+
+abbrev cells : tie.At-loop Inv-loop μ-loop → ℕ
+cells a = length (start a .args .plan .now)
+
+abbrev end : tie.At-loop Inv-loop μ-loop → ℕ
+end a = a .before .before .before .before .start-span .result .end
+
+-- at the loop's head
+head : (a : tie.At-loop Inv-loop μ-loop) → Current (R a) (cells a) (start a .args .registers) (start a .args .scratch .now) (a .loop .scratch) (a .loop .u) (a .loop .active) (a .loop .at) (end a) (start a .args .count) × Trailing (R a) (cells a) (start a .args .registers) (start a .args .scratch .now) (a .loop .scratch) (a .loop .u) (a .loop .trail)
+head a = a .loop .inv .1 (start a .args .scratch .now) (a .before .before .before .before .start-span .ensures)
+
+-- u has grown
+forth : (j : tie.Joined1 Inv-loop μ-loop) → (j .before .before .loop .u < j .if1 .u) × (j .if1 .u ≤ start (j .before .before) .args .steps)
+forth j =
+    let a = j .before .before in
+    ⊎-elim
+    (λ w. omega (arith, w .4, w .2 .ensures .within, leap-forth (R a) _ _ _ _ _ _ _ _ _ (head a .0) (ready-lawful _ _ (start a .pre .ready)) (ready-cells _ _ (start a .pre .ready)) (w .0 .taken) (start a .args .steps) _ (omega (arith, j .before .loop-test .taken)) (w .2 .ensures)))
+    (λ w. omega (arith, w .8))
+    (j .if1 .came)
+
+-- before the arrivals
+middle : (j : tie.Joined1 Inv-loop μ-loop) (old : List ℕ) → let a = j .before .before in Current (R a) (cells a) (start a .args .registers) old (a .loop .scratch) (a .loop .u) (a .loop .active) (a .loop .at) (end a) (start a .args .count) × Trailing (R a) (cells a) (start a .args .registers) old (a .loop .scratch) (a .loop .u) (a .loop .trail) → Reaching (R a) (cells a) (start a .args .registers) old (j .if1 .scratch) (j .if1 .u) (j .if1 .active) (a .loop .at) (end a) (start a .args .count) × Trailing (R a) (cells a) (start a .args .registers) old (j .if1 .scratch) (j .if1 .u) (j .if1 .trail)
+middle j old g =
+    let a = j .before .before in
+    let law = ready-lawful _ _ (start a .pre .ready) in
+    let size = ready-cells _ _ (start a .pre .ready) in
+    ⊎-elim
+    (λ w.
+    let before : a .loop .u < start a .args .steps = omega (arith, j .before .loop-test .taken) in
+    rw (w .3, w .4, w .5, w .6) (
+      leap-turn (R a) _ _ _ _ _ _ _ _ _ (g .0) law size (w .0 .taken) (start a .args .steps) _ before (w .2 .ensures),
+      trail-leap (R a) _ _ _ _ _ _ (g .1) _ (omega (arith, leap-forth (R a) _ _ _ _ _ _ _ _ _ (g .0) law size (w .0 .taken) (start a .args .steps) _ before (w .2 .ensures)))
+          (leap-tables (R a) _ _ _ _ _ _ _ _ _ (g .0) law size (w .0 .taken) (start a .args .steps) _ before (w .2 .ensures)),
+    ))
+    (λ w.
+    let made = rw (w .2 .ensures) at (w .3 .ensures) in
+    let f = layer-turn (R a) _ _ _ _ _ _ _ _ _ (g .0) law size _ _ _ (g .1 .past .sound .slots) made in
+    rw (w .7, w .8, w .9, w .10) (f, trail-layer (R a) _ _ _ _ _ _ (g .1) _ _ made (f .table)))
+    (j .if1 .came)
+
+start-span-requires : tie.Need-start-span-requires Inv-loop μ-loop
+start-span-requires c κs =
+    let pre = c .before .before .before .pre in
+    record { ready = pre .ready; room = pre .room; ordered = pre .held .ordered; inStep = pre .inStep; past = pre .held .past }
+
+new-trail-requires : tie.Need-new-trail-requires Inv-loop μ-loop
+new-trail-requires c κs = few-cells _ _ (c .before .before .before .before .before .before .pre .ready)
+
+loop-holds : tie.Need-loop-holds Inv-loop μ-loop
+loop-holds c = (omega arith, λ old f. (f, trail-start _ _ _ _ _ _ (c .new-trail .ensures) (no-budget (f .reaching .table))))
+
+next-steps-requires : tie.Need-next-steps-requires Inv-loop μ-loop
+next-steps-requires c κs =
+    let a = c .before .before .before in
+    let f = head a .0 .reaching in (
+      λ h. cells-in (R a) _ _ _ _ _ _ _ _ _ f (a .loop .at) h,
+      (
+        omega (arith, f .endCount, ordered-count (f .ordered)),
+        (few-cells _ _ (start a .pre .ready), omega (arith, f .same, start a .pre .room)),
+      ),
+    )
+
+add-stamped : tie.Need-add-stamped Inv-loop μ-loop
+add-stamped c = omega arith
+
+stamped-requires : tie.Need-stamped-requires Inv-loop μ-loop
+stamped-requires c κs = search needs
+
+next-layer-requires : tie.Need-next-layer-requires Inv-loop μ-loop
+next-layer-requires c κs =
+    let a = c .before .before .before .before in
+    let f = head a .0 .reaching in
+    (start a .pre .ready, (omega (arith, f .same, start a .pre .room), (f .list .listed, rw (c .stamped .ensures) (trail-sound (R a) _ _ _ _ _ _ (head a .1)))))
+
+add-u : tie.Need-add-u Inv-loop μ-loop
+add-u c =
+    let i = c .before .before .before .before .before .before .before in
+    omega (arith, i .loop-test .taken, start (i .before) .fits .steps)
+
+arrive-requires : tie.Need-arrive-requires Inv-loop μ-loop
+arrive-requires c κs =
+    let a = c .before .before .before in
+    let f = middle (c .before) (start a .args .scratch .now) (head a) .0 in (
+      f .list .listed,
+      (
+        f .atEnd,
+        (
+          omega (arith, f .endCount, ordered-count (f .ordered)),
+          (
+            λ i h. cells-in (R a) _ _ _ _ _ _ _ _ _ f i h,
+            (few-cells _ _ (start a .pre .ready), omega (arith, f .same, start a .pre .room)),
+          ),
+        ),
+      ),
+    )
+
+loop-less : tie.Need-loop-less Inv-loop μ-loop
+loop-less c = omega (arith, forth (c .before .before .before .before))
+
+loop-again : tie.Need-loop-again Inv-loop μ-loop
+loop-again c =
+    let j = c .before .before .before .before in
+    let a = j .before .before in
+    let arrived = c .before .before .arrive .ensures in (
+      omega (arith, forth j),
+      λ old f.
+          let m = middle j old (a .loop .inv .1 old f) in
+          (arrive-turn (R a) _ _ _ _ _ _ _ _ _ (m .0) _ _ _ arrived, trail-arrive (R a) _ _ _ _ _ _ (m .1) _ arrived),
+    )
+
+same-length : tie.Need-same-length Inv-loop μ-loop
+same-length c = head (c .before) .0 .reaching .same
+
+returns : tie.Need-returns Inv-loop μ-loop
+returns c = span-run (R (c .before)) _ _ _ _ _ _ _ _ _ _ _ (head (c .before) .0) (head (c .before) .1) (omega arith)
+
+pub run-span-spec : {M : Type 1} → statement M
+run-span-spec =
+    tie.close
+    (tie.spec
+    Inv-loop
+    μ-loop
+    start-span-requires
+    new-trail-requires
+    loop-holds
+    next-steps-requires
+    add-stamped
+    stamped-requires
+    next-layer-requires
+    add-u
+    arrive-requires
+    loop-less
+    loop-again
+    same-length
+    returns)

@@ -1,0 +1,116 @@
+// The layers of a span, had back from the trail or made again.
+ghost use mathlib.Core.Path.{_≡_};
+ghost use lib.ListN.{length};
+ghost use Rattle.table.specs.Problem.{rulesFor};
+ghost use Rattle.reach.specs.Reach.{noLayers, heldBy, LoadAsks, SpanRun, Loaded};
+use crate::span::next_steps;
+use crate::span::start_span;
+use labels::arrive;
+use table::Problem;
+use table::next_layer;
+use trail::Trail;
+use trail::new_trail;
+use trail::rewind;
+use trail::stamped;
+
+// What one call of `load_layer` leaves for the next, beside the words: the table is that of `steps` steps in the span with these registers to go.
+pub struct Layers {
+    pub registers: u16,
+    pub steps: u32,
+    pub trail: Trail,
+}
+
+// Before the first call: nothing can be had back.
+pub fn no_layers() -> Layers
+    ensures { λ r. ⌜ r ≡ noLayers ⌝ }
+{
+    Layers {
+        registers: 0,
+        steps: 0,
+        trail: Trail {
+            room: 0,
+            start: 0,
+            count: 0,
+            low: 1,
+            stamp: 1,
+        },
+    }
+}
+
+// The table can be had back from the trail.
+fn held_by(layers: Layers, registers: u16, steps: u32) -> bool
+    ensures { λ r. ⌜ r ≡ heldBy layers registers steps ⌝ }
+{
+    let trail = layers.trail;
+    if layers.registers == registers {
+        if trail.low <= steps {
+            return steps <= layers.steps;
+        }
+    }
+    false
+}
+
+// The layers of the span, from no steps on.
+// With no active cell a layer changes nothing, so u goes on to the next label.
+fn run_span(
+    plan: &[u8],
+    scratch: &mut [u16],
+    p: Problem,
+    count: usize,
+    registers: u16,
+    steps: u32,
+    layers: Layers,
+) -> Layers
+    requires { ⌜ LoadAsks p (now plan) count (now scratch) layers ⌝ }
+    ensures { λ r. ⌜ SpanRun (rulesFor p (now (plan .entry))) (length (now (plan .entry))) count registers steps (now (scratch .entry)) (now (scratch .exit)) r ⌝ }
+{
+    let n = plan.len();
+    let span = start_span(plan, scratch, p, count, registers, layers);
+    let mut u: u32 = 0;
+    let mut at = span.at;
+    let mut active = span.active;
+    let mut trail = new_trail(n);
+    while u < steps {
+        if active == 0 {
+            u = next_steps(scratch, n, at, span.end, steps);
+        } else {
+            let grown = next_layer(plan, scratch, p, active, stamped(trail, u + 1));
+            active = grown.count;
+            trail = grown.trail;
+            u += 1;
+        }
+        let next = arrive(scratch, n, at, span.end, u, active);
+        at = next.at;
+        active = next.active;
+    }
+    Layers {
+        registers: registers,
+        steps: steps,
+        trail: trail,
+    }
+}
+
+// The table of this span with `steps` steps to go, in the rows next to the cell.
+pub fn load_layer(
+    plan: &[u8],
+    scratch: &mut [u16],
+    p: Problem,
+    count: usize,
+    cell: usize,
+    registers: u16,
+    steps: u32,
+    layers: Layers,
+) -> Layers
+    requires { ⌜ LoadAsks p (now plan) count (now scratch) layers ⌝ }
+    ensures { λ r. ⌜ Loaded (rulesFor p (now (plan .entry))) (length (now (plan .entry))) count cell registers steps (now (scratch .entry)) (now (scratch .exit)) r ⌝ }
+{
+    if held_by(layers, registers, steps) {
+        let trail = rewind(scratch, plan.len(), layers.trail, steps);
+        return Layers {
+            registers: registers,
+            steps: steps,
+            trail: trail,
+        };
+    }
+    run_span(plan, scratch, p, count, registers, steps, layers)
+}
