@@ -28,9 +28,9 @@ use Rattle.labels.proofs.Labels.{labelled-kept}
 use Rattle.choice.specs.declared.State.{State}
 use Rattle.choice.specs.declared.Choice.{Choice}
 use Rattle.choice.specs.Choice.{InRange, Goes, FirstVisit, ChosenAmong, Chosen}
-use Rattle.reach.specs.declared.Layers.{Layers}
+use Rattle.reach.specs.declared.layers.Layers.{Layers}
 use Rattle.reach.specs.Reach.{noLayers, Loaded}
-use Rattle.reach.proofs.Start.{held-start}
+use Rattle.reach.proofs.Trailing.{held-start}
 use Rattle.emission.specs.Emission.{Onward, Emitting, Emitted}
 
 -- the words of visits

@@ -15,7 +15,7 @@ use Rattle.table.specs.declared.problem.Problem.{Problem}
 use Rattle.table.specs.Problem.{Ready, Room, rulesFor}
 use Rattle.search.specs.Turn.{Reaching}
 use Rattle.choice.specs.Choice.{InRange}
-use Rattle.reach.specs.declared.Layers.{Layers}
+use Rattle.reach.specs.declared.layers.Layers.{Layers}
 use Rattle.reach.specs.Reach.{Held}
 
 -- the two ends of emission, at a state: more visits are to come, or the route is whole
@@ -34,7 +34,7 @@ pub record Emitting (R : Rules) (n k s count : ℕ) (words₀ words : List ℕ) 
   pub filled : Filled (λ i. getD (written (visit (R .sink) registerCode ∷ made)) i 0) 0 place visits₀ visits
   pub before : ℕ
   pub labels : Labelled R k before (labelsOf n words)
-  pub held : Held n count words layers
+  pub held : Held R n count words layers
   pub same : length words ≡ length words₀
   pub rest : KeptFrom (n * 256) words₀ words
 
