@@ -6,11 +6,11 @@ use mathlib.Core.List.{List}
 use native.Mathlib.Omega.{arith}
 use lib.ListN.{length, getD}
 use Rattle.plan.proofs.Truth.{equal}
-use Rattle.rows.specs.Words.{KeptFrom}
+use Rattle.rows.specs.Words.{Kept, KeptFrom}
 use Rattle.lists.specs.Lists.{flagOf}
 use Rattle.trail.specs.declared.Trail.{Trail}
 use Rattle.trail.specs.Trail.{Sound, Noted, Saved}
-use Rattle.trail.proofs.History.{SameView, sound-kept, noted-kept, history-pushed}
+use Rattle.trail.proofs.History.{SameView, sound-kept, noted-kept, history-kept, history-pushed}
 use Rattle.table.specs.Layer.{FlagsNoted, Follows, NotedRow}
 
 pub follows-same : {n : ℕ} {t : Trail} {words : List ℕ} → Sound n words t → Follows n t words t words
@@ -33,6 +33,18 @@ follows-more f g =
       beyond = λ k h. g .beyond k (omega (arith, f .room)) ∙ f .beyond k h;
       noted = λ h. g .noted (f .noted h);
       history = λ h u Z below past. g .history (f .noted h) u Z (omega (arith, f .stamp)) (f .history h u Z below past);
+    }
+
+-- table, flags and trail stay
+pub follows-kept : {n : ℕ} {t : Trail} {old new : List ℕ} → Sound n old t → Kept 0 (n * 64) old new → KeptFrom (n * 128) old new → Follows n t old t new
+follows-kept {n} {t} {old} {new} s low high =
+    record {
+      sound = sound-kept n old t new s (λ k lo hi. high k (omega arith));
+      room = refl;
+      stamp = refl;
+      beyond = λ k h. high k (omega arith);
+      noted = λ f c h e. noted-kept n old t new s (λ k lo hi. high k (omega arith)) c (f c h (sym (high (n * 134 + c) (omega arith)) ∙ e));
+      history = λ f u Z below past. history-kept n old t new s (λ k lo hi. high k (omega arith)) u Z (λ c h l k. low (c * 64 + l) (omega arith) (omega arith)) past;
     }
 
 -- the cell was listed
