@@ -106,7 +106,7 @@ cleared-asks p marks active t old mid ready room sound listed apart f =
     record {
       ready = ready;
       room = omega (arith, f .same);
-      sound = sound-kept (length marks) old t mid sound (λ k lo hi. f .rest k (omega arith));
+      sound = sound-kept (length marks) old t mid sound (record { near = λ k lo hi. f .low k (omega arith) (omega arith); far = λ k lo hi. f .rest k (omega arith) });
       unflagged = f .cleared;
       short = listed-count listed;
       cells = λ i h. omega (arith, same i h, listed .cells i h);

@@ -14,7 +14,7 @@ use Rattle.budget.specs.Table.{Table, only}
 use Rattle.budget.specs.Sides.{gift, isSide}
 use Rattle.budget.proofs.Max.{only-true, only-false, only-bound}
 use Rattle.costs.specs.Costs.{rowWords}
-use Rattle.rows.specs.Words.{Filled, KeptFrom}
+use Rattle.rows.specs.Words.{Filled, Kept, KeptFrom}
 use Rattle.rows.specs.Rows.{pushed, RowGrows}
 use Rattle.rows.proofs.Words.{filled-none, filled-longer}
 use Rattle.lists.specs.Lists.{flagOf, Listed, Enlisted}
@@ -126,6 +126,9 @@ module _ (n to : ℕ) (wire : Wire) (limit : ℕ) (next : Grown) (old : List ℕ
       pub listed-high : KeptFrom (n * 136) old last
       listed-high k h = list .high k (omega arith) ∙ outside k (inr (omega arith))
 
+      pub listed-near : Kept (n * 64 + 64) (n * 128) old last
+      listed-near k lo hi = list .low k (omega arith) ∙ outside k (inr (omega arith))
+
       pub listed-arrival : (l : ℕ) → arrivalOf n last l ≡ arrivalOf n old l
       listed-arrival = arrival-kept n old last (λ k lo hi. list .low k (omega arith) ∙ outside k (inr (omega arith)))
 
@@ -163,7 +166,7 @@ module _ (n to : ℕ) (wire : Wire) (limit : ℕ) (next : Grown) (old : List ℕ
 module _ (n to : ℕ) (wire : Wire) (limit : ℕ) (next : Grown) (old : List ℕ) (asks : OfferAsks n to wire limit next old) (mid : List ℕ) (r : Trail) (note : NotedRow n to old (next .trail) mid r) where
   pub noted-listed-kept : Listed n mid (n * 133) (next .count)
   noted-listed-kept =
-      listed-kept (asks .listed) mid (λ c h. note .low (n * 134 + c) (omega arith)) (λ i h. note .low (n * 133 + i) (omega (arith, listed-count (asks .listed))))
+      listed-kept (asks .listed) mid (λ c h. note .labels (n * 134 + c) (omega arith) (omega arith)) (λ i h. note .labels (n * 133 + i) (omega arith) (omega (arith, listed-count (asks .listed))))
 
   noted-asks : OfferAsks n to wire limit (record { count = next .count; trail = r }) mid
   noted-asks =
@@ -178,28 +181,28 @@ module _ (n to : ℕ) (wire : Wire) (limit : ℕ) (next : Grown) (old : List ℕ
       }
 
   noted-table : (c l : ℕ) → budgetOf n mid c l ≡ budgetOf n old c l
-  noted-table = budget-kept n old mid (λ k lo hi. note .low k (omega arith))
+  noted-table = budget-kept n old mid (λ k lo hi. note .low k lo (omega arith))
 
   noted-raised : Raised n old mid (next .count)
   noted-raised =
       record {
         same = note .same;
         listed = noted-listed-kept;
-        flags = λ c h. inl (note .low (n * 134 + c) (omega arith));
+        flags = λ c h. inl (note .labels (n * 134 + c) (omega arith) (omega arith));
         quiet = λ c h z. noted-table c;
-        kept = λ k lo hi. note .low k (omega arith);
-        seeds = λ k lo hi. note .low k hi;
+        kept = λ k lo hi. note .labels k lo (omega arith);
+        seeds = λ k lo hi. note .labels k (omega arith) hi;
       }
 
-  noted-arrival : to < n → (l : ℕ) → arrivalOf n mid l ≡ arrivalOf n old l
-  noted-arrival inPlan = arrival-kept n old mid (λ k lo hi. note .low k (omega arith))
+  noted-arrival : (l : ℕ) → arrivalOf n mid l ≡ arrivalOf n old l
+  noted-arrival = arrival-kept n old mid (λ k lo hi. note .low k (omega arith) hi)
 
-  same-gift : to < n → (l : ℕ) → rowGift n mid wire limit l ≡ rowGift n old wire limit l
-  same-gift inPlan = gift-row wire limit (λ c. arrivalOf n old) (λ c. arrivalOf n mid) 0 0 (noted-arrival inPlan)
+  same-gift : (l : ℕ) → rowGift n mid wire limit l ≡ rowGift n old wire limit l
+  same-gift = gift-row wire limit (λ c. arrivalOf n old) (λ c. arrivalOf n mid) 0 0 noted-arrival
 
   pushed-same : to < n → (l : ℕ) → l < rowWords → pushed mid (n * 64) (to * 64) wire limit l ≡ pushed old (n * 64) (to * 64) wire limit l
   pushed-same inPlan l h =
-      omega (arith, gift-is n to wire limit _ mid noted-asks l h, gift-is n to wire limit next old asks l h, same-gift inPlan l, note .low (to * 64 + l) (omega arith))
+      omega (arith, gift-is n to wire limit _ mid noted-asks l h, gift-is n to wire limit next old asks l h, same-gift l, note .low (to * 64 + l) (omega arith) (omega arith))
 
   -- the row grows: it is saved and pushed, and `to` is listed
   pub offer-grew : (new : List ℕ) → to < n → Filled (pushed mid (n * 64) (to * 64) wire limit) (to * 64) rowWords mid new → (last : List ℕ) (count : ℕ) → RowGrows (n * 64) (to * 64) wire limit old → Enlisted n (n * 133) (next .count) to new last count → Offered n to wire limit (next .trail) old last (record { count = count; trail = r })
@@ -209,7 +212,7 @@ module _ (n to : ℕ) (wire : Wire) (limit : ℕ) (next : Grown) (old : List ℕ
             raised-more n old mid last (next .count) count (λ c l. omega (arith, noted-table c l)) (λ c l. omega (arith, table c l)) noted-raised
             (listed-raised n to wire limit _ mid noted-asks new inPlan push last count list grows-still);
         follows =
-            follows-grew n to old (next .trail) mid r note last (listed-high n to wire limit _ mid noted-asks new inPlan push last count list)
+            follows-grew n to old (next .trail) mid r note last (listed-near n to wire limit _ mid noted-asks new inPlan push last count list) (listed-high n to wire limit _ mid noted-asks new inPlan push last count list)
             (listed-row n to wire limit _ mid noted-asks new inPlan push last count list) (listed-flag n to wire limit _ mid noted-asks new inPlan push last count list);
         table =
             λ c l.
@@ -217,9 +220,9 @@ module _ (n to : ℕ) (wire : Wire) (limit : ℕ) (next : Grown) (old : List ℕ
               arith,
               table c l,
               noted-table c l,
-              ap (only (isSide n to c)) (same-gift inPlan l),
+              ap (only (isSide n to c)) (same-gift l),
             );
-        arrival = λ l. listed-arrival n to wire limit _ mid noted-asks new inPlan push last count list l ∙ noted-arrival inPlan l;
+        arrival = λ l. listed-arrival n to wire limit _ mid noted-asks new inPlan push last count list l ∙ noted-arrival l;
       }
     where
       table : (c l : ℕ) → budgetOf n last c l ≡ max (budgetOf n mid c l) (only (isSide n to c) (rowGift n mid wire limit l))
@@ -230,5 +233,5 @@ module _ (n to : ℕ) (wire : Wire) (limit : ℕ) (next : Grown) (old : List ℕ
           record {
             load = grows .load;
             inRow = grows .inRow;
-            more = omega (arith, grows .more, note .low (to * 64 + grows .load) (omega (arith, grows .inRow)), pushed-same inPlan (grows .load) (grows .inRow));
+            more = omega (arith, grows .more, note .low (to * 64 + grows .load) (omega arith) (omega (arith, grows .inRow)), pushed-same inPlan (grows .load) (grows .inRow));
           }

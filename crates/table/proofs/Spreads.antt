@@ -107,7 +107,7 @@ module _ (p : Problem) (marks : List ℕ) (cell : ℕ) (next : Grown) (words : L
         listed-kept (asks .listed) w₀ (λ c h. high (n * 134 + c) (omega arith)) (λ i h. high (n * 133 + i) (omega arith))
 
     pub filled-follows : Follows n (next .trail) words (next .trail) w₀
-    filled-follows = follows-kept (asks .sound) (λ k lo hi. fill .low k hi) high
+    filled-follows = follows-kept (omega (arith, asks .cellIn)) (asks .sound) (λ k lo hi. fill .low k hi) (fill .high)
 
     filled-raised : Raised n words w₀ (next .count)
     filled-raised =

@@ -14,7 +14,7 @@ use Rattle.rows.specs.Words.{Kept}
 use Rattle.lists.specs.Lists.{flagOf, Place, Listed, Taken}
 use Rattle.lists.proofs.Lists.{bit-cases, listed-count}
 use Rattle.trail.specs.declared.Trail.{Trail}
-use Rattle.trail.specs.Trail.{Sound, History}
+use Rattle.trail.specs.Trail.{Sound, TrailKept, History}
 use Rattle.trail.proofs.History.{sound-kept, history-kept}
 use Rattle.table.specs.declared.pushes.Grown.{Grown}
 use Rattle.table.specs.Problem.{budgetOf, seedOf}
@@ -117,12 +117,15 @@ module _ (R : Rules) (n : ℕ) (t : Trail) (old mid pushed new : List ℕ) (acti
       let g = grew c h f in
       pushes-giver R n t old mid pushed active next start same-list spread c (g .load) (omega (arith, g .more, same-budget c (g .load), final-budget c (g .load)))
 
+  taken-trail : TrailKept n pushed new
+  taken-trail = record { near = λ i lo hi. taken .low i (omega arith); far = λ i lo hi. taken .high i (omega arith) }
+
   -- the cleared flags and the new list leave the table and the trail
   history : (u : ℕ) (Z : ℕ → Table) → u < t .stamp → History n old t u Z → History n new (next .trail) u Z
   history u Z below past =
-      history-kept n pushed (next .trail) new (spread .follows .sound) (λ i lo hi. taken .high i (omega arith)) u Z (λ c h l k. taken .low (c * 64 + l) (omega arith))
+      history-kept n pushed (next .trail) new (spread .follows .sound) taken-trail u Z (λ c h l k. taken .low (c * 64 + l) (omega arith))
       (spread .follows .history (λ c h e. absurd (omega (arith, cleared .cleared c h))) u Z below
-      (history-kept n old t mid sound (λ i lo hi. cleared .rest i (omega arith)) u Z (λ c h l k. cleared .low (c * 64 + l) (omega arith) (omega arith)) past))
+      (history-kept n old t mid sound (record { near = λ i lo hi. cleared .low i (omega arith) (omega arith); far = λ i lo hi. cleared .rest i (omega arith) }) u Z (λ c h l k. cleared .low (c * 64 + l) (omega arith) (omega arith)) past))
 
   settled : {P : ℕ → Bool} {count : ℕ} → ActiveIn R n P old count → (x : ℕ) → x < n → T (P x) → flagOf n new x ≡ 0 → Settled R n new x
   settled right x h t f c l =
@@ -144,8 +147,9 @@ module _ (R : Rules) (n : ℕ) (t : Trail) (old mid pushed new : List ℕ) (acti
         quiet = quiet;
         labels = λ i lo hi. taken .low i hi ∙ (spread .raised .kept i (omega arith) (omega arith) ∙ cleared .low i (omega arith) (omega arith));
         seeds = seeds;
+        near = λ few i lo hi. taken .low i (omega arith) ∙ (spread .follows .near few i lo hi ∙ cleared .low i (omega arith) (omega arith));
         beyond = λ i h. taken .high i (omega arith) ∙ (spread .follows .beyond i h ∙ cleared .rest i (omega arith));
-        sound = sound-kept n pushed (next .trail) new (spread .follows .sound) (λ i lo hi. taken .high i (omega arith));
+        sound = sound-kept n pushed (next .trail) new (spread .follows .sound) taken-trail;
         room = spread .follows .room;
         stamp = spread .follows .stamp;
         history = history;

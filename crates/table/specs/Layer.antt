@@ -1,5 +1,5 @@
 -- What one layer does to the scratch words.
-use Prim.Native.Nat.{ℕ, _+_, _*_, _≤_, _<_, max}
+use Prim.Native.Nat.{ℕ, _+_, _*_, _≤_, _<_, max, min}
 use mathlib.Core.Path.{_≡_}
 use mathlib.Core.Bool.{Bool, true}
 use mathlib.Core.Logic.{_⊎_}
@@ -81,14 +81,17 @@ pub record Follows (n : ℕ) (t : Trail) (old : List ℕ) (r : Trail) (new : Lis
   pub sound : Sound n new r
   pub room : r .room ≡ t .room
   pub stamp : r .stamp ≡ t .stamp
-  pub beyond : KeptFrom (n * 136 + t .room * 67) old new
+  -- with few slots all of them are in the first stretch
+  pub near : t .room * 67 ≤ n * 120 → Kept (n * 64 + 64) (n * 128) old new
+  pub beyond : KeptFrom (n * 136 + min (t .room * 67) (n * 120)) old new
   pub noted : FlagsNoted n old t → FlagsNoted n new r
   pub history : FlagsNoted n old t → (u : ℕ) (Z : ℕ → Table) → u < t .stamp → History n old t u Z → History n new r u Z
 
 -- After `note`: only words of the trail's slots change, and the cell is saved.
 pub record NotedRow (n cell : ℕ) (old : List ℕ) (t : Trail) (new : List ℕ) (r : Trail) : Type 0 where
   pub same : length new ≡ length old
-  pub low : (k : ℕ) → k < n * 136 → getD new k 0 ≡ getD old k 0
+  pub low : Kept 0 (n * 64 + 64) old new
+  pub labels : Kept (n * 128) (n * 136) old new
   pub follows : Follows n t old r new
   pub noted : FlagsNoted n old t → Noted n new r cell
 
@@ -149,9 +152,10 @@ pub record Layered (R : Rules) (n : ℕ) (t : Trail) (old new : List ℕ) (next 
   pub quiet : (c : ℕ) → c < n → flagOf n new c ≡ 0 → SameRow n old new c
   -- labels and order
   pub labels : Kept (n * 128) (n * 132) old new
-  -- seed flags, and all beyond the trail
+  -- seed flags, and all but the trail
   pub seeds : Kept (n * 135) (n * 136) old new
-  pub beyond : KeptFrom (n * 136 + t .room * 67) old new
+  pub near : t .room * 67 ≤ n * 120 → Kept (n * 64 + 64) (n * 128) old new
+  pub beyond : KeptFrom (n * 136 + min (t .room * 67) (n * 120)) old new
   -- the trail; stamp is the layer made
   pub sound : Sound n new (next .trail)
   pub room : next .trail .room ≡ t .room
