@@ -1,10 +1,9 @@
 -- The trail through a layer: nothing done, one thing after another, and a row saved and then raised.
-use Prim.Native.Nat.{ℕ, _+_, _*_, _≤_, _<_}
+use Prim.Native.Nat.{ℕ, _+_, _*_, _<_}
 use mathlib.Core.Path.{_≡_, refl, sym, _∙_}
 use mathlib.Core.Logic.{_⊎_, inl, inr}
 use mathlib.Core.List.{List}
 use native.Mathlib.Omega.{arith}
-use lib.ListN.{length, getD}
 use Rattle.plan.proofs.Truth.{equal}
 use Rattle.rows.specs.Words.{Kept, KeptFrom}
 use Rattle.lists.specs.Lists.{flagOf}

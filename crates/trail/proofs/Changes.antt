@@ -1,6 +1,6 @@
 -- What forgetting the oldest entry, recording a row and putting one back leave of the history.
 use Prim.Native.Nat.{ℕ, _+_, _-_, _*_, _≤_, _<_, min}
-use mathlib.Core.Path.{_≡_, refl, sym, ap, _∙_}
+use mathlib.Core.Path.{_≡_, sym, ap, _∙_}
 use mathlib.Core.Logic.{_⊎_, inl, inr}
 use mathlib.Core.List.{List}
 use native.Mathlib.Omega.{arith}
@@ -11,7 +11,7 @@ use Rattle.rows.specs.Words.{KeptFrom}
 use Rattle.rows.specs.Rows.{viewOf}
 use Rattle.costs.specs.Costs.{rowWords}
 use Rattle.trail.specs.declared.Trail.{Trail}
-use Rattle.trail.specs.Trail.{slotOf, stampOf, placeOf, rowAt, cellAt, stampAt, Sound, Unstored, Stored, RowOf, History, Entry, Noted, RoomMade, Saved, Restored}
+use Rattle.trail.specs.Trail.{slotOf, stampOf, placeOf, rowAt, cellAt, stampAt, Sound, Unstored, Stored, RowOf, History, Noted, RoomMade, Saved, Restored}
 use Rattle.trail.proofs.Slots.{PlaceIn, slot-cases, slot-below, slot-apart, slot-next, slot-same, place-apart, entry-view, place-above, cell-alike, stamp-alike, unstored-alike, stored-alike, entry-alike}
 
 -- a full trail without its oldest entry

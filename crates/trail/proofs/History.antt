@@ -1,17 +1,16 @@
 -- The laws of the undo trail: what changes of the words and of the trail leave of the history.
-use Prim.Native.Nat.{ℕ, suc, _+_, _-_, _*_, _≤_, _<_}
+use Prim.Native.Nat.{ℕ, _+_, _≤_, _<_}
 use mathlib.Core.Path.{_≡_, refl, sym, _∙_}
 use mathlib.Core.Logic.{_⊎_, inl, inr}
 use mathlib.Core.List.{List}
 use native.Mathlib.Omega.{arith}
-use lib.ListN.{length, getD}
+use lib.ListN.{getD}
 use Rattle.plan.proofs.Truth.{split, equal}
 use Rattle.budget.specs.Table.{Table}
-use Rattle.rows.specs.Words.{KeptFrom}
 use Rattle.rows.specs.Rows.{viewOf}
 use Rattle.costs.specs.Costs.{rowWords}
 use Rattle.trail.specs.declared.Trail.{Trail}
-use Rattle.trail.specs.Trail.{slotsOf, slotOf, placeOf, rowAt, cellAt, stampAt, Sound, TrailKept, Unstored, Stored, RowOf, History, Entry, Noted, stamped}
+use Rattle.trail.specs.Trail.{slotsOf, slotOf, placeOf, cellAt, stampAt, Sound, TrailKept, RowOf, History, Noted, stamped}
 use Rattle.trail.proofs.Slots.{PlaceIn, entry-view, cell-alike, stamp-alike, unstored-alike, stored-alike, entry-alike}
 
 -- some entry has this cell and a layer above s

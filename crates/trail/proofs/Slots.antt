@@ -1,7 +1,7 @@
 -- Slots of the ring, and entries that two trails share.
 use Prim.Native.Nat.{ℕ, _+_, _-_, _*_, _/_, _≤_, _<_}
 use mathlib.Core.Path.{_≡_, _∙_}
-use mathlib.Core.Bool.{Bool, true, false, cond}
+use mathlib.Core.Bool.{cond}
 use mathlib.Core.Logic.{_⊎_, inl, inr}
 use mathlib.Core.List.{List}
 use native.Mathlib.Omega.{arith}
@@ -9,10 +9,8 @@ use borrow.Author.Tests.{lt-ltb, le-ltb, le-leb, lt-leb}
 use lib.Dec.{ltb}
 use lib.ListN.{getD}
 use Rattle.plan.proofs.Truth.{split}
-use Rattle.rows.specs.Words.{Kept}
-use Rattle.costs.specs.Costs.{rowWords}
 use Rattle.trail.specs.declared.Trail.{Trail}
-use Rattle.trail.specs.Trail.{slotsOf, slotOf, placeIn, placeOf, rowAt, cellAt, stampAt, Sound, Unstored, Stored, Entry}
+use Rattle.trail.specs.Trail.{slotsOf, slotOf, placeIn, placeOf, cellAt, stampAt, Sound, Unstored, Stored, Entry}
 
 -- before the end of the ring, or past it
 pub slot-cases : (t : Trail) (i : ℕ) → ((t .start + i < t .room) × (slotOf t i ≡ t .start + i)) ⊎ ((t .room ≤ t .start + i) × (slotOf t i ≡ t .start + i - t .room))

@@ -12,7 +12,6 @@ use Rattle.budget.specs.Table.{Table}
 use Rattle.costs.specs.Costs.{rowWords}
 use Rattle.rows.specs.Rows.{viewOf}
 use Rattle.rows.specs.Words.{Kept, KeptFrom}
-use Rattle.lists.specs.Lists.{flagOf}
 use Rattle.trail.specs.declared.Trail.{Trail}
 
 abbrev pub noTrail : Trail

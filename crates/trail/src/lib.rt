@@ -6,7 +6,7 @@ ghost use Prim.Native.Nat.{_+_, _*_, _≤_, _<_};
 ghost use lib.ListN.{length, getD};
 ghost use Rattle.rows.specs.Words.{Filled};
 ghost use Rattle.costs.specs.Costs.{rowWords};
-ghost use Rattle.trail.specs.Trail.{noTrail, newTrail, stamped, slotsOf, slotOf, placeOf, stampOf, Sound, TrailAsks, RoomMade, Saved, Restored, Rewound};
+ghost use Rattle.trail.specs.Trail.{noTrail, newTrail, stamped, slotsOf, slotOf, placeOf, stampOf, TrailAsks, RoomMade, Saved, Restored, Rewound};
 use costs::ROW;
 
 // `room` slots, of which `count` are in use, the oldest at `start`. Layers up to `low` cannot be undone. `stamp` is the layer that is being made.

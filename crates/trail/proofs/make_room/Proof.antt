@@ -1,10 +1,8 @@
 -- `trail::make_room`: a free slot changes nothing; else the oldest entry is forgotten.
-use Prim.Native.Nat.{_+_, _*_, _≤_}
 use mathlib.Core.Path.{refl, ap, _∙_}
 use native.Mathlib.Omega.{arith}
 use borrow.Author.Needs.{needs}
-use lib.ListN.{length}
-use Rattle.trail.specs.Trail.{placeOf, stampOf}
+use Rattle.trail.specs.Trail.{stampOf}
 use Rattle.trail.proofs.Slots.{slots-few, place-in}
 use Rattle.trail.proofs.Changes.{forget}
 use Rattle.trail.proofs.make_room.Statement.{statement}

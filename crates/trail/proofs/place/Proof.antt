@@ -1,10 +1,9 @@
 -- `trail::place`: the two cases of `placeIn`; a slot of the ring is below 3,072.
-use Prim.Native.Nat.{_+_, _*_, _-_, _≤_, _<_}
-use mathlib.Core.Path.{_≡_}
+use Prim.Native.Nat.{_*_, _-_, _≤_, _<_}
 use native.Mathlib.Omega.{arith}
 use borrow.Author.Needs.{needs}
 use borrow.Author.Tests.{le-leb, lt-leb}
-use Rattle.trail.specs.Trail.{placeIn, slotOf}
+use Rattle.trail.specs.Trail.{placeIn}
 use Rattle.trail.proofs.Slots.{PlaceIn, slot-below, slots-few, place-view}
 use Rattle.trail.proofs.place.Statement.{statement}
 use Rattle.trail.proofs.place.Tie as tie

@@ -5,7 +5,7 @@ use mathlib.Core.Logic.{_⊎_, inl, inr}
 use mathlib.Core.List.{List}
 use native.Mathlib.Omega.{arith}
 use borrow.Author.Needs.{needs}
-use lib.ListN.{length, getD}
+use lib.ListN.{getD}
 use Rattle.plan.proofs.Truth.{split}
 use Rattle.rows.specs.Words.{Filled}
 use Rattle.rows.specs.Rows.{viewOf}
