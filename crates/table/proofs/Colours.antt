@@ -16,7 +16,7 @@ use Rattle.trail.specs.declared.Trail.{Trail}
 use Rattle.table.specs.declared.problem.Problem.{Problem}
 use Rattle.table.specs.declared.pushes.Grown.{Grown}
 use Rattle.table.specs.Problem.{planFor, rulesFor, budgetOf}
-use Rattle.table.specs.Layer.{arrivalsOf, SpreadAll, Layered}
+use Rattle.table.specs.Layer.{arrivals, SpreadAll, Layered}
 use Rattle.table.specs.Colours.{Giver, Coloured, Apart}
 
 -- the rules of a problem have a colouring
@@ -42,7 +42,7 @@ pushes-giver R n t old mid pushed active next listed same spread c l more =
     from (below-max active gift (budgetOf n mid c l) (omega (arith, spread .most (max (budgetOf n mid c l) (maxBelow active gift)) c l (omega arith) (λ i h. omega (arith, max-at active gift i h)))))
   where
     gift : ℕ → ℕ
-    gift i = given R (arrivalsOf n mid) (getD mid (n * 132 + i) 0) c l
+    gift i = given R (arrivals R n mid) (getD mid (n * 132 + i) 0) c l
 
     from : Above active gift (budgetOf n mid c l) → Giver R n old c
     from x =

@@ -1,6 +1,6 @@
 pub mod Views
 pub mod ArrivalRow
-pub mod Fills
+pub mod Clears
 pub mod Follows
 pub mod Offers
 pub mod Spreads

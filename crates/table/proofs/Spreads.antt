@@ -1,6 +1,6 @@
 -- The four pushes of a cell are what the rules give its neighbours; the pushes of the active list together.
 use Prim.Native.Nat.{ℕ, _+_, _*_, _≤_, _<_, max}
-use mathlib.Core.Path.{_≡_, refl, _∙_}
+use mathlib.Core.Path.{_≡_, refl, sym, _∙_}
 use mathlib.Core.Logic.{_⊎_, inl, inr}
 use mathlib.Core.List.{List}
 use native.Mathlib.Omega.{arith}
@@ -11,23 +11,26 @@ use Rattle.plan.proofs.Check.{cells-most}
 use Rattle.timing.specs.declared.elements.Wire.{Wire}
 use Rattle.timing.specs.Elements.{WireInRange}
 use Rattle.plan.proofs.Truth.{split}
+use Rattle.rules.specs.Rules.{Rules}
 use Rattle.budget.specs.Table.{Table, only, given}
 use Rattle.budget.specs.Sides.{gift, isSide}
 use Rattle.budget.proofs.Sides.{four-sides}
-use Rattle.budget.proofs.Active.{given-row}
+use Rattle.budget.proofs.Max.{only-false}
+use Rattle.budget.proofs.Active.{arrival-row, arrival-past, given-row}
+use Rattle.rows.specs.Words.{Filled, KeptFrom}
 use Rattle.lists.specs.Lists.{Listed}
-use Rattle.lists.proofs.Lists.{listed-none}
+use Rattle.lists.proofs.Lists.{listed-none, listed-kept}
 use Rattle.trail.specs.declared.Trail.{Trail}
 use Rattle.trail.specs.Trail.{Sound}
 use Rattle.table.specs.declared.problem.Problem.{Problem}
 use Rattle.table.specs.declared.pushes.Grown.{Grown}
 use Rattle.costs.specs.declared.StepCosts.{StepCosts}
-use Rattle.costs.specs.Costs.{StepCostsOf}
+use Rattle.costs.specs.Costs.{rowWords, StepCostsOf}
 use Rattle.costs.proofs.Own.{step-own}
-use Rattle.table.specs.Problem.{planFor, rulesFor, Ready, budgetOf}
-use Rattle.table.specs.Layer.{arrivalsOf, Offered, OfferAsks, Spread, SpreadAsks, SpreadAll, SpreadAllAsks}
-use Rattle.table.proofs.Views.{arrivals-kept}
-use Rattle.table.proofs.Follows.{follows-same, follows-more}
+use Rattle.table.specs.Problem.{planFor, rulesFor, Ready, budgetOf, seedOf}
+use Rattle.table.specs.Layer.{arrivalOf, arrivals, Raised, Follows, Offered, OfferAsks, Spread, SpreadAsks, SpreadAll, SpreadAllAsks}
+use Rattle.table.proofs.Views.{budget-kept, seeds-kept, arrival-at, arrival-outside, limit-named}
+use Rattle.table.proofs.Follows.{follows-same, follows-kept, follows-more}
 use Rattle.table.proofs.Offers.{gift-row}
 use Rattle.table.proofs.WholeLayer.{raised-more}
 
@@ -45,7 +48,7 @@ module _ (p : Problem) (marks : List ℕ) (ready : Ready p marks) where
   few-cells = omega (arith, cells-are, cells-most (planFor p marks) (ready .sized))
 
 -- an offer only adds
-pub offered-least : {n cell to : ℕ} {wire : Wire} {limit : ℕ} {t : Trail} {old new : List ℕ} {next : Grown} → Offered n cell to wire limit t old new next → (c l : ℕ) → budgetOf n old c l ≤ budgetOf n new c l
+pub offered-least : {n to : ℕ} {wire : Wire} {limit : ℕ} {t : Trail} {old new : List ℕ} {next : Grown} → Offered n to wire limit t old new next → (c l : ℕ) → budgetOf n old c l ≤ budgetOf n new c l
 offered-least o c l = omega (arith, o .table c l)
 
 module _ (p : Problem) (marks : List ℕ) (cell : ℕ) (next : Grown) (words : List ℕ) (asks : SpreadAsks p marks cell next words) where
@@ -59,10 +62,9 @@ module _ (p : Problem) (marks : List ℕ) (cell : ℕ) (next : Grown) (words : L
   inside = omega (arith, asks .cellIn, cells-are p marks (asks .ready))
 
   -- what each offer asks
-  pub offer-asks : (to : ℕ) (wire : Wire) (costs : StepCosts) (now : List ℕ) (from : Grown) → StepCostsOf wire (p .elements .limit .0) costs → to ≤ cells P → WireInRange wire → length now ≡ length words → Listed n now (n * 133) (from .count) → Sound n now (from .trail) → OfferAsks n cell to (costs .wire) (costs .limit) from now × StepCostsOf (costs .wire) (costs .limit) costs
+  pub offer-asks : (to : ℕ) (wire : Wire) (costs : StepCosts) (now : List ℕ) (from : Grown) → StepCostsOf wire (p .elements .limit .0) costs → to ≤ cells P → WireInRange wire → length now ≡ length words → Listed n now (n * 133) (from .count) → Sound n now (from .trail) → OfferAsks n to (costs .wire) (costs .limit) from now × StepCostsOf (costs .wire) (costs .limit) costs
   offer-asks to wire costs now from costed h w same listed sound = (
     record {
-      cellIn = asks .cellIn;
       toIn = omega (arith, cells-are p marks (asks .ready));
       few = few-cells p marks (asks .ready);
       wireFits = rw (costed .wire) w;
@@ -80,51 +82,105 @@ module _ (p : Problem) (marks : List ℕ) (cell : ℕ) (next : Grown) (words : L
       rw (cells-are p marks (asks .ready))
       (four-sides P (asks .ready .sized) (p .elements) (p .source) (p .sink) cell inside (p .elements .limit .0) B past c l x)
 
-  module _ (w₁ w₂ w₃ w₄ : List ℕ) (k₁ k₂ k₃ k₄ : Grown) (up : Offered n cell (neighboursOf P cell .up) (p .elements .vertical) (p .elements .limit .0) (next .trail) words w₁ k₁) (left : Offered n cell (neighboursOf P cell .left) (p .elements .horizontal) (p .elements .limit .0) (k₁ .trail) w₁ w₂ k₂) (right : Offered n cell (neighboursOf P cell .right) (p .elements .horizontal) (p .elements .limit .0) (k₂ .trail) w₂ w₃ k₃) (down : Offered n cell (neighboursOf P cell .down) (p .elements .vertical) (p .elements .limit .0) (k₃ .trail) w₃ w₄ k₄) where
-    row₁ : (l : ℕ) → arrivalsOf n w₁ cell l ≡ arrivalsOf n words cell l
-    row₁ = arrivals-kept n words w₁ (λ k lo hi. up .raised .kept k lo (omega arith)) cell
+  abbrev R : Rules
+  R = rulesFor p marks
 
-    row₂ : (l : ℕ) → arrivalsOf n w₂ cell l ≡ arrivalsOf n words cell l
-    row₂ l = arrivals-kept n w₁ w₂ (λ k lo hi. left .raised .kept k lo (omega arith)) cell l ∙ row₁ l
+  -- first the arrival row is made
+  module _ (w₀ : List ℕ) (fill : Filled (arrivals R n words cell) (n * 64) rowWords words w₀) where
+    high : KeptFrom (n * 128) words w₀
+    high k h = fill .high k (omega (arith, asks .cellIn))
 
-    row₃ : (l : ℕ) → arrivalsOf n w₃ cell l ≡ arrivalsOf n words cell l
-    row₃ l = arrivals-kept n w₂ w₃ (λ k lo hi. right .raised .kept k lo (omega arith)) cell l ∙ row₂ l
+    filled-budget : (c l : ℕ) → budgetOf n w₀ c l ≡ budgetOf n words c l
+    filled-budget = budget-kept n words w₀ (λ k lo hi. fill .low k hi)
 
-    -- one offer, with the arrival row as it was at the start
-    at-start : (to : ℕ) (wire : Wire) (t : Trail) (old new : List ℕ) (k : Grown) → Offered n cell to wire (p .elements .limit .0) t old new k → ((l : ℕ) → arrivalsOf n old cell l ≡ arrivalsOf n words cell l) → (c l : ℕ) → budgetOf n new c l ≡ max (budgetOf n old c l) (only (isSide n to c) (gift wire (p .elements .limit .0) (arrivalsOf n words) cell l))
-    at-start to wire t old new k o e c l =
-        o .table c l ∙ rw (gift-row wire (p .elements .limit .0) (arrivalsOf n words) (arrivalsOf n old) cell e l)
+    filled-row : (l : ℕ) → arrivalOf n w₀ l ≡ arrivals R n words cell l
+    filled-row l = go (split rowWords l)
+      where
+        go : (rowWords ≤ l) ⊎ (l < rowWords) → arrivalOf n w₀ l ≡ arrivals R n words cell l
+        go (inl h) =
+            arrival-outside n w₀ l h
+            ∙ sym (arrival-past R (seedOf n words) (R .bound 0) (budgetOf n words) cell l (omega (arith, limit-named p marks, asks .ready .valid .limit)))
+        go (inr h) = arrival-at n w₀ l h ∙ fill .done l h
 
-    spread-table : (c l : ℕ) → budgetOf n w₄ c l ≡ max (budgetOf n words c l) (given (rulesFor p marks) (arrivalsOf n words) cell c l)
-    spread-table c l =
-        cc (
-          at-start (neighboursOf P cell .up) (p .elements .vertical) (next .trail) words w₁ k₁ up (λ l. refl) c l,
-          at-start (neighboursOf P cell .left) (p .elements .horizontal) (k₁ .trail) w₁ w₂ k₂ left row₁ c l,
-          at-start (neighboursOf P cell .right) (p .elements .horizontal) (k₂ .trail) w₂ w₃ k₃ right row₂ c l,
-          at-start (neighboursOf P cell .down) (p .elements .vertical) (k₃ .trail) w₃ w₄ k₄ down row₃ c l,
-          sides (arrivalsOf n words) (asks .past) c l (budgetOf n words c l),
-        )
+    pub filled-listed : Listed n w₀ (n * 133) (next .count)
+    filled-listed =
+        listed-kept (asks .listed) w₀ (λ c h. high (n * 134 + c) (omega arith)) (λ i h. high (n * 133 + i) (omega arith))
 
-    pub spread-whole : Spread (rulesFor p marks) n cell (next .trail) words w₄ k₄
-    spread-whole =
+    pub filled-follows : Follows n (next .trail) words (next .trail) w₀
+    filled-follows = follows-kept (omega (arith, asks .cellIn)) (asks .sound) (λ k lo hi. fill .low k hi) (fill .high)
+
+    filled-raised : Raised n words w₀ (next .count)
+    filled-raised =
         record {
-          raised =
-              raised-more n words w₃ w₄ (k₃ .count) (k₄ .count)
-              (λ c l. omega (arith, offered-least up c l, offered-least left c l, offered-least right c l)) (offered-least down)
-              (raised-more n words w₂ w₃ (k₂ .count) (k₃ .count) (λ c l. omega (arith, offered-least up c l, offered-least left c l)) (offered-least right)
-              (raised-more n words w₁ w₂ (k₁ .count) (k₂ .count) (offered-least up) (offered-least left) (up .raised) (left .raised))
-              (right .raised))
-              (down .raised);
-          follows = follows-more (up .follows) (follows-more (left .follows) (follows-more (right .follows) (down .follows)));
-          table = spread-table;
+          same = fill .same;
+          listed = filled-listed;
+          flags = λ c h. inl (high (n * 134 + c) (omega arith));
+          quiet = λ c h z. filled-budget c;
+          kept = λ k lo hi. high k lo;
+          seeds = λ k lo hi. high k (omega arith);
         }
+
+    -- then the four offers
+    module _ (w₁ w₂ w₃ w₄ : List ℕ) (k₁ k₂ k₃ k₄ : Grown) (up : Offered n (neighboursOf P cell .up) (p .elements .vertical) (p .elements .limit .0) (next .trail) w₀ w₁ k₁) (left : Offered n (neighboursOf P cell .left) (p .elements .horizontal) (p .elements .limit .0) (k₁ .trail) w₁ w₂ k₂) (right : Offered n (neighboursOf P cell .right) (p .elements .horizontal) (p .elements .limit .0) (k₂ .trail) w₂ w₃ k₃) (down : Offered n (neighboursOf P cell .down) (p .elements .vertical) (p .elements .limit .0) (k₃ .trail) w₃ w₄ k₄) where
+      row₁ : (l : ℕ) → arrivalOf n w₁ l ≡ arrivals R n words cell l
+      row₁ l = up .arrival l ∙ filled-row l
+
+      row₂ : (l : ℕ) → arrivalOf n w₂ l ≡ arrivals R n words cell l
+      row₂ l = left .arrival l ∙ row₁ l
+
+      row₃ : (l : ℕ) → arrivalOf n w₃ l ≡ arrivals R n words cell l
+      row₃ l = right .arrival l ∙ row₂ l
+
+      -- one offer, of the cell's arrival row
+      at-start : (to : ℕ) (wire : Wire) (t : Trail) (old new : List ℕ) (k : Grown) → Offered n to wire (p .elements .limit .0) t old new k → ((l : ℕ) → arrivalOf n old l ≡ arrivals R n words cell l) → (c l : ℕ) → budgetOf n new c l ≡ max (budgetOf n old c l) (only (isSide n to c) (gift wire (p .elements .limit .0) (arrivals R n words) cell l))
+      at-start to wire t old new k o e c l =
+          o .table c l ∙ rw (gift-row wire (p .elements .limit .0) (arrivals R n words) (λ c. arrivalOf n old) cell 0 e l)
+
+      spread-table : (c l : ℕ) → budgetOf n w₄ c l ≡ max (budgetOf n words c l) (given R (arrivals R n words) cell c l)
+      spread-table c l =
+          cc (
+            filled-budget c l,
+            at-start (neighboursOf P cell .up) (p .elements .vertical) (next .trail) w₀ w₁ k₁ up filled-row c l,
+            at-start (neighboursOf P cell .left) (p .elements .horizontal) (k₁ .trail) w₁ w₂ k₂ left row₁ c l,
+            at-start (neighboursOf P cell .right) (p .elements .horizontal) (k₂ .trail) w₂ w₃ k₃ right row₂ c l,
+            at-start (neighboursOf P cell .down) (p .elements .vertical) (k₃ .trail) w₃ w₄ k₄ down row₃ c l,
+            sides (arrivals R n words) (λ l h. arrival-past R (seedOf n words) (R .bound 0) (budgetOf n words) cell l (omega (arith, limit-named p marks))) c l (budgetOf n words c l),
+          )
+
+      least₁ : (c l : ℕ) → budgetOf n words c l ≤ budgetOf n w₁ c l
+      least₁ c l = omega (arith, filled-budget c l, offered-least up c l)
+
+      least₂ : (c l : ℕ) → budgetOf n words c l ≤ budgetOf n w₂ c l
+      least₂ c l = omega (arith, least₁ c l, offered-least left c l)
+
+      pub spread-whole : Spread R n cell (next .trail) words w₄ k₄
+      spread-whole =
+          record {
+            raised =
+                raised-more n words w₃ w₄ (k₃ .count) (k₄ .count) (λ c l. omega (arith, least₂ c l, offered-least right c l)) (offered-least down)
+                (raised-more n words w₂ w₃ (k₂ .count) (k₃ .count) least₂ (offered-least right)
+                (raised-more n words w₁ w₂ (k₁ .count) (k₂ .count) least₁ (offered-least left)
+                (raised-more n words w₀ w₁ (next .count) (k₁ .count) (λ c l. omega (arith, filled-budget c l)) (offered-least up) filled-raised (up .raised))
+                (left .raised))
+                (right .raised))
+                (down .raised);
+            follows = follows-more filled-follows (follows-more (up .follows) (follows-more (left .follows) (follows-more (right .follows) (down .follows))));
+            table = spread-table;
+          }
 
 -- The active list, one cell after another.
 module _ (p : Problem) (marks : List ℕ) (active : ℕ) (t : Trail) (words : List ℕ) (asks : SpreadAllAsks p marks active t words) where
   abbrev m : ℕ
   m = length marks
 
-  pub spread-none : SpreadAll (rulesFor p marks) m 0 t words words (record { count = 0; trail = t })
+  abbrev Q : Rules
+  Q = rulesFor p marks
+
+  -- the cell at place i of the list
+  abbrev giver : ℕ → ℕ
+  giver i = getD words (m * 132 + i) 0
+
+  pub spread-none : SpreadAll Q m 0 t words words (record { count = 0; trail = t })
   spread-none =
       record {
         raised =
@@ -142,25 +198,35 @@ module _ (p : Problem) (marks : List ℕ) (active : ℕ) (t : Trail) (words : Li
         gave = λ i h. absurd (omega arith);
       }
 
-  module _ (now : List ℕ) (i : ℕ) (next : Grown) (short : i < active) (before : SpreadAll (rulesFor p marks) m i t words now next) where
-    same-cell : (j : ℕ) → j < active → getD now (m * 132 + j) 0 ≡ getD words (m * 132 + j) 0
-    same-cell j h = before .raised .kept (m * 132 + j) (omega arith) (omega (arith, asks .short))
+  -- no cell of the list gives to another
+  gives-none : (B : Table) (i j l : ℕ) → i < active → j < active → given Q B (giver j) (giver i) l ≡ 0
+  unfolding given
+  gives-none B i j l h k = only-false (Q .linked (giver i) (giver j)) _ (asks .apart i j h k)
 
-    same-row : (c l : ℕ) → arrivalsOf m now c l ≡ arrivalsOf m words c l
-    same-row = arrivals-kept m words now (λ k lo hi. before .raised .kept k lo (omega arith))
+  module _ (now : List ℕ) (i : ℕ) (next : Grown) (short : i < active) (before : SpreadAll Q m i t words now next) where
+    same-cell : getD now (m * 132 + i) 0 ≡ giver i
+    same-cell = before .raised .kept (m * 132 + i) (omega arith) (omega (arith, asks .short))
+
+    -- so its row is as it was
+    same-row : (l : ℕ) → budgetOf m now (giver i) l ≡ budgetOf m words (giver i) l
+    same-row l =
+        omega (
+          arith,
+          before .least (giver i) l,
+          before .most (budgetOf m words (giver i) l) (giver i) l (omega arith) (λ j h. omega (arith, gives-none (arrivals Q m words) i j l short (omega arith))),
+        )
 
     pub spread-next-asks : SpreadAsks p marks (getD now (m * 132 + i) 0) next now
     spread-next-asks =
         record {
           ready = asks .ready;
-          cellIn = omega (arith, same-cell i short, asks .cells i short);
+          cellIn = omega (arith, same-cell, asks .cells i short);
           room = omega (arith, before .raised .same, asks .room);
           listed = before .raised .listed;
           sound = before .follows .sound;
-          past = λ l h. same-row _ l ∙ rw (same-cell i short) (asks .past i short l h);
         }
 
-    pub spread-more : (last : List ℕ) (count : Grown) → Spread (rulesFor p marks) m (getD now (m * 132 + i) 0) (next .trail) now last count → SpreadAll (rulesFor p marks) m (i + 1) t words last count
+    pub spread-more : (last : List ℕ) (count : Grown) → Spread Q m (getD now (m * 132 + i) 0) (next .trail) now last count → SpreadAll Q m (i + 1) t words last count
     spread-more last count s =
         record {
           raised = raised-more m words now last (next .count) (count .count) (before .least) grows (before .raised) (s .raised);
@@ -173,10 +239,14 @@ module _ (p : Problem) (marks : List ℕ) (active : ℕ) (t : Trail) (words : Li
         grows : (c l : ℕ) → budgetOf m now c l ≤ budgetOf m last c l
         grows c l = omega (arith, s .table c l)
 
-        given-now : (c l : ℕ) → given (rulesFor p marks) (arrivalsOf m now) (getD now (m * 132 + i) 0) c l ≡ given (rulesFor p marks) (arrivalsOf m words) (getD words (m * 132 + i) 0) c l
-        given-now c l = rw (same-cell i short) (given-row (rulesFor p marks) (arrivalsOf m words) (arrivalsOf m now) (getD words (m * 132 + i) 0) (same-row _) c l)
+        given-now : (c l : ℕ) → given Q (arrivals Q m now) (getD now (m * 132 + i) 0) c l ≡ given Q (arrivals Q m words) (giver i) c l
+        given-now c l =
+            rw same-cell
+            (given-row Q (arrivals Q m words) (arrivals Q m now) (giver i)
+            (arrival-row Q (seedOf m words) (seedOf m now) (Q .bound 0) (budgetOf m words) (budgetOf m now) (giver i) same-row (seeds-kept m words now (before .raised .seeds) (giver i) (asks .cells i short)))
+            c l)
 
-        go : (j : ℕ) → j < i + 1 → (c l : ℕ) → (i ≤ j) ⊎ (j < i) → given (rulesFor p marks) (arrivalsOf m words) (getD words (m * 132 + j) 0) c l ≤ budgetOf m last c l
+        go : (j : ℕ) → j < i + 1 → (c l : ℕ) → (i ≤ j) ⊎ (j < i) → given Q (arrivals Q m words) (giver j) c l ≤ budgetOf m last c l
         go j h c l (inr k) = omega (arith, before .gave j k c l, grows c l)
         go j h c l (inl k) =
             let e : i ≡ j = omega arith in

@@ -7,14 +7,14 @@ use mathlib.Core.List.{List}
 use native.Mathlib.Omega.{arith}
 use lib.Dec.{T, ltb, ltb→lt, lt→ltb}
 use lib.ListN.{getD}
-use Rattle.plan.proofs.Truth.{both, fst, snd}
+use Rattle.plan.proofs.Truth.{both, fst, snd, split}
 use Rattle.budget.proofs.Max.{only-true, only-false}
 use Rattle.rows.specs.Words.{Kept}
 use Rattle.costs.specs.Costs.{rowWords, bufferAt}
 use Rattle.rules.specs.Rules.{rulesOf}
 use Rattle.table.specs.declared.problem.Problem.{Problem}
 use Rattle.table.specs.Problem.{rulesFor, budgetOf, seedOf}
-use Rattle.table.specs.Layer.{arrivalsOf}
+use Rattle.table.specs.Layer.{arrivalOf}
 
 module _ (n : ℕ) where
   in-table : (c l : ℕ) → c < n → l < rowWords → T (ltb c n && ltb l rowWords)
@@ -29,18 +29,17 @@ module _ (n : ℕ) where
   budget-outside words c l f =
       only-false (ltb c n && ltb l rowWords) _ (λ t. f (ltb→lt c n (fst (ltb c n) _ t)) (ltb→lt l rowWords (snd (ltb c n) _ t)))
 
-  pub arrivals-at : (words : List ℕ) (c l : ℕ) → c < n → l < rowWords → arrivalsOf n words c l ≡ getD words (n * 64 + c * 64 + l) 0
-  unfolding arrivalsOf
-  arrivals-at words c l h k = only-true (ltb c n && ltb l rowWords) _ (in-table c l h k)
+  pub arrival-at : (words : List ℕ) (l : ℕ) → l < rowWords → arrivalOf n words l ≡ getD words (n * 64 + l) 0
+  unfolding arrivalOf
+  arrival-at words l k = only-true (ltb l rowWords) _ (lt→ltb l rowWords k)
 
-  pub arrivals-outside : (words : List ℕ) (c l : ℕ) → (c < n → l < rowWords → ⊥) → arrivalsOf n words c l ≡ 0
-  unfolding arrivalsOf
-  arrivals-outside words c l f =
-      only-false (ltb c n && ltb l rowWords) _ (λ t. f (ltb→lt c n (fst (ltb c n) _ t)) (ltb→lt l rowWords (snd (ltb c n) _ t)))
+  pub arrival-outside : (words : List ℕ) (l : ℕ) → rowWords ≤ l → arrivalOf n words l ≡ 0
+  unfolding arrivalOf
+  arrival-outside words l h = only-false (ltb l rowWords) _ (λ t. omega (arith, ltb→lt l rowWords t))
 
   -- a place of the table, or outside it
   pub inside : (c l : ℕ) → ((c < n) × (l < rowWords)) ⊎ (c < n → l < rowWords → ⊥)
-  inside c l = go (Rattle.plan.proofs.Truth.split n c) (Rattle.plan.proofs.Truth.split rowWords l)
+  inside c l = go (split n c) (split rowWords l)
     where
       go : (n ≤ c) ⊎ (c < n) → (rowWords ≤ l) ⊎ (l < rowWords) → ((c < n) × (l < rowWords)) ⊎ (c < n → l < rowWords → ⊥)
       go (inl h) k = inr (λ a b. omega arith)
@@ -56,12 +55,12 @@ module _ (n : ℕ) where
       go (inl h) = budget-at new c l (h .0) (h .1) ∙ (kept (c * 64 + l) (omega arith) (omega arith) ∙ sym (budget-at old c l (h .0) (h .1)))
       go (inr f) = budget-outside new c l f ∙ sym (budget-outside old c l f)
 
-  pub arrivals-kept : (old new : List ℕ) → Kept (n * 64) (n * 128) old new → (c l : ℕ) → arrivalsOf n new c l ≡ arrivalsOf n old c l
-  arrivals-kept old new kept c l = go (inside c l)
+  pub arrival-kept : (old new : List ℕ) → Kept (n * 64) (n * 64 + rowWords) old new → (l : ℕ) → arrivalOf n new l ≡ arrivalOf n old l
+  arrival-kept old new kept l = go (split rowWords l)
     where
-      go : ((c < n) × (l < rowWords)) ⊎ (c < n → l < rowWords → ⊥) → arrivalsOf n new c l ≡ arrivalsOf n old c l
-      go (inl h) = arrivals-at new c l (h .0) (h .1) ∙ (kept (n * 64 + c * 64 + l) (omega arith) (omega arith) ∙ sym (arrivals-at old c l (h .0) (h .1)))
-      go (inr f) = arrivals-outside new c l f ∙ sym (arrivals-outside old c l f)
+      go : (rowWords ≤ l) ⊎ (l < rowWords) → arrivalOf n new l ≡ arrivalOf n old l
+      go (inl h) = arrival-outside new l h ∙ sym (arrival-outside old l h)
+      go (inr h) = arrival-at new l h ∙ (kept (n * 64 + l) (omega arith) (omega arith) ∙ sym (arrival-at old l h))
 
   pub seeds-kept : (old new : List ℕ) → Kept (n * 135) (n * 136) old new → (c : ℕ) → c < n → seedOf n new c ≡ seedOf n old c
   unfolding seedOf

@@ -1,7 +1,7 @@
 -- What one layer does to the scratch words.
-use Prim.Native.Nat.{ℕ, _+_, _*_, _≤_, _<_, max}
+use Prim.Native.Nat.{ℕ, _+_, _*_, _≤_, _<_, max, min}
 use mathlib.Core.Path.{_≡_}
-use mathlib.Core.Bool.{Bool, true, _&&_}
+use mathlib.Core.Bool.{Bool, true}
 use mathlib.Core.Logic.{_⊎_}
 use mathlib.Core.List.{List}
 use lib.Dec.{T, ltb}
@@ -17,19 +17,27 @@ use Rattle.trail.specs.declared.Trail.{Trail}
 use Rattle.trail.specs.Trail.{Sound, History, Noted}
 use Rattle.timing.specs.Ranges.{loadMax}
 use Rattle.timing.specs.Elements.{WireInRange}
-use Rattle.table.specs.Problem.{Ready, Room, budgetOf, seedOf}
+use Rattle.table.specs.Problem.{Ready, Room, rulesFor, budgetOf, seedOf}
 use Rattle.table.specs.Colours.{Giver}
 use Rattle.table.specs.declared.problem.Problem.{Problem}
 use Rattle.table.specs.declared.pushes.Grown.{Grown}
 
--- the arrival table in the words; 0 outside cells and loads
-unfoldable pub arrivalsOf : ℕ → List ℕ → Table
-arrivalsOf n words c l = only (ltb c n && ltb l rowWords) (getD words (n * 64 + c * 64 + l) 0)
+-- the arrival row in the words; 0 past the loads
+unfoldable pub arrivalOf : ℕ → List ℕ → ℕ → ℕ
+arrivalOf n words l = only (ltb l rowWords) (getD words (n * 64 + l) 0)
+
+-- what a step of this wire leaves of it
+abbrev pub rowGift : ℕ → List ℕ → Wire → ℕ → ℕ → ℕ
+rowGift n words wire limit l = gift wire limit (λ c. arrivalOf n words) 0 l
+
+-- the arrival rows of all cells, as the table in the words has them
+abbrev pub arrivals : Rules → ℕ → List ℕ → Table
+arrivals R n words = arrival R (seedOf n words) (R .bound 0) (budgetOf n words)
 
 -- what cell n gives to its neighbours is in the table already
 abbrev pub Settled : Rules → ℕ → List ℕ → ℕ → Type 0
 Settled R n words cell =
-    (c l : ℕ) → given R (arrival R (seedOf n words) (R .bound 0) (budgetOf n words)) cell c l ≤ budgetOf n words c l
+    (c l : ℕ) → given R (arrivals R n words) cell c l ≤ budgetOf n words c l
 
 -- the active list is right in P: what a cell of P that is not listed gives is in the table already
 pub record ActiveIn (R : Rules) (n : ℕ) (P : ℕ → Bool) (words : List ℕ) (active : ℕ) : Type 0 where
@@ -48,13 +56,11 @@ pub record Grew (n : ℕ) (old new : List ℕ) (c : ℕ) : Type 0 where
 abbrev pub SameRow : ℕ → List ℕ → List ℕ → ℕ → Type 0
 SameRow n old new c = (l : ℕ) → budgetOf n new c l ≡ budgetOf n old c l
 
--- After `fill_arrivals`: the arrival rows of the listed cells are right, and no flag is set.
-pub record ArrivalsFilled (R : Rules) (n : ℕ) (old new : List ℕ) : Type 0 where
+-- After `clear_flags`: no flag is set, and all other words stay.
+pub record FlagsCleared (n : ℕ) (old new : List ℕ) : Type 0 where
   pub same : length new ≡ length old
-  pub table : Kept 0 (n * 64) old new
-  pub rows : (c : ℕ) → c < n → flagOf n old c ≡ 1 → (l : ℕ) → l < rowWords → getD new (n * 64 + c * 64 + l) 0 ≡ arrival R (seedOf n old) (R .bound 0) (budgetOf n old) c l
   pub cleared : (c : ℕ) → c < n → flagOf n new c ≡ 0
-  pub labels : Kept (n * 128) (n * 134) old new
+  pub low : Kept 0 (n * 134) old new
   pub rest : KeptFrom (n * 135) old new
 
 -- After pushes into the table: flags mark the cells that grew, the next list has them, and the rest of the words stay.
@@ -63,7 +69,7 @@ pub record Raised (n : ℕ) (old new : List ℕ) (next : ℕ) : Type 0 where
   pub listed : Listed n new (n * 133) next
   pub flags : (c : ℕ) → c < n → (flagOf n new c ≡ flagOf n old c) ⊎ ((flagOf n new c ≡ 1) × Grew n old new c)
   pub quiet : (c : ℕ) → c < n → flagOf n new c ≡ 0 → SameRow n old new c
-  pub kept : Kept (n * 64) (n * 133) old new
+  pub kept : Kept (n * 128) (n * 133) old new
   pub seeds : Kept (n * 135) (n * 136) old new
 
 -- the layer being made has saved every flagged cell
@@ -75,19 +81,21 @@ pub record Follows (n : ℕ) (t : Trail) (old : List ℕ) (r : Trail) (new : Lis
   pub sound : Sound n new r
   pub room : r .room ≡ t .room
   pub stamp : r .stamp ≡ t .stamp
-  pub beyond : KeptFrom (n * 136 + t .room * 67) old new
+  -- with few slots all of them are in the first stretch
+  pub near : t .room * 67 ≤ n * 120 → Kept (n * 64 + 64) (n * 128) old new
+  pub beyond : KeptFrom (n * 136 + min (t .room * 67) (n * 120)) old new
   pub noted : FlagsNoted n old t → FlagsNoted n new r
   pub history : FlagsNoted n old t → (u : ℕ) (Z : ℕ → Table) → u < t .stamp → History n old t u Z → History n new r u Z
 
 -- After `note`: only words of the trail's slots change, and the cell is saved.
 pub record NotedRow (n cell : ℕ) (old : List ℕ) (t : Trail) (new : List ℕ) (r : Trail) : Type 0 where
   pub same : length new ≡ length old
-  pub low : (k : ℕ) → k < n * 136 → getD new k 0 ≡ getD old k 0
+  pub low : Kept 0 (n * 64 + 64) old new
+  pub labels : Kept (n * 128) (n * 136) old new
   pub follows : Follows n t old r new
   pub noted : FlagsNoted n old t → Noted n new r cell
 
-pub record OfferAsks (n cell to : ℕ) (wire : Wire) (limit : ℕ) (next : Grown) (words : List ℕ) : Type 0 where
-  pub cellIn : cell < n
+pub record OfferAsks (n to : ℕ) (wire : Wire) (limit : ℕ) (next : Grown) (words : List ℕ) : Type 0 where
   pub toIn : to ≤ n
   pub few : n ≤ 1024
   pub wireFits : WireInRange wire
@@ -96,28 +104,27 @@ pub record OfferAsks (n cell to : ℕ) (wire : Wire) (limit : ℕ) (next : Grown
   pub listed : Listed n words (n * 133) (next .count)
   pub sound : Sound n words (next .trail)
 
--- After `offer`: one neighbour's row is raised.
-pub record Offered (n cell to : ℕ) (wire : Wire) (limit : ℕ) (t : Trail) (old new : List ℕ) (next : Grown) : Type 0 where
+-- After `offer`: one neighbour's row is raised; the arrival row stays.
+pub record Offered (n to : ℕ) (wire : Wire) (limit : ℕ) (t : Trail) (old new : List ℕ) (next : Grown) : Type 0 where
   pub raised : Raised n old new (next .count)
   pub follows : Follows n t old (next .trail) new
-  pub table : (c l : ℕ) → budgetOf n new c l ≡ max (budgetOf n old c l) (only (isSide n to c) (gift wire limit (arrivalsOf n old) cell l))
+  pub table : (c l : ℕ) → budgetOf n new c l ≡ max (budgetOf n old c l) (only (isSide n to c) (rowGift n old wire limit l))
+  pub arrival : (l : ℕ) → arrivalOf n new l ≡ arrivalOf n old l
 
--- the arrival row of the cell is 0 past the limit
 pub record SpreadAsks (p : Problem) (marks : List ℕ) (cell : ℕ) (next : Grown) (words : List ℕ) : Type 0 where
   pub ready : Ready p marks
   pub cellIn : cell < length marks
   pub room : Room (length marks) words
   pub listed : Listed (length marks) words (length marks * 133) (next .count)
   pub sound : Sound (length marks) words (next .trail)
-  pub past : (l : ℕ) → p .elements .limit .0 < l → arrivalsOf (length marks) words cell l ≡ 0
 
 -- After `spread`: each neighbour has what the cell gives.
 pub record Spread (R : Rules) (n cell : ℕ) (t : Trail) (old new : List ℕ) (next : Grown) : Type 0 where
   pub raised : Raised n old new (next .count)
   pub follows : Follows n t old (next .trail) new
-  pub table : (c l : ℕ) → budgetOf n new c l ≡ max (budgetOf n old c l) (given R (arrivalsOf n old) cell c l)
+  pub table : (c l : ℕ) → budgetOf n new c l ≡ max (budgetOf n old c l) (given R (arrivals R n old) cell c l)
 
--- no cell is flagged; the cells of the active list have arrival rows that are 0 past the limit
+-- no cell is flagged, and no wire joins two cells of the active list
 pub record SpreadAllAsks (p : Problem) (marks : List ℕ) (active : ℕ) (t : Trail) (words : List ℕ) : Type 0 where
   pub ready : Ready p marks
   pub room : Room (length marks) words
@@ -125,15 +132,15 @@ pub record SpreadAllAsks (p : Problem) (marks : List ℕ) (active : ℕ) (t : Tr
   pub unflagged : (c : ℕ) → c < length marks → flagOf (length marks) words c ≡ 0
   pub short : active ≤ length marks
   pub cells : (i : ℕ) → i < active → getD words (length marks * 132 + i) 0 < length marks
-  pub past : (i : ℕ) → i < active → (l : ℕ) → p .elements .limit .0 < l → arrivalsOf (length marks) words (getD words (length marks * 132 + i) 0) l ≡ 0
+  pub apart : (i j : ℕ) → i < active → j < active → T (rulesFor p marks .linked (getD words (length marks * 132 + i) 0) (getD words (length marks * 132 + j) 0)) → ⊥
 
 -- After `spread_all`: each neighbour of a cell on the active list has what that cell gives, and nothing else was added.
 pub record SpreadAll (R : Rules) (n active : ℕ) (t : Trail) (old new : List ℕ) (next : Grown) : Type 0 where
   pub raised : Raised n old new (next .count)
   pub follows : Follows n t old (next .trail) new
   pub least : (c l : ℕ) → budgetOf n old c l ≤ budgetOf n new c l
-  pub most : (x c l : ℕ) → budgetOf n old c l ≤ x → ((i : ℕ) → i < active → given R (arrivalsOf n old) (getD old (n * 132 + i) 0) c l ≤ x) → budgetOf n new c l ≤ x
-  pub gave : (i : ℕ) → i < active → (c l : ℕ) → given R (arrivalsOf n old) (getD old (n * 132 + i) 0) c l ≤ budgetOf n new c l
+  pub most : (x c l : ℕ) → budgetOf n old c l ≤ x → ((i : ℕ) → i < active → given R (arrivals R n old) (getD old (n * 132 + i) 0) c l ≤ x) → budgetOf n new c l ≤ x
+  pub gave : (i : ℕ) → i < active → (c l : ℕ) → given R (arrivals R n old) (getD old (n * 132 + i) 0) c l ≤ budgetOf n new c l
 
 -- After a layer. Wherever the active list was right: the rows of the cells whose neighbours are all there are the next ones, and the new list is right.
 pub record Layered (R : Rules) (n : ℕ) (t : Trail) (old new : List ℕ) (next : Grown) : Type 0 where
@@ -145,9 +152,10 @@ pub record Layered (R : Rules) (n : ℕ) (t : Trail) (old new : List ℕ) (next 
   pub quiet : (c : ℕ) → c < n → flagOf n new c ≡ 0 → SameRow n old new c
   -- labels and order
   pub labels : Kept (n * 128) (n * 132) old new
-  -- seed flags, and all beyond the trail
+  -- seed flags, and all but the trail
   pub seeds : Kept (n * 135) (n * 136) old new
-  pub beyond : KeptFrom (n * 136 + t .room * 67) old new
+  pub near : t .room * 67 ≤ n * 120 → Kept (n * 64 + 64) (n * 128) old new
+  pub beyond : KeptFrom (n * 136 + min (t .room * 67) (n * 120)) old new
   -- the trail; stamp is the layer made
   pub sound : Sound n new (next .trail)
   pub room : next .trail .room ≡ t .room

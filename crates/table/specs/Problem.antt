@@ -1,5 +1,5 @@
 -- A routing problem as the rules see it, what its parts must meet, and how the scratch words (document 01: the bench) are laid out.
--- Words of the scratch, n cells: budget rows from 0, arrival rows from 64n, registers to go plus one from 128n, steps low 129n, steps high 130n, order 131n, active list 132n, next list 133n, listed flags 134n, seed flags 135n.
+-- Words of the scratch, n cells: budget rows from 0, one arrival row at 64n, registers to go plus one from 128n, steps low 129n, steps high 130n, order 131n, active list 132n, next list 133n, listed flags 134n, seed flags 135n. The undo trail has the rest, up to 256n.
 use Prim.Native.Nat.{ℕ, _+_, _*_, _≤_, _<_}
 use mathlib.Core.Bool.{Bool, _&&_}
 use mathlib.Core.List.{List}

@@ -1,28 +1,27 @@
-// One layer: the arrival rows of the active cells, then what these give to their neighbours.
-ghost use Prim.Native.Nat.{_+_, _*_, _<_};
+// One layer: what the arrival rows of the active cells give to their neighbours.
+// It is made in place: no wire joins two active cells, so none of their rows changes.
+ghost use Prim.Native.Nat.{_+_, _*_, _≤_, _<_};
 ghost use lib.ListN.{length};
 ghost use Rattle.lists.specs.Lists.{Listed};
 ghost use Rattle.trail.specs.Trail.{Sound};
 ghost use Rattle.table.specs.Problem.{Ready, Room, rulesFor};
-ghost use Rattle.table.specs.Layer.{ArrivalsFilled, Layered};
-use crate::arrival::fill_arrival;
+ghost use Rattle.table.specs.Colours.{Apart};
+ghost use Rattle.table.specs.Layer.{FlagsCleared, Layered};
 use crate::problem::Problem;
 use crate::pushes::Grown;
 use crate::pushes::spread_all;
 use lists::take_list;
 use trail::Trail;
 
-// The arrival rows of the active cells; their flags are cleared.
-fn fill_arrivals(plan: &[u8], scratch: &mut [u16], p: Problem, active: usize)
-    requires { ⌜ Ready p (now plan) × (Room (length (now plan)) (now scratch) × Listed (length (now plan)) (now scratch) (length (now plan) * 132) active) ⌝ }
-    ensures { λ _. ⌜ ArrivalsFilled (rulesFor p (now (plan .entry))) (length (now (plan .entry))) (now (scratch .entry)) (now (scratch .exit)) ⌝ }
+// The flags of the active cells are cleared.
+fn clear_flags(scratch: &mut [u16], n: usize, active: usize)
+    requires { ⌜ (n ≤ 1024) × (Room n (now scratch) × Listed n (now scratch) (n * 132) active) ⌝ }
+    ensures { λ _. ⌜ FlagsCleared n (now (scratch .entry)) (now (scratch .exit)) ⌝ }
 {
-    let n = plan.len();
     let mut i = 0;
     while i < active {
         let cell = scratch[n * 132 + i] as usize;
         scratch[n * 134 + cell] = 0;
-        fill_arrival(plan, scratch, p, cell);
         i += 1;
     }
 }
@@ -36,11 +35,11 @@ pub fn next_layer(
     active: usize,
     trail: Trail,
 ) -> Grown
-    requires { ⌜ Ready p (now plan) × (Room (length (now plan)) (now scratch) × (Listed (length (now plan)) (now scratch) (length (now plan) * 132) active × Sound (length (now plan)) (now scratch) trail)) ⌝ }
+    requires { ⌜ Ready p (now plan) × (Room (length (now plan)) (now scratch) × (Listed (length (now plan)) (now scratch) (length (now plan) * 132) active × (Sound (length (now plan)) (now scratch) trail × Apart (rulesFor p (now plan)) (length (now plan)) (now scratch)))) ⌝ }
     ensures { λ r. ⌜ Layered (rulesFor p (now (plan .entry))) (length (now (plan .entry))) trail (now (scratch .entry)) (now (scratch .exit)) r ⌝ }
 {
     let n = plan.len();
-    fill_arrivals(plan, scratch, p, active);
+    clear_flags(scratch, n, active);
     let next = spread_all(plan, scratch, p, active, trail);
     take_list(scratch, n, next.count);
     next

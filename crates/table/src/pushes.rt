@@ -5,6 +5,7 @@ ghost use Rattle.costs.specs.Costs.{StepCostsOf};
 ghost use Rattle.table.specs.Problem.{rulesFor};
 ghost use Rattle.trail.specs.Trail.{TrailAsks};
 ghost use Rattle.table.specs.Layer.{NotedRow, Offered, OfferAsks, Spread, SpreadAsks, SpreadAll, SpreadAllAsks};
+use crate::arrival::fill_arrival;
 use crate::problem::Problem;
 use costs::StepCosts;
 use lists::enlist;
@@ -31,22 +32,15 @@ fn note(scratch: &mut [u16], n: usize, cell: usize, trail: Trail) -> Trail
     save(scratch, n, cell, trail)
 }
 
-// One neighbour takes what the cell gives, if its row grows by it, and is then listed. The number n is no neighbour.
-fn offer(
-    scratch: &mut [u16],
-    n: usize,
-    cell: usize,
-    to: usize,
-    costs: StepCosts,
-    next: Grown,
-) -> Grown
-    requires { ⌜ OfferAsks n cell to (costs .wire) (costs .limit) next (now scratch) × StepCostsOf (costs .wire) (costs .limit) costs ⌝ }
-    ensures { λ r. ⌜ Offered n cell to (costs .wire) (costs .limit) (next .trail) (now (scratch .entry)) (now (scratch .exit)) r ⌝ }
+// One neighbour takes what the arrival row gives, if its row grows by it, and is then listed. The number n is no neighbour.
+fn offer(scratch: &mut [u16], n: usize, to: usize, costs: StepCosts, next: Grown) -> Grown
+    requires { ⌜ OfferAsks n to (costs .wire) (costs .limit) next (now scratch) × StepCostsOf (costs .wire) (costs .limit) costs ⌝ }
+    ensures { λ r. ⌜ Offered n to (costs .wire) (costs .limit) (next .trail) (now (scratch .entry)) (now (scratch .exit)) r ⌝ }
 {
     if to == n {
         return next;
     }
-    let from = n * 64 + cell * 64;
+    let from = n * 64;
     if !grows(scratch, from, to * 64, costs) {
         return next;
     }
@@ -59,19 +53,20 @@ fn offer(
     }
 }
 
-// The four neighbours take what the cell gives.
+// The arrival row of the cell is made, and its four neighbours take what it gives.
 fn spread(plan: &[u8], scratch: &mut [u16], p: Problem, cell: usize, next: Grown) -> Grown
     requires { ⌜ SpreadAsks p (now plan) cell next (now scratch) ⌝ }
     ensures { λ r. ⌜ Spread (rulesFor p (now (plan .entry))) (length (now (plan .entry))) cell (next .trail) (now (scratch .entry)) (now (scratch .exit)) r ⌝ }
 {
     let n = plan.len();
+    fill_arrival(plan, scratch, p, cell);
     let near = neighbours_of(plan, p.width, p.height, cell);
     let horizontal = p.costs.horizontal;
     let vertical = p.costs.vertical;
-    let a = offer(scratch, n, cell, near.up, vertical, next);
-    let b = offer(scratch, n, cell, near.left, horizontal, a);
-    let c = offer(scratch, n, cell, near.right, horizontal, b);
-    offer(scratch, n, cell, near.down, vertical, c)
+    let a = offer(scratch, n, near.up, vertical, next);
+    let b = offer(scratch, n, near.left, horizontal, a);
+    let c = offer(scratch, n, near.right, horizontal, b);
+    offer(scratch, n, near.down, vertical, c)
 }
 
 // The neighbours of the active cells take what these give.

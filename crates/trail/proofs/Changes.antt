@@ -1,6 +1,6 @@
 -- What forgetting the oldest entry, recording a row and putting one back leave of the history.
-use Prim.Native.Nat.{ℕ, _+_, _-_, _*_, _≤_, _<_}
-use mathlib.Core.Path.{_≡_, refl, sym, ap, _∙_}
+use Prim.Native.Nat.{ℕ, _+_, _-_, _*_, _≤_, _<_, min}
+use mathlib.Core.Path.{_≡_, sym, ap, _∙_}
 use mathlib.Core.Logic.{_⊎_, inl, inr}
 use mathlib.Core.List.{List}
 use native.Mathlib.Omega.{arith}
@@ -11,13 +11,13 @@ use Rattle.rows.specs.Words.{KeptFrom}
 use Rattle.rows.specs.Rows.{viewOf}
 use Rattle.costs.specs.Costs.{rowWords}
 use Rattle.trail.specs.declared.Trail.{Trail}
-use Rattle.trail.specs.Trail.{slotOf, stampOf, placeOf, rowAt, cellAt, stampAt, Sound, Unstored, Stored, RowOf, History, Entry, Noted, RoomMade, Saved, Restored}
-use Rattle.trail.proofs.Slots.{slot-cases, slot-below, slot-apart, slot-next, slot-same, cell-alike, stamp-alike, unstored-alike, stored-alike, entry-alike}
+use Rattle.trail.specs.Trail.{slotOf, stampOf, placeOf, rowAt, cellAt, stampAt, Sound, Unstored, Stored, RowOf, History, Noted, RoomMade, Saved, Restored}
+use Rattle.trail.proofs.Slots.{PlaceIn, slot-cases, slot-below, slot-apart, slot-next, slot-same, place-apart, entry-view, place-above, cell-alike, stamp-alike, unstored-alike, stored-alike, entry-alike}
 
 -- a full trail without its oldest entry
 module _ (n : ℕ) (words : List ℕ) (t r : Trail) (sound : Sound n words t) (some : 0 < t .room) (full : t .room ≤ t .count) (room : r .room ≡ t .room) (start : r .start ≡ slotOf t 1) (count : r .count ≡ t .count - 1) (low : r .low ≡ stampAt n words t 0) (stamp : r .stamp ≡ t .stamp) where
   place-next : (i : ℕ) → i < r .count → placeOf n r i ≡ placeOf n t (i + 1)
-  place-next i h = ap (λ (x : ℕ). n * 136 + x * 67) (slot-next t r room start (sound .start) some i (omega (arith, sound .fits)))
+  place-next i h = rw (slot-next t r room start (sound .start) some i (omega (arith, sound .fits)), room)
 
   cell-next : (i : ℕ) → i < r .count → cellAt n words r i ≡ cellAt n words t (i + 1)
   cell-next i h = ap (λ (x : ℕ). getD words (x + 64) 0) (place-next i h)
@@ -100,18 +100,29 @@ module _ (n : ℕ) (words : List ℕ) (t r : Trail) (sound : Sound n words t) (s
 -- one entry more
 module _ (n cell : ℕ) (old : List ℕ) (t : Trail) (new : List ℕ) (r : Trail) (sound : Sound n old t) (free : t .count < t .room) (room : r .room ≡ t .room) (start : r .start ≡ t .start) (count : r .count ≡ t .count + 1) (low : r .low ≡ t .low) (stamp : r .stamp ≡ t .stamp) (cellIn : cell < n) (same : length new ≡ length old) (kept : (k : ℕ) → (k < placeOf n t (t .count)) ⊎ (placeOf n t (t .count) + 67 ≤ k) → getD new k 0 ≡ getD old k 0) (row : (l : ℕ) → l < rowWords → getD new (placeOf n t (t .count) + l) 0 ≡ getD old (cell * 64 + l) 0) (cellWord : getD new (placeOf n t (t .count) + 64) 0 ≡ cell) (stampWords : stampOf new (placeOf n t (t .count)) ≡ t .stamp) where
   place-is : (i : ℕ) → placeOf n r i ≡ placeOf n t i
-  place-is i = ap (λ (x : ℕ). n * 136 + x * 67) (slot-same t r room start i)
+  place-is i = rw (slot-same t r room start i, room)
 
   alike : (i k : ℕ) → i < t .count → k < 67 → getD new (placeOf n r i + k) 0 ≡ getD old (placeOf n t i + k) 0
-  alike i k h q = rw (place-is i) (kept (placeOf n t i + k) (apart (split (slotOf t (t .count)) (slotOf t i))))
+  alike i k h q = rw (place-is i) (kept (placeOf n t i + k) (side (apart (split (slotOf t (t .count)) (slotOf t i)))))
     where
-      apart : (slotOf t (t .count) ≤ slotOf t i) ⊎ (slotOf t i < slotOf t (t .count)) → (placeOf n t i + k < placeOf n t (t .count)) ⊎ (placeOf n t (t .count) + 67 ≤ placeOf n t i + k)
-      apart (inr a) = inl (omega arith)
+      Apart : Type 0
+      Apart = (placeOf n t i + 67 ≤ placeOf n t (t .count)) ⊎ (placeOf n t (t .count) + 67 ≤ placeOf n t i)
+
+      apart : (slotOf t (t .count) ≤ slotOf t i) ⊎ (slotOf t i < slotOf t (t .count)) → Apart
+      apart (inr a) = place-apart n (t .room) (sound .slots) (slotOf t i) (slotOf t (t .count)) a (slot-below t (sound .start) (t .count) free)
       apart (inl a) = go (equal (slotOf t i) (slotOf t (t .count)))
         where
-          go : (slotOf t i ≡ slotOf t (t .count)) ⊎ (slotOf t i ≡ slotOf t (t .count) → ⊥) → (placeOf n t i + k < placeOf n t (t .count)) ⊎ (placeOf n t (t .count) + 67 ≤ placeOf n t i + k)
+          go : (slotOf t i ≡ slotOf t (t .count)) ⊎ (slotOf t i ≡ slotOf t (t .count) → ⊥) → Apart
           go (inl e) = absurd (slot-apart t (sound .start) i (t .count) h free e)
-          go (inr f) = inr (omega arith)
+          go (inr f) = swap (place-apart n (t .room) (sound .slots) (slotOf t (t .count)) (slotOf t i) (omega arith) (slot-below t (sound .start) i (omega arith)))
+            where
+              swap : (placeOf n t (t .count) + 67 ≤ placeOf n t i) ⊎ (placeOf n t i + 67 ≤ placeOf n t (t .count)) → Apart
+              swap (inl x) = inr x
+              swap (inr x) = inl x
+
+      side : Apart → (placeOf n t i + k < placeOf n t (t .count)) ⊎ (placeOf n t (t .count) + 67 ≤ placeOf n t i + k)
+      side (inl x) = inl (omega arith)
+      side (inr x) = inr (omega arith)
 
   new-cell : cellAt n new r (t .count) ≡ cell
   new-cell = rw (place-is (t .count)) cellWord
@@ -120,7 +131,7 @@ module _ (n cell : ℕ) (old : List ℕ) (t : Trail) (new : List ℕ) (r : Trail
   new-stamp = rw (place-is (t .count)) stampWords
 
   view-same : (c l : ℕ) → c < n → l < rowWords → viewOf new c l ≡ viewOf old c l
-  view-same c l h k = kept (c * 64 + l) (inl (omega arith))
+  view-same c l h k = kept (c * 64 + l) (inl (omega (arith, place-above sound (t .count) free)))
 
   save-history : (u : ℕ) (Z : ℕ → Table) → u < t .stamp → History n old t u Z → History n new r u Z
   save-history u Z below past s c lo hi h = go (past s c (omega arith) hi h) (equal c cell)
@@ -165,8 +176,10 @@ module _ (n cell : ℕ) (old : List ℕ) (t : Trail) (new : List ℕ) (r : Trail
   saved =
       record {
         same = same;
-        low = λ k h. kept k (inl (omega arith));
-        high = λ k h. kept k (inr (omega (arith, slot-below t (sound .start) (t .count) free)));
+        low = λ k lo hi. kept k (inl (omega (arith, place-above sound (t .count) free)));
+        near = λ few k lo hi. near few k hi (entry-view sound (t .count) free);
+        labels = λ k lo hi. labels k lo hi (entry-view sound (t .count) free);
+        high = λ k h. high k h (entry-view sound (t .count) free);
         sound =
             record {
               start = omega (arith, sound .start);
@@ -185,13 +198,28 @@ module _ (n cell : ℕ) (old : List ℕ) (t : Trail) (new : List ℕ) (r : Trail
         others = save-others;
       }
     where
+      last-slot : slotOf t (t .count) < t .room
+      last-slot = slot-below t (sound .start) (t .count) free
+
+      near : t .room * 67 ≤ n * 120 → (k : ℕ) → k < n * 128 → PlaceIn n (t .room) (slotOf t (t .count)) → getD new k 0 ≡ getD old k 0
+      near few k hi (PlaceIn.first p e) = kept k (inl (omega arith))
+      near few k hi (PlaceIn.second x p q e) = absurd (omega (arith, last-slot))
+
+      labels : (k : ℕ) → n * 128 ≤ k → k < n * 136 → PlaceIn n (t .room) (slotOf t (t .count)) → getD new k 0 ≡ getD old k 0
+      labels k lo hi (PlaceIn.first p e) = kept k (inl (omega arith))
+      labels k lo hi (PlaceIn.second x p q e) = kept k (inr (omega (arith, last-slot)))
+
+      high : (k : ℕ) → n * 136 + min (t .room * 67) (n * 120) ≤ k → PlaceIn n (t .room) (slotOf t (t .count)) → getD new k 0 ≡ getD old k 0
+      high k h (PlaceIn.first p e) = kept k (inr (omega (arith, last-slot)))
+      high k h (PlaceIn.second x p q e) = kept k (inr (omega (arith, last-slot)))
+
       late : (i : ℕ) → i < r .count → stampAt n new r i ≤ r .stamp
       late = entry-cases (λ i. stampAt n new r i ≤ r .stamp) (λ i h. omega (arith, stamp-alike n old t new r (t .count) alike i h, sound .late i h)) (omega (arith, new-stamp))
 
 -- the newest entry's row is put back
 module _ (n : ℕ) (old : List ℕ) (t : Trail) (new : List ℕ) (r : Trail) (sound : Sound n old t) (room : r .room ≡ t .room) (start : r .start ≡ t .start) (count : t .count ≡ r .count + 1) (low : r .low ≡ t .low) (stamp : r .stamp ≡ t .stamp) (same : length new ≡ length old) (kept : KeptFrom (n * 64) old new) (back : (l : ℕ) → l < rowWords → viewOf new (cellAt n old t (r .count)) l ≡ rowAt n old t (r .count) l) (others : (c l : ℕ) → c < n → l < rowWords → (c ≡ cellAt n old t (r .count) → ⊥) → viewOf new c l ≡ viewOf old c l) where
   still : (i k : ℕ) → i < r .count → k < 67 → getD new (placeOf n r i + k) 0 ≡ getD old (placeOf n t i + k) 0
-  still i k h q = rw (slot-same t r room start i) (kept (placeOf n t i + k) (omega arith))
+  still i k h q = rw (slot-same t r room start i, room) (kept (placeOf n t i + k) (omega (arith, place-above sound i (omega (arith, sound .fits)))))
 
   restore-history : (u : ℕ) (Z : ℕ → Table) → u < stampAt n old t (r .count) → History n old t u Z → History n new r u Z
   restore-history u Z below past s c lo hi h = go (past s c (omega arith) hi h) (equal c (cellAt n old t (r .count)))

@@ -1,19 +1,18 @@
 -- The laws of the undo trail: what changes of the words and of the trail leave of the history.
-use Prim.Native.Nat.{ℕ, suc, _+_, _-_, _*_, _≤_, _<_}
+use Prim.Native.Nat.{ℕ, _+_, _≤_, _<_}
 use mathlib.Core.Path.{_≡_, refl, sym, _∙_}
 use mathlib.Core.Logic.{_⊎_, inl, inr}
 use mathlib.Core.List.{List}
 use native.Mathlib.Omega.{arith}
 use borrow.Author.Tests.{le-leb, lt-leb}
-use lib.ListN.{length, getD}
+use lib.ListN.{getD}
 use Rattle.plan.proofs.Truth.{split, equal}
 use Rattle.budget.specs.Table.{Table}
-use Rattle.rows.specs.Words.{Kept, KeptFrom}
 use Rattle.rows.specs.Rows.{viewOf}
 use Rattle.costs.specs.Costs.{rowWords}
 use Rattle.trail.specs.declared.Trail.{Trail}
-use Rattle.trail.specs.Trail.{slotOf, placeOf, rowAt, cellAt, stampAt, Sound, Unstored, Stored, RowOf, History, Entry, Noted, stamped, followed}
-use Rattle.trail.proofs.Slots.{place-in, cell-alike, stamp-alike, unstored-alike, stored-alike, entry-alike}
+use Rattle.trail.specs.Trail.{slotsOf, slotOf, placeOf, cellAt, stampAt, Sound, TrailKept, RowOf, History, Noted, stamped, followed}
+use Rattle.trail.proofs.Slots.{PlaceIn, entry-view, cell-alike, stamp-alike, unstored-alike, stored-alike, entry-alike}
 
 -- some entry has this cell and a layer above s
 pub record Above (n : ℕ) (words : List ℕ) (t : Trail) (s c : ℕ) : Type 0 where
@@ -26,9 +25,13 @@ abbrev pub SameView : List ℕ → List ℕ → ℕ → Type 0
 SameView old new c = (l : ℕ) → l < rowWords → viewOf new c l ≡ viewOf old c l
 
 -- the trail's words stay
-module _ (n : ℕ) (old : List ℕ) (t : Trail) (new : List ℕ) (sound : Sound n old t) (kept : Kept (n * 136) (n * 256) old new) where
+module _ (n : ℕ) (old : List ℕ) (t : Trail) (new : List ℕ) (sound : Sound n old t) (kept : TrailKept n old new) where
   alike : (i k : ℕ) → i < t .count → k < 67 → getD new (placeOf n t i + k) 0 ≡ getD old (placeOf n t i + k) 0
-  alike i k h q = kept (placeOf n t i + k) (omega arith) (omega (arith, place-in sound i (omega (arith, sound .fits))))
+  alike i k h q = go (entry-view sound i (omega (arith, sound .fits)))
+    where
+      go : PlaceIn n (t .room) (slotOf t i) → getD new (placeOf n t i + k) 0 ≡ getD old (placeOf n t i + k) 0
+      go (PlaceIn.first p e) = kept .far (placeOf n t i + k) (omega arith) (omega arith)
+      go (PlaceIn.second x p r e) = kept .near (placeOf n t i + k) (omega arith) (omega arith)
 
   pub sound-kept : Sound n new t
   sound-kept =
@@ -101,7 +104,7 @@ history-start n words t Z none same s c lo hi h =
     let e : s ≡ 0 = omega arith in
     rw e (RowOf.stays (λ i k a f. omega arith) (λ l k. same c l h k))
 
-pub sound-none : (n : ℕ) (words : List ℕ) (t : Trail) → t .start ≡ 0 → t .count ≡ 0 → t .room * 67 ≤ n * 120 → t .low ≤ t .stamp → Sound n words t
+pub sound-none : (n : ℕ) (words : List ℕ) (t : Trail) → t .start ≡ 0 → t .count ≡ 0 → t .room ≤ slotsOf n → t .low ≤ t .stamp → Sound n words t
 sound-none n words t a b r l =
     record {
       start = omega arith;

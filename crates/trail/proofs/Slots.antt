@@ -1,18 +1,16 @@
 -- Slots of the ring, and entries that two trails share.
-use Prim.Native.Nat.{ℕ, _+_, _-_, _*_, _≤_, _<_}
+use Prim.Native.Nat.{ℕ, _+_, _-_, _*_, _/_, _≤_, _<_}
 use mathlib.Core.Path.{_≡_, _∙_}
-use mathlib.Core.Bool.{Bool, true, false, cond}
+use mathlib.Core.Bool.{cond}
 use mathlib.Core.Logic.{_⊎_, inl, inr}
 use mathlib.Core.List.{List}
 use native.Mathlib.Omega.{arith}
-use borrow.Author.Tests.{lt-ltb, le-ltb}
+use borrow.Author.Tests.{lt-ltb, le-ltb, le-leb, lt-leb}
 use lib.Dec.{ltb}
 use lib.ListN.{getD}
 use Rattle.plan.proofs.Truth.{split}
-use Rattle.rows.specs.Words.{Kept}
-use Rattle.costs.specs.Costs.{rowWords}
 use Rattle.trail.specs.declared.Trail.{Trail}
-use Rattle.trail.specs.Trail.{slotOf, placeOf, rowAt, cellAt, stampAt, Sound, Unstored, Stored, Entry}
+use Rattle.trail.specs.Trail.{slotsOf, slotOf, placeIn, placeOf, cellAt, stampAt, Sound, Unstored, Stored, Entry}
 
 -- before the end of the ring, or past it
 pub slot-cases : (t : Trail) (i : ℕ) → ((t .start + i < t .room) × (slotOf t i ≡ t .start + i)) ⊎ ((t .room ≤ t .start + i) × (slotOf t i ≡ t .start + i - t .room))
@@ -60,9 +58,60 @@ pub slot-same : (t r : Trail) → r .room ≡ t .room → r .start ≡ t .start 
 unfolding slotOf
 slot-same t r a b i = rw (a, b)
 
+-- there are few slots
+pub slots-few : (n : ℕ) → slotsOf n ≤ n * 3
+unfolding slotsOf
+slots-few n = omega arith
+
+-- a slot is in the first stretch, or in the second
+pub data PlaceIn (n room slot : ℕ) : Type 0 where
+  first : slot * 67 + 67 ≤ n * 120 → placeIn n room slot ≡ n * 136 + slot * 67 → PlaceIn n room slot
+  second : slot < room → n * 120 < slot * 67 + 67 → (room - slot) * 67 + 64 ≤ n * 64 → placeIn n room slot ≡ n * 128 - (room - slot) * 67 → PlaceIn n room slot
+
+module _ (n room : ℕ) (few : room ≤ slotsOf n) where
+  pub place-view : (slot : ℕ) → slot < room → PlaceIn n room slot
+  unfolding placeIn slotsOf
+  place-view slot h = go (split (slot * 67 + 67) (n * 120))
+    where
+      go : (slot * 67 + 67 ≤ n * 120) ⊎ (n * 120 < slot * 67 + 67) → PlaceIn n room slot
+      go (inl k) = first k (simp (le-leb _ _ k))
+      go (inr k) =
+          let a : n * 120 / 67 ≤ slot = omega arith in
+          let b : room - slot ≤ (n * 64 - 64) / 67 = omega arith in
+          let some : 1 ≤ (n * 64 - 64) / 67 = omega arith in
+          second h k (omega arith) (simp (lt-leb _ _ k))
+
+  -- different slots, different words
+  pub place-apart : (a b : ℕ) → a < b → b < room → (placeIn n room a + 67 ≤ placeIn n room b) ⊎ (placeIn n room b + 67 ≤ placeIn n room a)
+  place-apart a b h k = go (place-view a (omega arith)) (place-view b k)
+    where
+      go : PlaceIn n room a → PlaceIn n room b → (placeIn n room a + 67 ≤ placeIn n room b) ⊎ (placeIn n room b + 67 ≤ placeIn n room a)
+      go (first p e) (first q f) = inl (omega arith)
+      go (first p e) (second y q r f) = inr (omega arith)
+      go (second x p s e) (first q f) = absurd (omega arith)
+      go (second x p s e) (second y q r f) = inl (omega arith)
+
 -- the entry's words lie in the trail's
-pub place-in : {n : ℕ} {words : List ℕ} {t : Trail} → Sound n words t → (i : ℕ) → i < t .room → placeOf n t i + 67 ≤ n * 256
-place-in {n} {words} {t} s i h = omega (arith, slot-below t (s .start) i h, s .slots)
+module _ {n : ℕ} {words : List ℕ} {t : Trail} (s : Sound n words t) (i : ℕ) (h : i < t .room) where
+  pub entry-view : PlaceIn n (t .room) (slotOf t i)
+  entry-view = place-view n (t .room) (s .slots) (slotOf t i) (slot-below t (s .start) i h)
+
+  pub place-in : placeOf n t i + 67 ≤ n * 256
+  place-in = go entry-view
+    where
+      go : PlaceIn n (t .room) (slotOf t i) → placeOf n t i + 67 ≤ n * 256
+      go (first p e) = omega arith
+      go (second x p r e) = omega arith
+
+  -- and after the arrival row
+  pub place-above : n * 64 + 64 ≤ placeOf n t i
+  place-above = go entry-view
+    where
+      go : PlaceIn n (t .room) (slotOf t i) → n * 64 + 64 ≤ placeOf n t i
+      go (first p e) =
+          let some : 1 ≤ n = omega arith in
+          omega arith
+      go (second x p r e) = omega arith
 
 -- the first `upto` entries of t in `old` are those of r in `new`
 module _ (n : ℕ) (old : List ℕ) (t : Trail) (new : List ℕ) (r : Trail) (upto : ℕ) (alike : (i k : ℕ) → i < upto → k < 67 → getD new (placeOf n r i + k) 0 ≡ getD old (placeOf n t i + k) 0) where

@@ -1,6 +1,7 @@
--- The undo trail in the scratch words of n cells: entry i, 0 the oldest, has 67 words from 136n + 67 times its slot.
+-- The undo trail in the scratch words of n cells: entry i, 0 the oldest, has the 67 words of its slot.
+-- The slots lie in two stretches: one after another from 136n as long as they end by 256n; the rest of them end at 128n, and begin after the arrival row at 64n.
 -- A layer s of the table is a function of cell and load; the trail holds what is needed to go back to any layer from `low` up to now.
-use Prim.Native.Nat.{ℕ, _+_, _-_, _*_, _/_, _≤_, _<_}
+use Prim.Native.Nat.{ℕ, _+_, _-_, _*_, _/_, _≤_, _<_, min}
 use mathlib.Core.Path.{_≡_}
 use mathlib.Core.Bool.{cond}
 use mathlib.Core.Logic.{_⊎_}
@@ -11,14 +12,17 @@ use Rattle.budget.specs.Table.{Table}
 use Rattle.costs.specs.Costs.{rowWords}
 use Rattle.rows.specs.Rows.{viewOf}
 use Rattle.rows.specs.Words.{Kept, KeptFrom}
-use Rattle.lists.specs.Lists.{flagOf}
 use Rattle.trail.specs.declared.Trail.{Trail}
 
 abbrev pub noTrail : Trail
 noTrail = record { room = 0; start = 0; count = 0; low = 0; stamp = 0 }
 
+-- the slots that there are
+unfoldable pub slotsOf : ℕ → ℕ
+slotsOf n = n * 120 / 67 + (n * 64 - 64) / 67
+
 abbrev pub newTrail : ℕ → Trail
-newTrail n = record { room = n * 120 / 67; start = 0; count = 0; low = 0; stamp = 0 }
+newTrail n = record { room = slotsOf n; start = 0; count = 0; low = 0; stamp = 0 }
 
 -- the same trail while another layer is made
 abbrev pub stamped : Trail → ℕ → Trail
@@ -32,9 +36,13 @@ slotOf t i = cond (ltb (t .start + i) (t .room)) (t .start + i) (t .start + i - 
 abbrev pub stampOf : List ℕ → ℕ → ℕ
 stampOf words at = getD words (at + 65) 0 + getD words (at + 66) 0 * 65536
 
+-- where a slot starts, of `room` slots
+unfoldable pub placeIn : ℕ → ℕ → ℕ → ℕ
+placeIn n room slot = cond (leb (slot * 67 + 67) (n * 120)) (n * 136 + slot * 67) (n * 128 - (room - slot) * 67)
+
 -- where entry i starts, and its parts
 abbrev pub placeOf : ℕ → Trail → ℕ → ℕ
-placeOf n t i = n * 136 + slotOf t i * 67
+placeOf n t i = placeIn n (t .room) (slotOf t i)
 
 abbrev pub rowAt : ℕ → List ℕ → Trail → ℕ → ℕ → ℕ
 rowAt n words t i l = getD words (placeOf n t i + l) 0
@@ -49,12 +57,17 @@ stampAt n words t i = stampOf words (placeOf n t i)
 pub record Sound (n : ℕ) (words : List ℕ) (t : Trail) : Type 0 where
   pub start : t .start ≤ t .room
   pub fits : t .count ≤ t .room
-  pub slots : t .room * 67 ≤ n * 120
+  pub slots : t .room ≤ slotsOf n
   pub low : t .low ≤ t .stamp
   pub cells : (i : ℕ) → i < t .count → cellAt n words t i < n
   pub early : (i : ℕ) → i < t .count → t .low ≤ stampAt n words t i
   pub late : (i : ℕ) → i < t .count → stampAt n words t i ≤ t .stamp
   pub sorted : (i j : ℕ) → i ≤ j → j < t .count → stampAt n words t i ≤ stampAt n words t j
+
+-- the words of both stretches stay
+pub record TrailKept (n : ℕ) (old new : List ℕ) : Type 0 where
+  pub near : Kept (n * 64 + 64) (n * 128) old new
+  pub far : Kept (n * 136) (n * 256) old new
 
 pub record TrailAsks (n : ℕ) (words : List ℕ) (t : Trail) : Type 0 where
   pub sound : Sound n words t
@@ -109,8 +122,11 @@ pub record RoomMade (n : ℕ) (words : List ℕ) (t r : Trail) : Type 0 where
 -- After `save`: the cell is saved.
 pub record Saved (n cell : ℕ) (old : List ℕ) (t : Trail) (new : List ℕ) (r : Trail) : Type 0 where
   pub same : length new ≡ length old
-  pub low : (k : ℕ) → k < n * 136 → getD new k 0 ≡ getD old k 0
-  pub high : KeptFrom (n * 136 + t .room * 67) old new
+  pub low : Kept 0 (n * 64 + 64) old new
+  -- few slots: all of them are in the first stretch
+  pub near : t .room * 67 ≤ n * 120 → Kept (n * 64 + 64) (n * 128) old new
+  pub labels : Kept (n * 128) (n * 136) old new
+  pub high : KeptFrom (n * 136 + min (t .room * 67) (n * 120)) old new
   pub sound : Sound n new r
   pub room : r .room ≡ t .room
   pub stamp : r .stamp ≡ t .stamp

@@ -1,4 +1,4 @@
-// The undo trail: rows of the table as they were before a layer changed them, in the scratch words from 136n on.
+// The undo trail: rows of the table as they were before a layer changed them, in the scratch words that nothing else needs: from 136n to 256n, then from 64n + 64 to 128n.
 // An entry is 67 words: the row, the cell, the layer in two words. The entries are a ring: when it is full the oldest is forgotten.
 ghost use mathlib.Core.Path.{_≡_};
 ghost use mathlib.Core.Logic.{_⊎_};
@@ -6,7 +6,7 @@ ghost use Prim.Native.Nat.{_+_, _*_, _≤_, _<_};
 ghost use lib.ListN.{length, getD};
 ghost use Rattle.rows.specs.Words.{Filled};
 ghost use Rattle.costs.specs.Costs.{rowWords};
-ghost use Rattle.trail.specs.Trail.{noTrail, newTrail, stamped, slotOf, placeOf, stampOf, Sound, TrailAsks, RoomMade, Saved, Restored, Rewound};
+ghost use Rattle.trail.specs.Trail.{noTrail, newTrail, stamped, slotsOf, slotOf, placeOf, stampOf, TrailAsks, RoomMade, Saved, Restored, Rewound};
 use costs::ROW;
 
 // `room` slots, of which `count` are in use, the oldest at `start`. Layers up to `low` cannot be undone. `stamp` is the layer that is being made.
@@ -33,11 +33,11 @@ pub fn no_trail() -> Trail
 
 // An empty trail with all the slots that there are.
 pub fn new_trail(n: usize) -> Trail
-    requires { ⌜ n ≤ 1024 ⌝ }
+    requires { ⌜ (0 < n) × (n ≤ 1024) ⌝ }
     ensures { λ r. ⌜ r ≡ newTrail n ⌝ }
 {
     Trail {
-        room: n * 120 / 67,
+        room: n * 120 / 67 + (n * 64 - 64) / 67,
         start: 0,
         count: 0,
         low: 0,
@@ -69,10 +69,15 @@ fn slot(trail: Trail, i: usize) -> usize
 
 // Where the words of entry i start.
 fn place(n: usize, trail: Trail, i: usize) -> usize
-    requires { ⌜ (trail .start ≤ trail .room) × ((trail .room * 67 ≤ n * 120) × ((n ≤ 1024) × (i < trail .room))) ⌝ }
+    requires { ⌜ (trail .start ≤ trail .room) × ((trail .room ≤ slotsOf n) × ((n ≤ 1024) × (i < trail .room))) ⌝ }
     ensures { λ r. ⌜ r ≡ placeOf n trail i ⌝ }
 {
-    n * 136 + slot(trail, i) * 67
+    let at = slot(trail, i);
+    if at * 67 + 67 <= n * 120 {
+        n * 136 + at * 67
+    } else {
+        n * 128 - (trail.room - at) * 67
+    }
 }
 
 // The layer of the entry whose words start here.

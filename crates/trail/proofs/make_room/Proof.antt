@@ -1,11 +1,9 @@
 -- `trail::make_room`: a free slot changes nothing; else the oldest entry is forgotten.
-use Prim.Native.Nat.{_+_, _*_, _≤_}
 use mathlib.Core.Path.{refl, ap, _∙_}
 use native.Mathlib.Omega.{arith}
 use borrow.Author.Needs.{needs}
-use lib.ListN.{length}
-use Rattle.trail.specs.Trail.{placeOf, stampOf}
-use Rattle.trail.proofs.Slots.{place-in}
+use Rattle.trail.specs.Trail.{stampOf}
+use Rattle.trail.proofs.Slots.{slots-few, place-in}
 use Rattle.trail.proofs.Changes.{forget}
 use Rattle.trail.proofs.make_room.Statement.{statement}
 use Rattle.trail.proofs.make_room.Tie as tie
@@ -36,7 +34,7 @@ stamp-of-requires c κs =
 slot-requires : tie.Need-slot-requires
 slot-requires c κs =
     let s = c .before .before .before .before .before in
-    (s .pre .0 .sound .start, (omega (arith, s .pre .0 .sound .slots, s .pre .0 .few), s .pre .1))
+    (s .pre .0 .sound .start, (omega (arith, s .pre .0 .sound .slots, slots-few (s .args .n), s .pre .0 .few), s .pre .1))
 
 sub-t7 : tie.Need-sub-t7
 sub-t7 c = search needs

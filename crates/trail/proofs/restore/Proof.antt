@@ -5,14 +5,14 @@ use mathlib.Core.Logic.{_⊎_, inl, inr}
 use mathlib.Core.List.{List}
 use native.Mathlib.Omega.{arith}
 use borrow.Author.Needs.{needs}
-use lib.ListN.{length, getD}
+use lib.ListN.{getD}
 use Rattle.plan.proofs.Truth.{split}
 use Rattle.rows.specs.Words.{Filled}
 use Rattle.rows.specs.Rows.{viewOf}
 use Rattle.costs.specs.Costs.{rowWords}
 use Rattle.trail.specs.declared.Trail.{Trail}
 use Rattle.trail.specs.Trail.{placeOf, cellAt, TrailAsks, Restored}
-use Rattle.trail.proofs.Slots.{place-in}
+use Rattle.trail.proofs.Slots.{place-in, place-above}
 use Rattle.trail.proofs.Changes.{restored}
 use Rattle.trail.proofs.restore.Statement.{statement}
 use Rattle.trail.proofs.restore.Tie as tie
@@ -77,7 +77,7 @@ copy-requires : tie.Need-copy-requires
 copy-requires c κs =
     let p = c .before .before in
     let s = p .before .before .before in (
-      inr (omega (arith, cell-in p, p .place .ensures)),
+      inr (omega (arith, cell-in p, p .place .ensures, place-above (s .pre .0 .sound) (s .args .trail .count - 1) (omega (arith, s .pre .0 .sound .fits)))),
       (omega (arith, inside p, s .pre .0 .room), omega (arith, cell-in p, s .pre .0 .room)),
     )
 

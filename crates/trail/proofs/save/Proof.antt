@@ -11,7 +11,7 @@ use Rattle.rows.specs.Words.{Filled}
 use Rattle.costs.specs.Costs.{rowWords}
 use Rattle.trail.specs.declared.Trail.{Trail}
 use Rattle.trail.specs.Trail.{placeOf, stampOf, TrailAsks, RoomMade, Saved}
-use Rattle.trail.proofs.Slots.{place-in}
+use Rattle.trail.proofs.Slots.{place-in, place-above}
 use Rattle.trail.proofs.History.{sound-none}
 use Rattle.trail.proofs.Changes.{saved}
 use Rattle.trail.proofs.save.Statement.{statement}
@@ -22,7 +22,9 @@ pub save-nothing : (n cell : ℕ) (words : List ℕ) (t : Trail) → t .room ≡
 save-nothing n cell words t none =
     record {
       same = refl;
-      low = λ k h. refl;
+      low = λ k lo hi. refl;
+      near = λ few k lo hi. refl;
+      labels = λ k lo hi. refl;
       high = λ k h. refl;
       sound = sound-none n words _ refl refl (omega arith) (omega arith);
       room = sym none;
@@ -77,6 +79,8 @@ module _ (n cell : ℕ) (old : List ℕ) (t k : Trail) (stamp : ℕ) (asks : Tra
       record {
         same = x .same;
         low = x .low;
+        near = λ few. x .near (omega (arith, made .room));
+        labels = x .labels;
         high = λ i h. x .high i (omega (arith, made .room));
         sound = x .sound;
         room = x .room ∙ made .room;
@@ -104,8 +108,8 @@ place-requires c κs =
 room : (c : tie.After-place) → c .place .result + 67 ≤ c .before .before .before .before .before .before .args .n * 256
 room c = omega (arith, c .place .ensures, place-in (c .before .make-room .ensures .sound) _ (c .before .make-room .ensures .free))
 
-after : (c : tie.After-place) → c .before .before .before .before .before .before .args .n * 136 ≤ c .place .result
-after c = omega (arith, c .place .ensures)
+after : (c : tie.After-place) → c .before .before .before .before .before .before .args .n * 64 + 64 ≤ c .place .result
+after c = omega (arith, c .place .ensures, place-above (c .before .make-room .ensures .sound) _ (c .before .make-room .ensures .free))
 
 mul-copy : tie.Need-mul-copy
 mul-copy c = search needs

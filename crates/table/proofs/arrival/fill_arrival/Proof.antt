@@ -20,12 +20,6 @@ use Rattle.table.proofs.arrival.fill_arrival.Tie as tie
 mul-to : tie.Need-mul-to
 mul-to c = search needs
 
-mul-to-2 : tie.Need-mul-to-2
-mul-to-2 c = search needs
-
-add-to : tie.Need-add-to
-add-to c = search needs
-
 copy-row-requires : tie.Need-copy-row-requires
 copy-row-requires c κs =
     let start = c .before .before .before .before .before in
@@ -57,17 +51,17 @@ mul-if2-2 : tie.Need-mul-if2-2
 mul-if2-2 c = search needs
 
 -- the row that the buffers leave
-mid : (c : tie.Joined1) → let start = c .before .before .before .before .before .before .before .before .before .before .before in Filled (through (start .args .p) (start .args .plan .now) (start .args .scratch .now) (start .args .cell) (start .pre .ready) (start .pre .inside)) (length (start .args .plan .now) * 64 + start .args .cell * 64) rowWords (start .args .scratch .now) (c .if1 .scratch)
+mid : (c : tie.Joined1) → let start = c .before .before .before .before .before .before .before .before .before .before .before in Filled (through (start .args .p) (start .args .plan .now) (start .args .scratch .now) (start .args .cell) (start .pre .ready) (start .pre .inside)) (length (start .args .plan .now) * 64) rowWords (start .args .scratch .now) (c .if1 .scratch)
 mid c =
     let start = c .before .before .before .before .before .before .before .before .before .before .before in
     let a = start .args in
-    let to = length (a .plan .now) * 64 + a .cell * 64 in
+    let to = length (a .plan .now) * 64 in
     let test : c .before .takes-buffers .result ≡ takesBuffers (getD (a .plan .now) (a .cell) 0) (a .p) (a .cell) = c .before .takes-buffers .ensures in
     let copy : Filled (copied (a .scratch .now) (a .cell) (a .p .elements .limit .0)) to rowWords (a .scratch .now) (c .before .before .before .before .before .copy-row .last .0) = rw (start .pre .ready .costs .none .limit) at (c .before .before .before .before .before .copy-row .ensures) in
     ⊎-elim
     (λ w.
     let raise : Filled (buffered (c .before .before .before .before .before .copy-row .last .0) (a .cell) to (a .p .elements) (a .p .elements .count)) to rowWords (c .before .before .before .before .before .copy-row .last .0) (w .3 .last .0) = w .3 .ensures in
-    rw (w .6) (filled-as (filled-twice copy _ _ raise) _ (λ k h. buffered-through (a .p) (a .plan .now) (a .scratch .now) (a .cell) (start .pre .ready) (start .pre .inside) _ to k (sym test ∙ w .0 .taken) (λ j l. copy .low (a .cell * 64 + j) (omega arith)) (copy .done k h))))
+    rw (w .6) (filled-as (filled-twice copy _ _ raise) _ (λ k h. buffered-through (a .p) (a .plan .now) (a .scratch .now) (a .cell) (start .pre .ready) (start .pre .inside) _ to k (sym test ∙ w .0 .taken) (λ j l. copy .low (a .cell * 64 + j) (omega (arith, start .pre .inside))) (copy .done k h))))
     (λ w. rw (w .1) (filled-as copy _ (λ k h. copied-through (a .p) (a .plan .now) (a .scratch .now) (a .cell) (start .pre .ready) (start .pre .inside) (sym test ∙ w .0 .left) k)))
     (c .if1 .came)
 
@@ -100,7 +94,7 @@ returns c =
     let join = c .before .before .before .before .before .before .before .before in
     let start = join .before .before .before .before .before .before .before .before .before .before .before in
     let a = start .args in
-    let to = length (a .plan .now) * 64 + a .cell * 64 in
+    let to = length (a .plan .now) * 64 in
     let costed = start .pre .ready .costs .register in
     let raise : Filled (raised (join .if1 .scratch) to (2 * a .p .elements .period + 1) (a .p .costs .register .driver) (a .p .costs .register .limit)) to rowWords (join .if1 .scratch) (c .before .before .raise-row .last .0) = c .before .before .raise-row .ensures in
     filled-as (filled-twice (mid join) _ _ (rw (costed .driver, costed .limit) at raise)) _ (λ k h. raised-arrival (a .p) (a .plan .now) (a .scratch .now) (a .cell) (start .pre .ready) (start .pre .inside) _ to k (eq-eqb _ _ (sym (flag join) ∙ c .before .before .before .before .before .before .if2 .taken)) h (mid join .done k h))
@@ -121,8 +115,6 @@ fill-arrival-spec =
     tie.close
     (tie.spec
     mul-to
-    mul-to-2
-    add-to
     copy-row-requires
     shared-slice-read-takes-buffers
     takes-buffers-requires

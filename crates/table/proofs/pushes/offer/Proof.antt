@@ -12,16 +12,10 @@ use Rattle.table.proofs.pushes.offer.Tie as tie
 returns : tie.Need-returns
 returns c =
     let a = c .before .before .args in
-    offer-none (a .n) (a .cell) (a .to) (a .costs .wire) (a .costs .limit) (a .next) _ (c .before .before .pre .0) (c .if1 .taken)
+    offer-none (a .n) (a .to) (a .costs .wire) (a .costs .limit) (a .next) _ (c .before .before .pre .0) (c .if1 .taken)
 
 mul-from : tie.Need-mul-from
 mul-from c = search needs
-
-mul-from-2 : tie.Need-mul-from-2
-mul-from-2 c = search needs
-
-add-from : tie.Need-add-from
-add-from c = search needs
 
 mul-grows : tie.Need-mul-grows
 mul-grows c = search needs
@@ -29,7 +23,7 @@ mul-grows c = search needs
 grows-requires : tie.Need-grows-requires
 grows-requires c κs =
     let a = c .before .before .before .pre in
-    (a .0 .wireFits, (a .1, (omega arith, omega (arith, a .0 .cellIn, a .0 .room))))
+    (a .0 .wireFits, (a .1, (omega (arith, c .before .if1 .left, a .0 .toIn), omega (arith, c .before .if1 .left, a .0 .toIn, a .0 .room))))
 
 same-length : tie.Need-same-length
 same-length c = search needs
@@ -38,7 +32,7 @@ returns-2 : tie.Need-returns-2
 returns-2 c =
     let s = c .before .before .before .before .before in
     let a = s .args in
-    offer-quiet (a .n) (a .cell) (a .to) (a .costs .wire) (a .costs .limit) (a .next) _ (s .pre .0) (omega arith) (c .before .grows .ensures .none (not-true _ (c .if2 .taken)))
+    offer-quiet (a .n) (a .to) (a .costs .wire) (a .costs .limit) (a .next) _ (s .pre .0) (omega arith) (c .before .grows .ensures .none (not-true _ (c .if2 .taken)))
 
 note-requires : tie.Need-note-requires
 note-requires c κs =
@@ -52,8 +46,9 @@ mul-push-row c = search needs
 push-row-requires : tie.Need-push-row-requires
 push-row-requires c κs =
     let n = c .before .before .before in
-    let a = n .before .before .before .before .before .before .before .pre in
-    (a .0 .wireFits, (a .1, (omega (arith, a .0 .cellIn, a .0 .toIn), omega (arith, a .0 .cellIn, a .0 .room, n .note .ensures .same))))
+    let e = n .before .before .before .before .before in
+    let a = e .before .before .pre in
+    (a .0 .wireFits, (a .1, (omega (arith, e .if1 .left, a .0 .toIn), omega (arith, e .if1 .left, a .0 .toIn, a .0 .room, n .note .ensures .same))))
 
 mul-enlist : tie.Need-mul-enlist
 mul-enlist c = search needs
@@ -66,7 +61,7 @@ enlist-requires c κs =
     let s = e .before .before in
     let a = s .pre .0 in
     let f = p .push-row .ensures in
-    let listed = noted-listed-kept (s .args .n) (s .args .cell) (s .args .to) (s .args .costs .wire) (s .args .costs .limit) (s .args .next) _ a _ _ (n .note .ensures) in
+    let listed = noted-listed-kept (s .args .n) (s .args .to) (s .args .costs .wire) (s .args .costs .limit) (s .args .next) _ a _ _ (n .note .ensures) in
     let few = listed-count listed in
     let inPlan : s .args .to < s .args .n = omega (arith, e .if1 .left, a .toIn) in (
       listed-kept listed _ (λ k h. f .high (s .args .n * 134 + k) (omega arith)) (λ i h. f .high (s .args .n * 133 + i) (omega arith)),
@@ -86,7 +81,7 @@ returns-3 c =
     let e = g .before .before .before in
     let s = e .before .before in
     let a = s .args in
-    offer-grew (a .n) (a .cell) (a .to) (a .costs .wire) (a .costs .limit) (a .next) _ (s .pre .0) _ _ (n .note .ensures) _ (omega (arith, e .if1 .left, s .pre .0 .toIn)) (p .push-row .ensures) _ _
+    offer-grew (a .n) (a .to) (a .costs .wire) (a .costs .limit) (a .next) _ (s .pre .0) _ _ (n .note .ensures) _ (omega (arith, e .if1 .left, s .pre .0 .toIn)) (p .push-row .ensures) _ _
     (g .before .grows .ensures .some (not-false _ (g .if2 .left))) (c .before .before .enlist .ensures)
 
 pub offer-spec : {M : Type 1} → statement M
@@ -95,8 +90,6 @@ offer-spec =
     (tie.spec
     returns
     mul-from
-    mul-from-2
-    add-from
     mul-grows
     grows-requires
     same-length

@@ -1,62 +1,75 @@
--- `table::pushes::spread` meets its contract: the four offers, by proofs/Spreads.
-use mathlib.Core.Path.{refl, _∙_}
+-- `table::pushes::spread` meets its contract: the arrival row and the four offers, by proofs/Spreads.
+use mathlib.Core.Path.{_∙_}
 use native.Mathlib.Omega.{arith}
 use Rattle.plan.proofs.Sides.{ascending}
 use Rattle.table.specs.Problem.{planFor}
-use Rattle.table.proofs.Spreads.{cells-are, cells-product, offer-asks, spread-whole}
+use Rattle.table.proofs.Spreads.{cells-are, cells-product, offer-asks, filled-listed, filled-follows, spread-whole}
 use Rattle.table.proofs.pushes.spread.Statement.{statement}
 use Rattle.table.proofs.pushes.spread.Tie as tie
+
+fill-arrival-requires : tie.Need-fill-arrival-requires
+fill-arrival-requires c κs =
+    let s = c .before .before .before in
+    record { ready = s .pre .ready; inside = s .pre .cellIn; room = s .pre .room }
 
 neighbours-of-requires : tie.Need-neighbours-of-requires
 unfolding planFor
 neighbours-of-requires c κs =
-    let s = c .before .before in
+    let f = c .before .before in
+    let s = f .before .before .before .before in
     (s .pre .ready .sized, omega (arith, cells-product _ _ (s .pre .ready), s .pre .cellIn))
 
 offer-requires : tie.Need-offer-requires
 unfolding planFor
 offer-requires c κs =
-    let s = c .before .before .before .before .before .before in
+    let f = c .before .before .before .before .before .before in
+    let s = f .before .before .before .before in
     offer-asks (s .args .p) (s .args .plan .now) (s .args .cell) (s .args .next) (s .args .scratch .now) (s .pre) _ _ _ _ _ (s .pre .ready .costs .vertical)
     (rw (c .before .before .before .neighbours-of .ensures) (ascending _ (s .pre .ready .sized) (s .args .cell) (omega (arith, cells-are _ _ (s .pre .ready), s .pre .cellIn)) .up-most))
-    (s .pre .ready .valid .vertical) (refl) (s .pre .listed) (s .pre .sound)
+    (s .pre .ready .valid .vertical) (f .fill-arrival .ensures .same)
+    (filled-listed (s .args .p) (s .args .plan .now) (s .args .cell) (s .args .next) (s .args .scratch .now) (s .pre) _ (f .fill-arrival .ensures))
+    (filled-follows (s .args .p) (s .args .plan .now) (s .args .cell) (s .args .next) (s .args .scratch .now) (s .pre) _ (f .fill-arrival .ensures) .sound)
 
 offer-requires-2 : tie.Need-offer-requires-2
 unfolding planFor
 offer-requires-2 c κs =
-    let s = c .before .before .before .before .before .before .before .before .before .before in
+    let f = c .before .before .before .before .before .before .before .before .before .before in
+    let s = f .before .before .before .before in
     offer-asks (s .args .p) (s .args .plan .now) (s .args .cell) (s .args .next) (s .args .scratch .now) (s .pre) _ _ _ _ _ (s .pre .ready .costs .horizontal)
     (rw (c .before .before .before .before .before .before .before .neighbours-of .ensures) (ascending _ (s .pre .ready .sized) (s .args .cell) (omega (arith, cells-are _ _ (s .pre .ready), s .pre .cellIn)) .left-most))
-    (s .pre .ready .valid .horizontal) ((c .before .before .before .offer .ensures .raised .same)) (c .before .before .before .offer .ensures .raised .listed) (c .before .before .before .offer .ensures .follows .sound)
+    (s .pre .ready .valid .horizontal) (c .before .before .before .offer .ensures .raised .same ∙ f .fill-arrival .ensures .same) (c .before .before .before .offer .ensures .raised .listed) (c .before .before .before .offer .ensures .follows .sound)
 
 offer-requires-3 : tie.Need-offer-requires-3
 unfolding planFor
 offer-requires-3 c κs =
-    let s = c .before .before .before .before .before .before .before .before .before .before .before .before .before .before in
+    let f = c .before .before .before .before .before .before .before .before .before .before .before .before .before .before in
+    let s = f .before .before .before .before in
     offer-asks (s .args .p) (s .args .plan .now) (s .args .cell) (s .args .next) (s .args .scratch .now) (s .pre) _ _ _ _ _ (s .pre .ready .costs .horizontal)
     (rw (c .before .before .before .before .before .before .before .before .before .before .before .neighbours-of .ensures) (ascending _ (s .pre .ready .sized) (s .args .cell) (omega (arith, cells-are _ _ (s .pre .ready), s .pre .cellIn)) .right-most))
-    (s .pre .ready .valid .horizontal) ((c .before .before .before .offer2 .ensures .raised .same) ∙ (c .before .before .before .before .before .before .before .offer .ensures .raised .same)) (c .before .before .before .offer2 .ensures .raised .listed) (c .before .before .before .offer2 .ensures .follows .sound)
+    (s .pre .ready .valid .horizontal) ((c .before .before .before .offer2 .ensures .raised .same) ∙ (c .before .before .before .before .before .before .before .offer .ensures .raised .same) ∙ f .fill-arrival .ensures .same) (c .before .before .before .offer2 .ensures .raised .listed) (c .before .before .before .offer2 .ensures .follows .sound)
 
 offer-requires-4 : tie.Need-offer-requires-4
 unfolding planFor
 offer-requires-4 c κs =
-    let s = c .before .before .before .before .before .before .before .before .before .before .before .before .before .before .before .before .before .before in
+    let f = c .before .before .before .before .before .before .before .before .before .before .before .before .before .before .before .before .before .before in
+    let s = f .before .before .before .before in
     offer-asks (s .args .p) (s .args .plan .now) (s .args .cell) (s .args .next) (s .args .scratch .now) (s .pre) _ _ _ _ _ (s .pre .ready .costs .vertical)
     (rw (c .before .before .before .before .before .before .before .before .before .before .before .before .before .before .before .neighbours-of .ensures) (ascending _ (s .pre .ready .sized) (s .args .cell) (omega (arith, cells-are _ _ (s .pre .ready), s .pre .cellIn)) .down-most))
-    (s .pre .ready .valid .vertical) ((c .before .before .before .offer3 .ensures .raised .same) ∙ (c .before .before .before .before .before .before .before .offer2 .ensures .raised .same) ∙ (c .before .before .before .before .before .before .before .before .before .before .before .offer .ensures .raised .same)) (c .before .before .before .offer3 .ensures .raised .listed) (c .before .before .before .offer3 .ensures .follows .sound)
+    (s .pre .ready .valid .vertical) ((c .before .before .before .offer3 .ensures .raised .same) ∙ (c .before .before .before .before .before .before .before .offer2 .ensures .raised .same) ∙ (c .before .before .before .before .before .before .before .before .before .before .before .offer .ensures .raised .same) ∙ f .fill-arrival .ensures .same) (c .before .before .before .offer3 .ensures .raised .listed) (c .before .before .before .offer3 .ensures .follows .sound)
 
 same-length : tie.Need-same-length
-same-length c = (c .before .before .offer4 .ensures .raised .same) ∙ (c .before .before .before .before .before .before .offer3 .ensures .raised .same) ∙ (c .before .before .before .before .before .before .before .before .before .before .offer2 .ensures .raised .same) ∙ (c .before .before .before .before .before .before .before .before .before .before .before .before .before .before .offer .ensures .raised .same)
+same-length c = (c .before .before .offer4 .ensures .raised .same) ∙ (c .before .before .before .before .before .before .offer3 .ensures .raised .same) ∙ (c .before .before .before .before .before .before .before .before .before .before .offer2 .ensures .raised .same) ∙ (c .before .before .before .before .before .before .before .before .before .before .before .before .before .before .offer .ensures .raised .same) ∙ c .before .before .before .before .before .before .before .before .before .before .before .before .before .before .before .before .before .before .before .before .before .fill-arrival .ensures .same
 
 returns : tie.Need-returns
 unfolding planFor
 returns c =
-    let s = c .before .before .before .before .before .before .before .before .before .before .before .before .before .before .before .before .before .before .before .before .before in
+    let f = c .before .before .before .before .before .before .before .before .before .before .before .before .before .before .before .before .before .before .before .before .before in
+    let s = f .before .before .before .before in
     let e = c .before .before .before .before .before .before .before .before .before .before .before .before .before .before .before .before .before .before .neighbours-of .ensures in
     let h = s .pre .ready .costs .horizontal in
     let v = s .pre .ready .costs .vertical in
-    spread-whole (s .args .p) (s .args .plan .now) (s .args .cell) (s .args .next) (s .args .scratch .now) (s .pre) _ _ _ _ _ _ _ _
+    spread-whole (s .args .p) (s .args .plan .now) (s .args .cell) (s .args .next) (s .args .scratch .now) (s .pre) _ (f .fill-arrival .ensures) _ _ _ _ _ _ _ _
     (rw (e, v .wire, v .limit) at (c .before .before .before .before .before .before .before .before .before .before .before .before .before .before .offer .ensures)) (rw (e, h .wire, h .limit) at (c .before .before .before .before .before .before .before .before .before .before .offer2 .ensures)) (rw (e, h .wire, h .limit) at (c .before .before .before .before .before .before .offer3 .ensures)) (rw (e, v .wire, v .limit) at (c .before .before .offer4 .ensures))
 
 pub spread-spec : {M : Type 1} → statement M
-spread-spec = tie.close (tie.spec neighbours-of-requires offer-requires offer-requires-2 offer-requires-3 offer-requires-4 same-length returns)
+spread-spec = tie.close (tie.spec fill-arrival-requires neighbours-of-requires offer-requires offer-requires-2 offer-requires-3 offer-requires-4 same-length returns)
