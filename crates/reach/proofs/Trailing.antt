@@ -17,7 +17,7 @@ use Rattle.costs.specs.Costs.{rowWords}
 use Rattle.rows.specs.Words.{Kept}
 use Rattle.rows.specs.Rows.{viewOf}
 use Rattle.trail.specs.declared.Trail.{Trail}
-use Rattle.trail.specs.Trail.{stamped, newTrail, followed, Rewound}
+use Rattle.trail.specs.Trail.{stamped, newTrail, TrailKept, followed, Rewound}
 use Rattle.trail.proofs.History.{sound-none, sound-kept, sound-stamped, history-start, history-kept, history-stamped, history-followed, followed-before, followed-all}
 use Rattle.table.specs.declared.pushes.Grown.{Grown}
 use Rattle.table.specs.Problem.{budgetOf}
@@ -119,7 +119,7 @@ module _ (R : Rules) (n k : ℕ) (old : List ℕ) where
         }
 
     -- the table and the trail stay
-    pub trail-kept : (new : List ℕ) → Kept 0 (n * 64) words new → Kept (n * 136) (n * 256) words new → Trailing R n k old new u t
+    pub trail-kept : (new : List ℕ) → Kept 0 (n * 64) words new → TrailKept n words new → Trailing R n k old new u t
     trail-kept new table kept =
         record {
           past =
@@ -135,7 +135,7 @@ module _ (R : Rules) (n k : ℕ) (old : List ℕ) where
         }
 
     pub trail-arrive : {at end to active : ℕ} (new : List ℕ) → ArrivedAll n at end u words new to active → Trailing R n k old new u t
-    trail-arrive new a = trail-kept new (λ i lo hi. a .arrived .low i (omega arith)) (λ i lo hi. a .arrived .high i lo)
+    trail-arrive new a = trail-kept new (λ i lo hi. a .arrived .low i (omega arith)) (record { near = λ i lo hi. a .arrived .low i (omega arith); far = λ i lo hi. a .arrived .high i lo })
 
     pub trail-sound : Rattle.trail.specs.Trail.Sound n words (stamped t (u + 1))
     trail-sound = sound-stamped n words t (u + 1) (omega (arith, r .stamp)) (r .past .sound)

@@ -84,8 +84,8 @@ module _ (R : Rules) (n k : ℕ) (old : List ℕ) (count : ℕ) where
       exact-layer : (c l : ℕ) → layer R (seedOf n words) (R .bound 0) (budgetOf n words) c l ≡ layer R (exactSeed R m k u) (R .bound 0) (budgetOf n words) c l
       exact-layer = layer-seeds R (seedOf n words) (exactSeed R m k u) (R .bound 0) (budgetOf n words) (λ c h. seeds-exact c (omega arith))
 
-      pub layer-turn : (t : Trail) (new : List ℕ) (next : Grown) → t .room * 67 ≤ n * 120 → Layered R n t words new next → Reaching R n k old new (u + 1) (next .count) at end count
-      layer-turn t new next slots l =
+      pub layer-turn : (t : Trail) (new : List ℕ) (next : Grown) → Layered R n t words new next → Reaching R n k old new (u + 1) (next .count) at end count
+      layer-turn t new next l =
           record {
             same = l .same ∙ f .same;
             labels = λ i lo hi. l .labels i lo hi ∙ f .labels i lo hi;

@@ -9,6 +9,7 @@ use lib.ListN.{length}
 use Rattle.rules.specs.Rules.{Rules}
 use Rattle.table.specs.Problem.{rulesFor}
 use Rattle.table.proofs.Spreads.{few-cells}
+use Rattle.table.proofs.Colours.{problem-colouring, coloured-apart}
 use Rattle.labels.proofs.Labels.{ordered-count}
 use Rattle.reach.specs.Reach.{Reaching, Current, Trailing}
 use Rattle.search.proofs.Ready.{ready-lawful, ready-cells}
@@ -67,7 +68,7 @@ middle j old g =
     ))
     (λ w.
     let made = rw (w .2 .ensures) at (w .3 .ensures) in
-    let f = layer-turn (R a) _ _ _ _ _ _ _ _ _ (g .0) law size _ _ _ (g .1 .past .sound .slots) made in
+    let f = layer-turn (R a) _ _ _ _ _ _ _ _ _ (g .0) law size _ _ _ made in
     rw (w .7, w .8, w .9, w .10) (f, trail-layer (R a) _ _ _ _ _ _ (g .1) _ _ made (f .table)))
     (j .if1 .came)
 
@@ -77,7 +78,9 @@ start-span-requires c κs =
     record { ready = pre .ready; room = pre .room; ordered = pre .held .ordered; inStep = pre .inStep; past = pre .held .past }
 
 new-trail-requires : tie.Need-new-trail-requires Inv-loop μ-loop
-new-trail-requires c κs = few-cells _ _ (c .before .before .before .before .before .before .pre .ready)
+new-trail-requires c κs =
+    let s = c .before .before .before .before .before .before in
+    (omega (arith, s .pre .ready .source), few-cells _ _ (s .pre .ready))
 
 loop-holds : tie.Need-loop-holds Inv-loop μ-loop
 loop-holds c = (omega arith, λ old f. (f, trail-start _ _ _ _ _ _ (c .new-trail .ensures) (no-budget (f .reaching .table))))
@@ -103,7 +106,7 @@ next-layer-requires : tie.Need-next-layer-requires Inv-loop μ-loop
 next-layer-requires c κs =
     let a = c .before .before .before .before in
     let f = head a .0 .reaching in
-    (start a .pre .ready, (omega (arith, f .same, start a .pre .room), (f .list .listed, rw (c .stamped .ensures) (trail-sound (R a) _ _ _ _ _ _ (head a .1)))))
+    (start a .pre .ready, (omega (arith, f .same, start a .pre .room), (f .list .listed, (rw (c .stamped .ensures) (trail-sound (R a) _ _ _ _ _ _ (head a .1)), coloured-apart (problem-colouring (start a .args .p) (start a .args .plan .now)) (f .coloured)))))
 
 add-u : tie.Need-add-u Inv-loop μ-loop
 add-u c =
