@@ -9,7 +9,7 @@ use borrow.Author.Tests.{eq-eqb}
 use lib.Dec.{T, eqb, ltb, eqb→eq, ltb→lt}
 use Rattle.plan.specs.Plan.{Plan, cells, row, column, marksAt, cutRight, cutBelow}
 use Rattle.plan.specs.Joined.{wireRight, wireBelow, bothIn, horizontal, vertical, joined}
-use Rattle.plan.proofs.Truth.{fst, snd, parts, tests, or-cases, or-comm, is-false}
+use Rattle.plan.proofs.Truth.{fst, snd, parts, or-cases, or-comm, is-false}
 use Rattle.plan.proofs.Division.{right-row, right-column, right-is, down-row, down-column, down-is}
 
 swapped : (a b c d : Bool) → (a && b && (c || d)) ≡ (b && a && (d || c))
