@@ -16,7 +16,7 @@ use Rattle.budget.specs.Emission.{exactSeed, Reaches}
 use Rattle.budget.specs.Colours.{InStep}
 use Rattle.budget.specs.Cone.{RepresentsIn, Shrinking}
 use Rattle.budget.proofs.Layer.{same-row}
-use Rattle.budget.proofs.Cone.{fewer-steps}
+use Rattle.budget.proofs.Cone.{shrinks-fewer}
 use Rattle.budget.proofs.Reaches.{exact-view, exact-test, exact-later, layer-in, until-in}
 use Rattle.table.specs.Problem.{budgetOf, seedOf}
 use Rattle.trail.specs.declared.Trail.{Trail}
@@ -90,7 +90,7 @@ module _ (R : Rules) (n k : ℕ) (P : ℕ → ℕ → Bool) (old : List ℕ) (co
 
       -- the list is right in fewer cells
       list-fewer : (v : ℕ) → u ≤ v → {new : List ℕ} {count : ℕ} → ActiveIn R n (P u) new count → ActiveIn R n (P v) new count
-      list-fewer v h a = record { listed = a .listed; settled = λ c i t z. a .settled c i (fewer-steps shrinks u v c h t) z }
+      list-fewer v h a = record { listed = a .listed; settled = λ c i t z. a .settled c i (shrinks-fewer shrinks u v c h t) z }
 
       pub layer-turn : (t : Trail) (new : List ℕ) (next : Grown) → t .room * 67 ≤ n * 120 → Layered R n t words new next → Reaching R n k P old new (u + 1) (next .count) at end count
       layer-turn t new next slots l =

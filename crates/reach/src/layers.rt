@@ -56,13 +56,8 @@ fn held_by(layers: Layers, cell: usize, registers: u16, steps: u32) -> bool
     if layers.registers == registers {
         if trail.low <= steps {
             if steps <= layers.steps {
-                return in_cone(
-                    layers.width,
-                    layers.from,
-                    layers.most as usize,
-                    steps as usize,
-                    cell,
-                );
+                let most = layers.most as usize;
+                return in_cone(layers.width, layers.from, most, steps as usize, cell);
             }
         }
     }

@@ -7,8 +7,8 @@ use Rattle.plan.proofs.Truth.{is-true, is-false, eq→eqb, ne→neqb}
 use Rattle.reach.proofs.layers.held_by.Statement.{statement}
 use Rattle.reach.proofs.layers.held_by.Tie as tie
 
-cast-in-cone : tie.Need-cast-in-cone
-cast-in-cone c = search needs
+cast-most : tie.Need-cast-most
+cast-most c = search needs
 
 in-cone-requires : tie.Need-in-cone-requires
 in-cone-requires c κs = search needs
@@ -41,4 +41,4 @@ returns-4 c =
 
 pub held-by-spec : {M : Type 1} → statement M
 held-by-spec =
-    tie.close (tie.spec cast-in-cone in-cone-requires returns returns-2 returns-3 returns-4)
+    tie.close (tie.spec cast-most in-cone-requires returns returns-2 returns-3 returns-4)
