@@ -131,9 +131,6 @@ layer-represents R seed bound A X inp rep =
 pub row-of : {A : Table} {X : States} → Represents A X → (c : ℕ) → RepresentsRow A X c
 row-of rep c = record { sound = rep .sound c; complete = rep .complete c }
 
-pub all-rows : {A : Table} {X : States} → ((c : ℕ) → RepresentsRow A X c) → Represents A X
-all-rows rows = record { sound = λ c. rows c .sound; complete = λ c. rows c .complete }
-
 pub same-row : {A B : Table} {X : States} {c : ℕ} → ((l : ℕ) → B c l ≡ A c l) → RepresentsRow A X c → RepresentsRow B X c
 same-row e row =
     record { sound = λ l d h. row .sound l d (omega (arith, e l)); complete = λ l d x. omega (arith, e l, row .complete l d x) }

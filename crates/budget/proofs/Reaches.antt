@@ -18,9 +18,10 @@ use Rattle.budget.specs.Done.{stage, NotAfter, Within, Done, Fresh, Seed
 use Rattle.budget.specs.Search.{IdleUntil}
 use Rattle.budget.specs.Cone.{RepresentsIn, Shrinking}
 use Rattle.budget.specs.Emission.{exactSeed, Reaches, reachTable, afterLoad, afterDelay, visit}
-use Rattle.budget.proofs.Layer.{layer-represents, layer-row, step-near, row-of, all-rows, same-row}
+use Rattle.budget.proofs.Layer.{layer-represents, layer-row, step-near, same-row}
 use Rattle.budget.proofs.Done.{sevens-none, done-more, done-own, done-counts, some-span, light, step-done}
 use Rattle.budget.proofs.Search.{same-table}
+use Rattle.budget.proofs.Cone.{shrinks-by}
 use Rattle.budget.proofs.Visit.{Gate, gate, spansOf, spans-register, spans-other, sevens-cons, after-none, after-register, after-buffer, Onward, Final, Way, way, done-cons}
 
 -- exact seeds by the labels
@@ -213,10 +214,6 @@ module _ (R : Rules) (m : Labels) (k : ℕ) where
 
     -- After a layer that changes nothing there the table stays right up to the next label.
     module _ (u : ℕ) (A : Table) (rep : RepresentsIn (P u) A (Reaches R m k u)) (quiet : (c : ℕ) → ((x : ℕ) → T (R .linked c x) → T (P u x)) → (l : ℕ) → A c l ≡ layer R (exactSeed R m k u) (R .bound 0) A c l) (t : ℕ) (idle : IdleUntil m k u t) where
-      fewer : (i c : ℕ) → T (P (u + i) c) → T (P u c)
-      fewer zero c h = rw native.Mathlib.Nat.add-zero at h
-      fewer (suc i) c h = fewer i c (shrinks .own (u + i) c (rw native.Mathlib.Nat.add-suc at h))
-
       ahead : (i : ℕ) → u + i ≤ t → RepresentsIn (P (u + i)) A (Reaches R m k (u + i))
       ahead zero h = rw native.Mathlib.Nat.add-zero rep
       ahead (suc i) h = rw native.Mathlib.Nat.add-suc (next (ahead i (omega arith)))
@@ -227,7 +224,7 @@ module _ (R : Rules) (m : Labels) (k : ℕ) where
 
           next : RepresentsIn (P (u + i)) A (Reaches R m k (u + i)) → RepresentsIn (P (suc (u + i))) A (Reaches R m k (suc (u + i)))
           next before c g =
-              let r = row-in (exactSeed R m k u) (u + i) {B = A} before c g (quiet c (λ x link. fewer i x (shrinks .near (u + i) c x g link))) in
+              let r = row-in (exactSeed R m k u) (u + i) {B = A} before c g (quiet c (λ x link. shrinks-by shrinks u i x (shrinks .near (u + i) c x g link))) in
               record {
                 sound = λ l d y. step-more (λ n. exact-later R m k u (u + i) n (λ a b g. omega arith)) (λ c l d x. x) c l d (r .sound l d y);
                 complete = λ l d y. r .complete l d (step-more (λ n. exact-later R m k (u + i) u n (λ a b g. early (idle n a b) g)) (λ c l d x. x) c l d y);
@@ -237,8 +234,3 @@ module _ (R : Rules) (m : Labels) (k : ℕ) where
       until-in v lo hi =
           let e : u + (v - u) ≡ v = omega arith in
           subst (λ (q : ℕ). RepresentsIn (P q) A (Reaches R m k q)) e (ahead (v - u) (omega arith))
-
-  -- and so of all cells
-  pub reaches-until : Lawful R → (u : ℕ) (A : Table) → Represents A (Reaches R m k u) → ((c l : ℕ) → A c l ≡ layer R (exactSeed R m k u) (R .bound 0) A c l) → (t : ℕ) → IdleUntil m k u t → (v : ℕ) → u ≤ v → v ≤ t → Represents A (Reaches R m k v)
-  reaches-until law u A rep quiet t idle v lo hi =
-      all-rows (λ c. until-in law {P = λ u c. true} (record { own = λ u c h. h; near = λ u c x h link. tt }) u A (λ c h. row-of rep c) (λ c near l. quiet c l) t idle v lo hi c tt)

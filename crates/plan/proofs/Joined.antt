@@ -1,7 +1,7 @@
 -- Wires: where they lead, that they go both ways, and that both ends are in the plan.
 use Prim.Native.Nat.{ℕ, _+_, _/_, _%_, _<_}
 use mathlib.Core.Bool.{Bool, true, false, _&&_, _||_, not}
-use mathlib.Core.Path.{_≡_, refl}
+use mathlib.Core.Path.{_≡_, refl, sym}
 use mathlib.Core.Logic.{⊎-elim}
 use native.Mathlib.Nat.{mod-lt}
 use native.Mathlib.Omega.{arith}
@@ -9,7 +9,7 @@ use borrow.Author.Tests.{eq-eqb}
 use lib.Dec.{T, eqb, ltb, eqb→eq, ltb→lt}
 use Rattle.plan.specs.Plan.{Plan, cells, row, column, marksAt, cutRight, cutBelow}
 use Rattle.plan.specs.Joined.{wireRight, wireBelow, bothIn, horizontal, vertical, joined}
-use Rattle.plan.proofs.Truth.{fst, snd, tests, or-cases, or-comm, is-false}
+use Rattle.plan.proofs.Truth.{fst, snd, parts, or-cases, or-comm, is-false}
 use Rattle.plan.proofs.Division.{right-row, right-column, right-is, down-row, down-column, down-is}
 
 swapped : (a b c d : Bool) → (a && b && (c || d)) ≡ (b && a && (d || c))
@@ -48,33 +48,45 @@ unfolding joined
 joined-in p a b t =
     ⊎-elim (horizontal-in p a b) (vertical-in p a b) (or-cases (horizontal p a b) (vertical p a b) t)
 
+-- A wire joins neighbours: their columns differ by one in one row, or their rows in one column.
+pub data Near (p : Plan) (a b : ℕ) : Type 0 where
+  rightward : row p b ≡ row p a → column p b ≡ column p a + 1 → Near p a b
+  leftward : row p b ≡ row p a → column p a ≡ column p b + 1 → Near p a b
+  downward : column p b ≡ column p a → row p b ≡ row p a + 1 → Near p a b
+  upward : column p b ≡ column p a → row p a ≡ row p b + 1 → Near p a b
+
+right-ends : (p : Plan) (a b : ℕ) → T (wireRight p a b) → (row p b ≡ row p a) × (column p b ≡ column p a + 1)
+unfolding wireRight
+right-ends p a b t = (eqb→eq (row p b) (row p a) (search parts), eqb→eq (column p b) (column p a + 1) (search parts))
+
+below-ends : (p : Plan) (a b : ℕ) → T (wireBelow p a b) → (column p b ≡ column p a) × (row p b ≡ row p a + 1)
+unfolding wireBelow
+below-ends p a b t = (eqb→eq (column p b) (column p a) (search parts), eqb→eq (row p b) (row p a + 1) (search parts))
+
+pub joined-near : (p : Plan) (a b : ℕ) → T (joined p a b) → Near p a b
+unfolding joined horizontal vertical
+joined-near p a b t =
+    ⊎-elim
+    (λ h.
+    ⊎-elim (λ w. let e = right-ends p a b w in Near.rightward (e .0) (e .1)) (λ w. let e = right-ends p b a w in Near.leftward (sym (e .0)) (e .1))
+    (or-cases (wireRight p a b) (wireRight p b a) (snd (bothIn p a b) (wireRight p a b || wireRight p b a) h)))
+    (λ v.
+    ⊎-elim (λ w. let e = below-ends p a b w in Near.downward (e .0) (e .1)) (λ w. let e = below-ends p b a w in Near.upward (sym (e .0)) (e .1))
+    (or-cases (wireBelow p a b) (wireBelow p b a) (snd (bothIn p a b) (wireBelow p a b || wireBelow p b a) v)))
+    (or-cases (horizontal p a b) (vertical p a b) t)
+
 -- The chessboard: the number of a cell's diagonal is odd or even, by the cell's colour. A step changes it by one.
 abbrev pub diagonal : Plan → ℕ → ℕ
 diagonal p c = row p c + column p c
 
-right-odd : (p : Plan) (a b : ℕ) → T (wireRight p a b) → (diagonal p a + diagonal p b) % 2 ≡ 1
-unfolding wireRight
-right-odd p a b t =
-    let r = eqb (row p b) (row p a) in
-    let c = eqb (column p b) (column p a + 1) in
-    let u = not (cutRight (marksAt p a)) in
-    omega (arith, tests, fst r c (fst (r && c) u t), snd r c (fst (r && c) u t))
-
-below-odd : (p : Plan) (a b : ℕ) → T (wireBelow p a b) → (diagonal p a + diagonal p b) % 2 ≡ 1
-unfolding wireBelow
-below-odd p a b t =
-    let c = eqb (column p b) (column p a) in
-    let r = eqb (row p b) (row p a + 1) in
-    let u = not (cutBelow (marksAt p a)) in
-    omega (arith, tests, fst c r (fst (c && r) u t), snd c r (fst (c && r) u t))
-
 pub joined-odd : (p : Plan) (a b : ℕ) → T (joined p a b) → (diagonal p a + diagonal p b) % 2 ≡ 1
-unfolding joined horizontal vertical
-joined-odd p a b t =
-    ⊎-elim
-    (λ h. ⊎-elim (right-odd p a b) (λ w. omega (arith, right-odd p b a w)) (or-cases (wireRight p a b) (wireRight p b a) (snd (bothIn p a b) (wireRight p a b || wireRight p b a) h)))
-    (λ v. ⊎-elim (below-odd p a b) (λ w. omega (arith, below-odd p b a w)) (or-cases (wireBelow p a b) (wireBelow p b a) (snd (bothIn p a b) (wireBelow p a b || wireBelow p b a) v)))
-    (or-cases (horizontal p a b) (vertical p a b) t)
+joined-odd p a b t = go (joined-near p a b t)
+  where
+    go : Near p a b → (diagonal p a + diagonal p b) % 2 ≡ 1
+    go (Near.rightward e f) = omega arith
+    go (Near.leftward e f) = omega arith
+    go (Near.downward e f) = omega arith
+    go (Near.upward e f) = omega arith
 
 -- a wire that leads right from a to b, as numbers
 pub record Right (p : Plan) (a b : ℕ) : Type 0 where

@@ -5,7 +5,7 @@ use mathlib.Core.List.{List}
 use native.Mathlib.Omega.{arith}
 use lib.Dec.{T}
 use Rattle.rules.specs.Rules.{Rules}
-use Rattle.budget.specs.Table.{Table, Represents}
+use Rattle.budget.specs.Table.{Table, RepresentsRow}
 use Rattle.budget.specs.Emission.{exactSeed, Reaches}
 use Rattle.budget.proofs.Reaches.{Exact, source-seed, seed-at-source, exact-test, exact-view, step-more}
 use Rattle.rows.specs.Words.{Kept}
@@ -25,10 +25,10 @@ module _ (R : Rules) (n : ℕ) (old new : List ℕ) (kept : Kept (n * 128) (n * 
   reaches-kept k zero c l d x = x
   reaches-kept k (suc u) c l d x = step-more (λ i. exact-kept k u i) (λ c l d. reaches-kept k u c l d) c l d x
 
--- so a table of the states by the old labels is one by the new
-pub table-kept : (R : Rules) (n : ℕ) (old new : List ℕ) → Kept (n * 128) (n * 131) old new → (k u : ℕ) {A : Table} → Represents A (Reaches R (labelsOf n old) k u) → Represents A (Reaches R (labelsOf n new) k u)
-table-kept R n old new kept k u rep =
+-- so a row of the states by the old labels is one by the new
+pub row-kept : (R : Rules) (n : ℕ) (old new : List ℕ) → Kept (n * 128) (n * 131) old new → (k u : ℕ) {A : Table} {c : ℕ} → RepresentsRow A (Reaches R (labelsOf n old) k u) c → RepresentsRow A (Reaches R (labelsOf n new) k u) c
+row-kept R n old new kept k u {c = c} row =
     record {
-      sound = λ c l d h. reaches-kept R n old new kept k u c l d (rep .sound c l d h);
-      complete = λ c l d x. rep .complete c l d (reaches-kept R n new old (λ i lo hi. sym (kept i lo hi)) k u c l d x);
+      sound = λ l d h. reaches-kept R n old new kept k u c l d (row .sound l d h);
+      complete = λ l d x. row .complete l d (reaches-kept R n new old (λ i lo hi. sym (kept i lo hi)) k u c l d x);
     }

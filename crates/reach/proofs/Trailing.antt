@@ -8,9 +8,13 @@ use native.Mathlib.Omega.{arith}
 use lib.Dec.{T, eqb, leb, eqb→eq, leb→le}
 use lib.ListN.{getD}
 use Rattle.rules.specs.Rules.{Rules}
-use Rattle.plan.proofs.Truth.{split, fst, snd}
-use Rattle.budget.specs.Table.{Table, Represents}
+use Rattle.plan.specs.Apart.{apartBy}
+use Rattle.plan.proofs.Truth.{fst, snd}
+use Rattle.plan.proofs.Apart.{apart-self}
+use Rattle.budget.specs.Table.{Table}
+use Rattle.budget.specs.Cone.{RepresentsIn, Lipschitz, inCone}
 use Rattle.budget.specs.Emission.{Reaches}
+use Rattle.budget.proofs.Cone.{cone-in, cone-of}
 use Rattle.budget.proofs.Layer.{row-of, same-row}
 use Rattle.budget.proofs.Reaches.{reaches-start}
 use Rattle.costs.specs.Costs.{rowWords}
@@ -26,21 +30,16 @@ use Rattle.table.proofs.Views.{budget-at, budget-outside, inside}
 use Rattle.labels.specs.Labels.{labelsOf, Ordered, ArrivedAll}
 use Rattle.labels.proofs.Labels.{ordered-kept}
 use Rattle.reach.specs.declared.layers.Layers.{Layers}
-use Rattle.reach.specs.Reach.{noLayers, heldBy, Past, Held, Trailing, Cleared, Current, SpanRun, Loaded}
-use Rattle.reach.proofs.Kept.{table-kept}
-
-pub no-budget : {A : Table} → Represents A (λ c l d. ⊥) → (c l : ℕ) → A c l ≡ 0
-no-budget {A} rep c l = go (split (A c l) 0)
-  where
-    go : (A c l ≤ 0) ⊎ (0 < A c l) → A c l ≡ 0
-    go (inl h) = omega arith
-    go (inr h) = absurd (rep .sound c l 0 h)
+use Rattle.reach.specs.Cone.{Dropped}
+use Rattle.reach.specs.Reach.{noLayers, nearBy, heldBy, Past, Held, Trailing, Current, Loaded}
+use Rattle.reach.proofs.Kept.{row-kept}
 
 -- before the first call
 pub held-start : {R : Rules} {n count : ℕ} {words : List ℕ} → Ordered n words count → Held R n count words noLayers
 held-start {R} {n} {count} {words} o =
     record {
       ordered = o;
+      wide = omega arith;
       past =
           record {
             Z = λ s c l. 0;
@@ -49,12 +48,12 @@ held-start {R} {n} {count} {words} o =
             none = λ c l. refl;
             outside = λ s c l f. refl;
           };
-      means = λ s lo hi. absurd (omega arith);
+      means = λ s cell lo hi. absurd (omega arith);
     }
 
-module _ (R : Rules) (n k : ℕ) (old : List ℕ) where
+module _ (R : Rules) (n k : ℕ) (P : ℕ → ℕ → Bool) (old : List ℕ) where
   -- a span begins with no budget and an empty trail
-  pub trail-start : (words : List ℕ) (t : Trail) → t ≡ newTrail n → ((c l : ℕ) → budgetOf n words c l ≡ 0) → Trailing R n k old words 0 t
+  pub trail-start : (words : List ℕ) (t : Trail) → t ≡ newTrail n → ((c l : ℕ) → budgetOf n words c l ≡ 0) → Trailing R n k P old words 0 t
   trail-start words t e none =
       record {
         past =
@@ -65,7 +64,7 @@ module _ (R : Rules) (n k : ℕ) (old : List ℕ) where
               none = λ c l. refl;
               outside = λ s c l f. refl;
             };
-        means = λ s h. rw (zero s h) (reaches-start R (labelsOf n old) k (λ c l. refl));
+        means = λ s h c t. rw (zero s h) (row-of (reaches-start R (labelsOf n old) k (λ c l. refl)) c);
         stamp = rw e (omega arith);
       }
     where
@@ -73,7 +72,7 @@ module _ (R : Rules) (n k : ℕ) (old : List ℕ) where
       zero s h = omega arith
 
   -- the layers up to v have the table of now
-  further : (words : List ℕ) (t : Trail) (u v : ℕ) (p : Past n words (record { registers = k; steps = u; trail = t })) → t .stamp ≤ u + 1 → Past n words (record { registers = k; steps = v; trail = t })
+  further : (words : List ℕ) (t : Trail) (u v : ℕ) → Past n words u t → t .stamp ≤ u + 1 → Past n words v t
   further words t u v p stamp =
       record {
         Z = followed (p .Z) u (budgetOf n words);
@@ -83,20 +82,20 @@ module _ (R : Rules) (n k : ℕ) (old : List ℕ) where
         outside = λ s c l f. followed-all (p .Z) u (budgetOf n words) (λ x A. A c l ≡ 0) s (λ x h. p .outside x c l f) (λ x a b. budget-outside n words c l f) s (omega arith);
       }
 
-  module _ (words : List ℕ) (u : ℕ) (t : Trail) (r : Trailing R n k old words u t) where
+  module _ (words : List ℕ) (u : ℕ) (t : Trail) (r : Trailing R n k P old words u t) where
     -- after a layer
-    pub trail-layer : (new : List ℕ) (next : Grown) → Layered R n (stamped t (u + 1)) words new next → Represents (budgetOf n new) (Reaches R (labelsOf n old) k (u + 1)) → Trailing R n k old new (u + 1) (next .trail)
+    pub trail-layer : (new : List ℕ) (next : Grown) → Layered R n (stamped t (u + 1)) words new next → RepresentsIn (P (u + 1)) (budgetOf n new) (Reaches R (labelsOf n old) k (u + 1)) → Trailing R n k P old new (u + 1) (next .trail)
     unfolding further followed
     trail-layer new next l table =
         record {
           past = further new (next .trail) u (u + 1) before (omega (arith, l .stamp));
           means =
-              followed-all (r .past .Z) u (budgetOf n new) (λ s A. Represents A (Reaches R (labelsOf n old) k s)) (u + 1) (r .means)
+              followed-all (r .past .Z) u (budgetOf n new) (λ s A. RepresentsIn (P s) A (Reaches R (labelsOf n old) k s)) (u + 1) (r .means)
               (λ s lo hi. let e : u + 1 ≡ s = omega arith in rw e at table);
           stamp = omega (arith, l .stamp);
         }
       where
-        before : Past n new (record { registers = k; steps = u; trail = next .trail })
+        before : Past n new u (next .trail)
         before =
             record {
               Z = r .past .Z;
@@ -107,19 +106,19 @@ module _ (R : Rules) (n k : ℕ) (old : List ℕ) where
             }
 
     -- after a leap
-    pub trail-leap : (v : ℕ) → u ≤ v → ((s : ℕ) → u ≤ s → s ≤ v → Represents (budgetOf n words) (Reaches R (labelsOf n old) k s)) → Trailing R n k old words v t
+    pub trail-leap : (v : ℕ) → u ≤ v → ((s : ℕ) → u ≤ s → s ≤ v → RepresentsIn (P s) (budgetOf n words) (Reaches R (labelsOf n old) k s)) → Trailing R n k P old words v t
     unfolding further followed
     trail-leap v h table =
         record {
           past = further words t u v (r .past) (omega (arith, r .stamp));
           means =
-              followed-all (r .past .Z) u (budgetOf n words) (λ s A. Represents A (Reaches R (labelsOf n old) k s)) v (r .means)
+              followed-all (r .past .Z) u (budgetOf n words) (λ s A. RepresentsIn (P s) A (Reaches R (labelsOf n old) k s)) v (r .means)
               (λ s lo hi. table s (omega arith) hi);
           stamp = omega (arith, r .stamp);
         }
 
     -- the table and the trail stay
-    pub trail-kept : (new : List ℕ) → Kept 0 (n * 64) words new → TrailKept n words new → Trailing R n k old new u t
+    pub trail-kept : (new : List ℕ) → Kept 0 (n * 64) words new → TrailKept n words new → Trailing R n k P old new u t
     trail-kept new table kept =
         record {
           past =
@@ -134,46 +133,71 @@ module _ (R : Rules) (n k : ℕ) (old : List ℕ) where
           stamp = r .stamp;
         }
 
-    pub trail-arrive : {at end to active : ℕ} (new : List ℕ) → ArrivedAll n at end u words new to active → Trailing R n k old new u t
+    pub trail-arrive : {at end to active : ℕ} (new : List ℕ) → ArrivedAll n at end u words new to active → Trailing R n k P old new u t
     trail-arrive new a = trail-kept new (λ i lo hi. a .arrived .low i (omega arith)) (record { near = λ i lo hi. a .arrived .low i (omega arith); far = λ i lo hi. a .arrived .high i lo })
+
+    pub trail-drop : {Q : ℕ → Bool} {active : ℕ} (new : List ℕ) → Dropped n Q words new active → Trailing R n k P old new u t
+    trail-drop new d = trail-kept new (λ i lo hi. d .low i (omega arith)) (record { near = λ i lo hi. d .low i (omega arith); far = λ i lo hi. d .high i (omega arith) })
 
     pub trail-sound : Rattle.trail.specs.Trail.Sound n words (stamped t (u + 1))
     trail-sound = sound-stamped n words t (u + 1) (omega (arith, r .stamp)) (r .past .sound)
 
--- the end of a span's run
-span-done : (R : Rules) (n k : ℕ) (old new : List ℕ) (u active at end count : ℕ) (t : Trail) → Current R n k old new u active at end count → Trailing R n k old new u t → SpanRun R n count k u old new (record { registers = k; steps = u; trail = t })
-span-done R n k old new u active at end count t g r =
-    let f = g .reaching in
-    let kept : Kept (n * 128) (n * 131) old new = λ i lo hi. f .labels i lo (omega arith) in
-    record {
-      same = f .same;
-      table = table-kept R n old new kept k u (f .table);
-      labels = f .labels;
-      rest = f .rest;
-      held =
-          record {
-            ordered = ordered-kept (f .ordered) new (f .labels);
-            past = r .past;
-            means = λ s lo hi. table-kept R n old new kept k s (r .means s hi);
-          };
-    }
+-- The end of a span's run, at a cell: in the layer of s steps, the rows next to a cell that is near enough are in the cone.
+module _ (R : Rules) (n k : ℕ) (old new : List ℕ) (width cell : ℕ) (wide : 0 < width) (apart : Lipschitz R (apartBy width cell)) (u active at end count : ℕ) (t : Trail) (g : Current R n k (inCone (apartBy width cell) (u + 1)) old new u active at end count) (r : Trailing R n k (inCone (apartBy width cell) (u + 1)) old new u t) where
+  kept-seeds : Kept (n * 128) (n * 131) old new
+  kept-seeds i lo hi = g .reaching .labels i lo (omega arith)
 
-pub span-run : (R : Rules) (n k : ℕ) (old new : List ℕ) (u active at end count steps : ℕ) (t : Trail) → Current R n k old new u active at end count → Trailing R n k old new u t → u ≡ steps → SpanRun R n count k steps old new (record { registers = k; steps = steps; trail = t })
-span-run R n k old new u active at end count steps t g r e = rw e at (span-done R n k old new u active at end count t g r)
+  near-in : (s x c : ℕ) → T (inCone (apartBy width cell) u s x) → T (R .linked x c) → T (inCone (apartBy width cell) (u + 1) s c)
+  near-in s x c h link = cone-in _ _ s c (omega (arith, cone-of (apartBy width cell) u s x h, apart x c link))
 
-pub run-loaded : {R : Rules} {n count registers steps : ℕ} {old new : List ℕ} {layers : Layers} → SpanRun R n count registers steps old new layers → (cell : ℕ) → Loaded R n count cell registers steps old new layers
-run-loaded s cell = record { same = s .same; near = λ c link. row-of (s .table) c; labels = s .labels; rest = s .rest; held = s .held }
+  span-done : Loaded R n count cell k u old new (record { registers = k; steps = u; width = width; from = cell; most = u; trail = t })
+  span-done =
+      record {
+        same = g .reaching .same;
+        near = λ c link. row-kept R n old new kept-seeds k u (g .reaching .table c (near-in u cell c (cone-in _ u u cell (omega (arith, apart-self width cell))) link));
+        labels = g .reaching .labels;
+        rest = g .reaching .rest;
+        held =
+            record {
+              ordered = ordered-kept (g .reaching .ordered) new (g .reaching .labels);
+              wide = wide;
+              past = r .past;
+              means = λ s x lo hi h c link. row-kept R n old new kept-seeds k s (r .means s hi c (near-in s x c h link));
+            };
+      }
+
+pub span-loaded : (R : Rules) (n k : ℕ) (old new : List ℕ) (width cell : ℕ) → 0 < width → Lipschitz R (apartBy width cell) → (u active at end count steps : ℕ) (t : Trail) → Current R n k (inCone (apartBy width cell) (steps + 1)) old new u active at end count → Trailing R n k (inCone (apartBy width cell) (steps + 1)) old new u t → u ≡ steps → Loaded R n count cell k steps old new (record { registers = k; steps = steps; width = width; from = cell; most = steps; trail = t })
+span-loaded R n k old new width cell wide apart u active at end count steps t g r e =
+    span-done R n k old new width cell wide apart steps active at end count t (rw e at g) (rw e at r)
 
 -- what `heldBy` tests
-pub held-parts : (layers : Layers) (registers steps : ℕ) → T (heldBy layers registers steps) → (layers .registers ≡ registers) × ((layers .trail .low ≤ steps) × (steps ≤ layers .steps))
-held-parts layers registers steps h =
+pub record HeldBy (layers : Layers) (cell registers steps : ℕ) : Type 0 where
+  pub span : layers .registers ≡ registers
+  pub low : layers .trail .low ≤ steps
+  pub high : steps ≤ layers .steps
+  pub near : T (nearBy layers steps cell)
+
+pub held-parts : (layers : Layers) (cell registers steps : ℕ) → T (heldBy layers cell registers steps) → HeldBy layers cell registers steps
+held-parts layers cell registers steps h =
+    let span : Bool = eqb (layers .registers) registers in
     let low : Bool = leb (layers .trail .low) steps in
     let high : Bool = leb steps (layers .steps) in
-    let rest = snd (eqb (layers .registers) registers) (low && high) h in
-    (eqb→eq _ _ (fst (eqb (layers .registers) registers) (low && high) h), (leb→le _ _ (fst low high rest), leb→le _ _ (snd low high rest)))
+    let near : Bool = nearBy layers steps cell in
+    let rest = snd span (low && (high && near)) h in
+    let last = snd low (high && near) rest in
+    record {
+      span = eqb→eq _ _ (fst span (low && (high && near)) h);
+      low = leb→le _ _ (fst low (high && near) rest);
+      high = leb→le _ _ (fst high near last);
+      near = snd high near last;
+    }
 
 -- back on the trail
 module _ (R : Rules) (n count steps : ℕ) (old : List ℕ) (layers : Layers) (held : Held R n count old layers) (low : layers .trail .low ≤ steps) (high : steps ≤ layers .steps) (new : List ℕ) (t : Trail) (back : Rewound n steps old (layers .trail) new t) where
+  abbrev backTo : ℕ → Layers
+  backTo k =
+      record { registers = k; steps = steps; width = layers .width; from = layers .from; most = layers .most; trail = t }
+
   kept-labels : Kept (n * 128) (n * 131) old new
   kept-labels i lo hi = back .kept i (omega arith)
 
@@ -184,16 +208,17 @@ module _ (R : Rules) (n count steps : ℕ) (old : List ℕ) (layers : Layers) (h
       go (inl h) = budget-at n new c l (h .0) (h .1) ∙ back .table (layers .steps) (held .past .Z) low high (held .past .history) c l (h .0) (h .1)
       go (inr f) = budget-outside n new c l f ∙ sym (held .past .outside steps c l f)
 
-  loaded-back : (cell : ℕ) → Loaded R n count cell (layers .registers) steps old new (record { registers = layers .registers; steps = steps; trail = t })
-  loaded-back cell =
+  loaded-back : (cell : ℕ) → T (nearBy layers steps cell) → Loaded R n count cell (layers .registers) steps old new (backTo (layers .registers))
+  loaded-back cell near =
       record {
         same = back .same;
-        near = λ c link. same-row (back-table c) (row-of (table-kept R n old new kept-labels (layers .registers) steps (held .means steps low high)) c);
+        near = λ c link. same-row (back-table c) (row-kept R n old new kept-labels (layers .registers) steps (held .means steps cell low high near c link));
         labels = λ i lo hi. back .kept i (omega arith);
         rest = λ i h. back .kept i (omega arith);
         held =
             record {
               ordered = ordered-kept (held .ordered) new (λ i lo hi. back .kept i (omega arith));
+              wide = held .wide;
               past =
                   record {
                     Z = held .past .Z;
@@ -202,15 +227,15 @@ module _ (R : Rules) (n count steps : ℕ) (old : List ℕ) (layers : Layers) (h
                     none = held .past .none;
                     outside = held .past .outside;
                   };
-              means = λ s lo hi. table-kept R n old new kept-labels (layers .registers) s (held .means s (omega (arith, back .lowest)) (omega arith));
+              means = λ s x lo hi h c link. row-kept R n old new kept-labels (layers .registers) s (held .means s x (omega (arith, back .lowest)) (omega arith) h c link);
             };
       }
 
-  pub back-loaded : (cell registers : ℕ) → layers .registers ≡ registers → Loaded R n count cell registers steps old new (record { registers = registers; steps = steps; trail = t })
-  back-loaded cell registers e = rw e at (loaded-back cell)
+  pub back-loaded : (cell registers : ℕ) → layers .registers ≡ registers → T (nearBy layers steps cell) → Loaded R n count cell registers steps old new (backTo registers)
+  back-loaded cell registers e near = rw e at (loaded-back cell near)
 
 -- at layer 0 there is no budget
-pub back-empty : (n : ℕ) (old : List ℕ) (layers : Layers) → Past n old layers → layers .trail .low ≡ 0 → (new : List ℕ) (t : Trail) → Rewound n 0 old (layers .trail) new t → (i : ℕ) → i < n * 64 → getD new i 0 ≡ 0
+pub back-empty : (n : ℕ) (old : List ℕ) (layers : Layers) → Past n old (layers .steps) (layers .trail) → layers .trail .low ≡ 0 → (new : List ℕ) (t : Trail) → Rewound n 0 old (layers .trail) new t → (i : ℕ) → i < n * 64 → getD new i 0 ≡ 0
 back-empty n old layers p low new t back i h =
     let e : i / 64 * 64 + i % 64 ≡ i = omega arith in
     rw e at (back .table (layers .steps) (p .Z) (omega arith) (omega arith) (p .history) (i / 64) (i % 64) (omega arith) (omega arith) ∙ p .none (i / 64) (i % 64))

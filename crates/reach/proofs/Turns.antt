@@ -1,6 +1,7 @@
 -- One turn of the loading: a layer, or a leap over layers that change nothing; then the labels whose steps have come.
 use Prim.Native.Nat.{ℕ, zero, suc, _+_, _*_, _≤_, _<_}
 use mathlib.Core.Path.{_≡_, sym, ap, _∙_}
+use mathlib.Core.Bool.{Bool}
 use mathlib.Core.Logic.{_⊎_, inl, inr}
 use mathlib.Core.List.{List}
 use native.Mathlib.Numerals.{add-one}
@@ -8,25 +9,28 @@ use native.Mathlib.Omega.{arith}
 use lib.Dec.{T}
 use Rattle.rules.specs.Rules.{Rules}
 use Rattle.plan.proofs.Truth.{split}
-use Rattle.budget.specs.Table.{Represents, layer}
+use Rattle.budget.specs.Table.{layer}
 use Rattle.budget.specs.Done.{NotAfter, Labels, Lawful}
 use Rattle.budget.specs.Search.{IdleUntil}
 use Rattle.budget.specs.Emission.{exactSeed, Reaches}
 use Rattle.budget.specs.Colours.{InStep}
-use Rattle.budget.proofs.Search.{same-table}
-use Rattle.budget.proofs.Reaches.{exact-view, exact-test, exact-later, reaches-layer, reaches-until}
+use Rattle.budget.specs.Cone.{RepresentsIn, Shrinking}
+use Rattle.budget.proofs.Layer.{same-row}
+use Rattle.budget.proofs.Cone.{shrinks-fewer}
+use Rattle.budget.proofs.Reaches.{exact-view, exact-test, exact-later, layer-in, until-in}
 use Rattle.table.specs.Problem.{budgetOf, seedOf}
 use Rattle.trail.specs.declared.Trail.{Trail}
 use Rattle.table.specs.declared.pushes.Grown.{Grown}
-use Rattle.table.specs.Layer.{Layered}
+use Rattle.table.specs.Layer.{ActiveIn, Layered}
 use Rattle.table.proofs.Quiet.{quiet-layer}
 use Rattle.table.proofs.Views.{budget-kept, seeds-kept}
-use Rattle.table.proofs.Colours.{coloured-none, coloured-layer}
+use Rattle.table.proofs.Colours.{coloured-none, coloured-kept, coloured-layer}
 use Rattle.labels.specs.Labels.{registersOf, stepsOf, labelsOf, orderOf, ArrivedAll}
 use Rattle.labels.proofs.Labels.{known-below}
-use Rattle.search.proofs.Arrivals.{active-arrived}
+use Rattle.search.proofs.Arrivals.{active-kept, active-arrived}
 use Rattle.search.proofs.Fronts.{bool-same, layer-seeds, order-same, order-steps}
 use Rattle.search.proofs.NextFront.{seed-word, word-seed, find, coloured-arrived}
+use Rattle.reach.specs.Cone.{Dropped}
 use Rattle.reach.specs.Reach.{NextSteps, Due, Reaching, Current}
 
 exact-early : (R : Rules) (m : Labels) (k u c : ℕ) → 0 < k → T (exactSeed R m k u c) → m .steps c ≤ u
@@ -41,11 +45,11 @@ exact-own R m (suc j) u c t e h = exact-test R m j u c (record { known = t; same
 exact-more : (R : Rules) (m : Labels) (k u v c : ℕ) → u ≤ v → T (exactSeed R m k u c) → T (exactSeed R m k v c)
 exact-more R m k u v c h = exact-later R m k u v c (λ a b q. omega arith)
 
-module _ (R : Rules) (n k : ℕ) (old : List ℕ) (count : ℕ) where
+module _ (R : Rules) (n k : ℕ) (P : ℕ → ℕ → Bool) (old : List ℕ) (count : ℕ) where
   abbrev m : Labels
   m = labelsOf n old
 
-  module _ (words : List ℕ) (u active at end : ℕ) (f : Reaching R n k old words u active at end count) where
+  module _ (words : List ℕ) (u active at end : ℕ) (f : Reaching R n k P old words u active at end count) where
     -- the order and its labels, read in the words
     order-is : (i : ℕ) → i < end → orderOf n words i ≡ orderOf n old i
     order-is i h = order-same n old words count (f .ordered) (f .labels) i (omega (arith, f .endCount))
@@ -67,8 +71,8 @@ module _ (R : Rules) (n k : ℕ) (old : List ℕ) (count : ℕ) where
     due-steps : (c : ℕ) → Due n old at end c → stepsOf n old (orderOf n old at) ≤ stepsOf n old c
     due-steps c d = omega (arith, sorted (d .place) (d .from) (d .below), ap (stepsOf n old) (d .holds))
 
-  module _ (words : List ℕ) (u active at end : ℕ) (g : Current R n k old words u active at end count) where
-    f : Reaching R n k old words u active at end count
+  module _ (words : List ℕ) (u active at end : ℕ) (g : Current R n k P old words u active at end count) where
+    f : Reaching R n k P old words u active at end count
     f = g .reaching
 
     -- the seed flags are the exact seeds
@@ -80,18 +84,22 @@ module _ (R : Rules) (n k : ℕ) (old : List ℕ) (count : ℕ) where
         back t (inr d) =
             absurd (omega (arith, exact-early R m k u c (omega (arith, f .waits (d .place) (d .from) (d .below))) t, due-steps words u active at end f c d, g .late (omega (arith, d .from, d .below))))
 
-    module _ (law : Lawful R) (cells : R .cellCount ≡ n) where
+    module _ (law : Lawful R) (cells : R .cellCount ≡ n) (shrinks : Shrinking R P) where
       exact-layer : (c l : ℕ) → layer R (seedOf n words) (R .bound 0) (budgetOf n words) c l ≡ layer R (exactSeed R m k u) (R .bound 0) (budgetOf n words) c l
       exact-layer = layer-seeds R (seedOf n words) (exactSeed R m k u) (R .bound 0) (budgetOf n words) (λ c h. seeds-exact c (omega arith))
 
-      pub layer-turn : (t : Trail) (new : List ℕ) (next : Grown) → Layered R n t words new next → Reaching R n k old new (u + 1) (next .count) at end count
+      -- the list is right in fewer cells
+      list-fewer : (v : ℕ) → u ≤ v → {new : List ℕ} {count : ℕ} → ActiveIn R n (P u) new count → ActiveIn R n (P v) new count
+      list-fewer v h a = record { listed = a .listed; settled = λ c i t z. a .settled c i (shrinks-fewer shrinks u v c h t) z }
+
+      pub layer-turn : (t : Trail) (new : List ℕ) (next : Grown) → Layered R n t words new next → Reaching R n k P old new (u + 1) (next .count) at end count
       layer-turn t new next l =
           record {
             same = l .same ∙ f .same;
             labels = λ i lo hi. l .labels i lo hi ∙ f .labels i lo hi;
             rest = λ i lo. l .beyond i (omega arith) ∙ f .rest i lo;
-            table = rw (add-one u) (reaches-layer R m k law u (f .table) (λ c d. l .table (f .list) c (λ x t. tt) d ∙ exact-layer c d));
-            list = l .active (f .list);
+            table = rw (add-one u) (layer-in R m k law shrinks u (f .table) (λ c near d. l .table (f .list) c near d ∙ exact-layer c d));
+            list = list-fewer (u + 1) (omega arith) (l .active (f .list));
             ordered = f .ordered;
             atEnd = f .atEnd;
             endCount = f .endCount;
@@ -104,9 +112,8 @@ module _ (R : Rules) (n k : ℕ) (old : List ℕ) (count : ℕ) where
           }
 
       -- with no active cell a layer changes nothing
-      quiet : active ≡ 0 → (c l : ℕ) → budgetOf n words c l ≡ layer R (exactSeed R m k u) (R .bound 0) (budgetOf n words) c l
-      quiet none c l =
-          quiet-layer R n words active cells (f .list) none c (λ x t. tt) l ∙ exact-layer c l
+      quiet : active ≡ 0 → (c : ℕ) → ((x : ℕ) → T (R .linked c x) → T (P u x)) → (l : ℕ) → budgetOf n words c l ≡ layer R (exactSeed R m k u) (R .bound 0) (budgetOf n words) c l
+      quiet none c near l = quiet-layer R n words active cells (f .list) none c near l ∙ exact-layer c l
 
       idle : (t : ℕ) → (at < end → t ≤ stepsOf n old (orderOf n old at)) → IdleUntil m k u t
       idle t first c known e = go (f .complete c (stepsOf n old c) inPlan (exact-own R m k (stepsOf n old c) c known e (omega arith)))
@@ -130,17 +137,17 @@ module _ (R : Rules) (n k : ℕ) (old : List ℕ) (count : ℕ) where
         first : at < end → t ≤ stepsOf n old (orderOf n old at)
         first h = omega (arith, next .early h, steps-are words u active at end f at h)
 
-        pub leap-tables : (s : ℕ) → u ≤ s → s ≤ t → Represents (budgetOf n words) (Reaches R m k s)
-        leap-tables s lo hi = reaches-until R m k law u (budgetOf n words) (f .table) (quiet none) t (idle t first) s lo hi
+        pub leap-tables : (s : ℕ) → u ≤ s → s ≤ t → RepresentsIn (P s) (budgetOf n words) (Reaches R m k s)
+        leap-tables s lo hi = until-in R m k law shrinks u (budgetOf n words) (f .table) (quiet none) t (idle t first) s lo hi
 
-        pub leap-turn : Reaching R n k old words t active at end count
+        pub leap-turn : Reaching R n k P old words t active at end count
         leap-turn =
             record {
               same = f .same;
               labels = f .labels;
               rest = f .rest;
               table = leap-tables t (omega (arith, leap-forth)) (omega arith);
-              list = f .list;
+              list = list-fewer t (omega (arith, leap-forth)) (f .list);
               ordered = f .ordered;
               atEnd = f .atEnd;
               endCount = f .endCount;
@@ -153,11 +160,11 @@ module _ (R : Rules) (n k : ℕ) (old : List ℕ) (count : ℕ) where
             }
 
   -- labels whose steps have come become seeds
-  module _ (words : List ℕ) (u active at end : ℕ) (f : Reaching R n k old words u active at end count) (new : List ℕ) (to active′ : ℕ) (a : ArrivedAll n at end u words new to active′) where
+  module _ (words : List ℕ) (u active at end : ℕ) (f : Reaching R n k P old words u active at end count) (new : List ℕ) (to active′ : ℕ) (a : ArrivedAll n at end u words new to active′) where
     in-end : (i : ℕ) → i < to → i < end
     in-end i h = omega (arith, a .within)
 
-    pub arrive-turn : Current R n k old new u active′ to end count
+    pub arrive-turn : Current R n k P old new u active′ to end count
     arrive-turn =
         record {
           reaching =
@@ -165,7 +172,7 @@ module _ (R : Rules) (n k : ℕ) (old : List ℕ) (count : ℕ) where
                 same = a .arrived .same ∙ f .same;
                 labels = λ i lo hi. a .arrived .low i hi ∙ f .labels i lo hi;
                 rest = λ i lo. a .arrived .high i (omega arith) ∙ f .rest i lo;
-                table = same-table (Reaches R m k u) (budget-kept n words new (λ i lo hi. a .arrived .low i (omega arith))) (f .table);
+                table = λ c t. same-row (budget-kept n words new (λ i lo hi. a .arrived .low i (omega arith)) c) (f .table c t);
                 list = active-arrived R n words new at to u active active′ (f .list) (a .arrived);
                 ordered = f .ordered;
                 atEnd = a .within;
@@ -205,3 +212,29 @@ module _ (R : Rules) (n k : ℕ) (old : List ℕ) (count : ℕ) where
             go (inl q) = inr (record { place = d .place; from = q; below = d .below; holds = d .holds })
             go (inr q) =
                 inl (rw (order-is words u active at end f (d .place) (d .below) ∙ d .holds) at (word-seed n new (orderOf n words (d .place)) (a .arrived .seeds (d .place) (d .from) q)))
+
+  -- cells out of P u leave the list
+  pub drop-turn : (words : List ℕ) (u active at end : ℕ) → Current R n k P old words u active at end count → (new : List ℕ) (active′ : ℕ) → Dropped n (P u) words new active′ → Current R n k P old new u active′ at end count
+  drop-turn words u active at end g new active′ d =
+      let f = g .reaching in
+      let seeds : (c : ℕ) → c < n → seedOf n new c ≡ seedOf n words c = seeds-kept n words new (λ i lo hi. d .high i lo) in
+      record {
+        reaching =
+            record {
+              same = d .same ∙ f .same;
+              labels = λ i lo hi. d .low i hi ∙ f .labels i lo hi;
+              rest = λ i lo. d .high i (omega arith) ∙ f .rest i lo;
+              table = λ c t. same-row (budget-kept n words new (λ i lo hi. d .low i (omega arith)) c) (f .table c t);
+              list = active-kept R n words new (f .list) (d .listed) (λ i h. d .low i (omega arith)) (λ c h t z. (t, (sym (d .inside c h t) ∙ z, seeds c h)));
+              ordered = f .ordered;
+              atEnd = f .atEnd;
+              endCount = f .endCount;
+              waits = f .waits;
+              sound = λ c h t. f .sound c h (rw (seeds c h) at t);
+              complete = λ c t h e. rw (seeds c h) (f .complete c t h e);
+              inStep = f .inStep;
+              soon = f .soon;
+              coloured = coloured-kept (f .coloured) new (d .fewer);
+            };
+        late = g .late;
+      }

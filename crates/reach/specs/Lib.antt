@@ -1,1 +1,2 @@
+pub mod Cone
 pub mod Reach

@@ -8,7 +8,9 @@ use mathlib.Core.List.{List}
 use lib.Dec.{T, eqb, leb}
 use lib.ListN.{length, getD}
 use Rattle.rules.specs.Rules.{Rules}
-use Rattle.budget.specs.Table.{Table, Represents, RepresentsRow}
+use Rattle.plan.specs.Apart.{apartBy}
+use Rattle.budget.specs.Table.{Table, RepresentsRow}
+use Rattle.budget.specs.Cone.{RepresentsIn, inCone}
 use Rattle.budget.specs.Emission.{exactSeed, Reaches}
 use Rattle.budget.specs.Colours.{LabelsInStep}
 use Rattle.costs.specs.Costs.{rowWords}
@@ -16,7 +18,7 @@ use Rattle.rows.specs.Words.{Kept, KeptFrom}
 use Rattle.trail.specs.declared.Trail.{Trail}
 use Rattle.trail.specs.Trail.{Sound, History}
 use Rattle.table.specs.Problem.{rulesFor, Ready, Room, budgetOf, seedOf}
-use Rattle.table.specs.Layer.{Active}
+use Rattle.table.specs.Layer.{ActiveIn}
 use Rattle.table.specs.Colours.{Coloured}
 use Rattle.table.specs.declared.problem.Problem.{Problem}
 use Rattle.reach.specs.declared.layers.Layers.{Layers}
@@ -34,11 +36,11 @@ pub record NextSteps (n : ℕ) (words : List ℕ) (at end steps r : ℕ) : Type 
   pub early : at < end → r ≤ stepsOf n words (orderOf n words at)
   pub met : (r ≡ steps) ⊎ ((at < end) × (r ≡ stepsOf n words (orderOf n words at)))
 
--- The layers that the trail holds, up to that of the table: Z s is the one of s steps, the first is empty.
-pub record Past (n : ℕ) (words : List ℕ) (layers : Layers) : Type 0 where
+-- The layers that the trail holds, up to that of the table, of u steps: Z s is the one of s steps, the first is empty.
+pub record Past (n : ℕ) (words : List ℕ) (u : ℕ) (t : Trail) : Type 0 where
   pub Z : ℕ → Table
-  pub sound : Sound n words (layers .trail)
-  pub history : History n words (layers .trail) (layers .steps) Z
+  pub sound : Sound n words t
+  pub history : History n words t u Z
   pub none : (c l : ℕ) → Z 0 c l ≡ 0
   pub outside : (s c l : ℕ) → (c < n → l < rowWords → ⊥) → Z s c l ≡ 0
 
@@ -63,14 +65,14 @@ pub record Due (n : ℕ) (words : List ℕ) (at end c : ℕ) : Type 0 where
   pub below : place < end
   pub holds : orderOf n words place ≡ c
 
--- The table is that of u steps. Each flagged seed is a seed at u steps, and each seed of the span is flagged or waits.
+-- In the rows of P u the table is that of u steps, and the active list is right there. Each flagged seed is a seed at u steps, and each seed of the span is flagged or waits.
 -- `old` are the words from which the labels and the order are kept.
-pub record Reaching (R : Rules) (n k : ℕ) (old words : List ℕ) (u active at end count : ℕ) : Type 0 where
+pub record Reaching (R : Rules) (n k : ℕ) (P : ℕ → ℕ → Bool) (old words : List ℕ) (u active at end count : ℕ) : Type 0 where
   pub same : length words ≡ length old
   pub labels : Kept (n * 128) (n * 132) old words
   pub rest : KeptFrom (n * 256) old words
-  pub table : Represents (budgetOf n words) (Reaches R (labelsOf n old) k u)
-  pub list : Active R n words active
+  pub table : RepresentsIn (P u) (budgetOf n words) (Reaches R (labelsOf n old) k u)
+  pub list : ActiveIn R n (P u) words active
   pub ordered : Ordered n old count
   pub atEnd : at ≤ end
   pub endCount : end ≤ count
@@ -83,50 +85,54 @@ pub record Reaching (R : Rules) (n k : ℕ) (old words : List ℕ) (u active at 
   pub coloured : Coloured R n u words
 
 -- and the trail holds the layers up to u
-pub record Trailing (R : Rules) (n k : ℕ) (old words : List ℕ) (u : ℕ) (t : Trail) : Type 0 where
-  pub past : Past n words (record { registers = k; steps = u; trail = t })
-  pub means : (s : ℕ) → s ≤ u → Represents (past .Z s) (Reaches R (labelsOf n old) k s)
+pub record Trailing (R : Rules) (n k : ℕ) (P : ℕ → ℕ → Bool) (old words : List ℕ) (u : ℕ) (t : Trail) : Type 0 where
+  pub past : Past n words u t
+  pub means : (s : ℕ) → s ≤ u → RepresentsIn (P s) (past .Z s) (Reaches R (labelsOf n old) k s)
   pub stamp : t .stamp ≤ u
 
 -- and every label that waits has more steps than u
-pub record Current (R : Rules) (n k : ℕ) (old words : List ℕ) (u active at end count : ℕ) : Type 0 where
-  pub reaching : Reaching R n k old words u active at end count
+pub record Current (R : Rules) (n k : ℕ) (P : ℕ → ℕ → Bool) (old words : List ℕ) (u active at end count : ℕ) : Type 0 where
+  pub reaching : Reaching R n k P old words u active at end count
   pub late : at < end → u < stepsOf n old (orderOf n old at)
+
+-- After `start_span`: no budget, and so the table of no steps in any rows.
+pub record Started (R : Rules) (n k : ℕ) (old words : List ℕ) (active at end count : ℕ) : Type 0 where
+  pub empty : (c l : ℕ) → budgetOf n words c l ≡ 0
+  pub current : (P : ℕ → ℕ → Bool) → Current R n k P old words 0 active at end count
 
 pub record SpanAsks (p : Problem) (marks : List ℕ) (count : ℕ) (words : List ℕ) (layers : Layers) : Type 0 where
   pub ready : Ready p marks
   pub room : Room (length marks) words
   pub ordered : Ordered (length marks) words count
   pub inStep : LabelsInStep (rulesFor p marks) (labelsOf (length marks) words)
-  pub past : Past (length marks) words layers
+  pub past : Past (length marks) words (layers .steps) (layers .trail)
 
 -- before the first call of `load_layer`
 abbrev pub noLayers : Layers
-noLayers = record { registers = 0; steps = 0; trail = record { room = 0; start = 0; count = 0; low = 1; stamp = 1 } }
+noLayers =
+    record { registers = 0; steps = 0; width = 1; from = 0; most = 0; trail = record { room = 0; start = 0; count = 0; low = 1; stamp = 1 } }
 
--- the table of this span and these steps can be had back
-abbrev pub heldBy : Layers → ℕ → ℕ → Bool
-heldBy layers registers steps = eqb (layers .registers) registers && (leb (layers .trail .low) steps && leb steps (layers .steps))
+-- the rows next to this cell are right in the layer of s steps
+abbrev pub nearBy : Layers → ℕ → ℕ → Bool
+nearBy layers s cell = inCone (apartBy (layers .width) (layers .from)) (layers .most) s cell
+
+-- the table of this span and these steps can be had back, next to this cell
+abbrev pub heldBy : Layers → ℕ → ℕ → ℕ → Bool
+heldBy layers cell registers steps =
+    eqb (layers .registers) registers && (leb (layers .trail .low) steps && (leb steps (layers .steps) && nearBy layers steps cell))
 
 -- What holds of the words and of `layers` from one call of `load_layer` to the next: the search's labels stand in their order, and each layer that can be had back is the span's.
 pub record Held (R : Rules) (n count : ℕ) (words : List ℕ) (layers : Layers) : Type 0 where
   pub ordered : Ordered n words count
-  pub past : Past n words layers
-  pub means : (s : ℕ) → layers .trail .low ≤ s → s ≤ layers .steps → Represents (past .Z s) (Reaches R (labelsOf n words) (layers .registers) s)
+  pub wide : 0 < layers .width
+  pub past : Past n words (layers .steps) (layers .trail)
+  pub means : (s cell : ℕ) → layers .trail .low ≤ s → s ≤ layers .steps → T (nearBy layers s cell) → (c : ℕ) → T (R .linked cell c) → RepresentsRow (past .Z s) (Reaches R (labelsOf n words) (layers .registers) s) c
 
 pub record LoadAsks (p : Problem) (marks : List ℕ) (count : ℕ) (words : List ℕ) (layers : Layers) : Type 0 where
   pub ready : Ready p marks
   pub room : Room (length marks) words
   pub held : Held (rulesFor p marks) (length marks) count words layers
   pub inStep : LabelsInStep (rulesFor p marks) (labelsOf (length marks) words)
-
--- After `run_span`: the table is the span's; the labels and the words past the scratch stay.
-pub record SpanRun (R : Rules) (n count registers steps : ℕ) (old new : List ℕ) (layers : Layers) : Type 0 where
-  pub same : length new ≡ length old
-  pub table : Represents (budgetOf n new) (Reaches R (labelsOf n new) registers steps)
-  pub labels : Kept (n * 128) (n * 132) old new
-  pub rest : KeptFrom (n * 256) old new
-  pub held : Held R n count new layers
 
 -- After `load_layer`: the rows of the cells that a wire joins to `cell` are those of the span's table.
 pub record Loaded (R : Rules) (n count cell registers steps : ℕ) (old new : List ℕ) (layers : Layers) : Type 0 where

@@ -1,8 +1,11 @@
 // The layers of a span, had back from the trail or made again.
+ghost use Prim.Native.Nat.{_<_};
 ghost use mathlib.Core.Path.{_≡_};
 ghost use lib.ListN.{length};
 ghost use Rattle.table.specs.Problem.{rulesFor};
-ghost use Rattle.reach.specs.Reach.{noLayers, heldBy, LoadAsks, SpanRun, Loaded};
+ghost use Rattle.reach.specs.Reach.{noLayers, heldBy, LoadAsks, Loaded};
+use crate::cone::drop_outside;
+use crate::cone::in_cone;
 use crate::span::next_steps;
 use crate::span::start_span;
 use labels::arrive;
@@ -14,9 +17,13 @@ use trail::rewind;
 use trail::stamped;
 
 // What one call of `load_layer` leaves for the next, beside the words: the table is that of `steps` steps in the span with these registers to go.
+// The span was run at the cell `from`, of a plan of this width, with `most` steps: its layers are right in that cone.
 pub struct Layers {
     pub registers: u16,
     pub steps: u32,
+    pub width: usize,
+    pub from: usize,
+    pub most: u32,
     pub trail: Trail,
 }
 
@@ -27,6 +34,9 @@ pub fn no_layers() -> Layers
     Layers {
         registers: 0,
         steps: 0,
+        width: 1,
+        from: 0,
+        most: 0,
         trail: Trail {
             room: 0,
             start: 0,
@@ -37,32 +47,37 @@ pub fn no_layers() -> Layers
     }
 }
 
-// The table can be had back from the trail.
-fn held_by(layers: Layers, registers: u16, steps: u32) -> bool
-    ensures { λ r. ⌜ r ≡ heldBy layers registers steps ⌝ }
+// The rows next to the cell can be had back from the trail.
+fn held_by(layers: Layers, cell: usize, registers: u16, steps: u32) -> bool
+    requires { ⌜ 0 < layers .width ⌝ }
+    ensures { λ r. ⌜ r ≡ heldBy layers cell registers steps ⌝ }
 {
     let trail = layers.trail;
     if layers.registers == registers {
         if trail.low <= steps {
-            return steps <= layers.steps;
+            if steps <= layers.steps {
+                let most = layers.most as usize;
+                return in_cone(layers.width, layers.from, most, steps as usize, cell);
+            }
         }
     }
     false
 }
 
-// The layers of the span, from no steps on.
+// The layers of the span, from no steps on, in the cone of the cell.
 // With no active cell a layer changes nothing, so u goes on to the next label.
 fn run_span(
     plan: &[u8],
     scratch: &mut [u16],
     p: Problem,
     count: usize,
+    cell: usize,
     registers: u16,
     steps: u32,
     layers: Layers,
 ) -> Layers
     requires { ⌜ LoadAsks p (now plan) count (now scratch) layers ⌝ }
-    ensures { λ r. ⌜ SpanRun (rulesFor p (now (plan .entry))) (length (now (plan .entry))) count registers steps (now (scratch .entry)) (now (scratch .exit)) r ⌝ }
+    ensures { λ r. ⌜ Loaded (rulesFor p (now (plan .entry))) (length (now (plan .entry))) count cell registers steps (now (scratch .entry)) (now (scratch .exit)) r ⌝ }
 {
     let n = plan.len();
     let span = start_span(plan, scratch, p, count, registers, layers);
@@ -81,11 +96,14 @@ fn run_span(
         }
         let next = arrive(scratch, n, at, span.end, u, active);
         at = next.at;
-        active = next.active;
+        active = drop_outside(scratch, n, next.active, p, cell, steps, u);
     }
     Layers {
         registers: registers,
         steps: steps,
+        width: p.width,
+        from: cell,
+        most: steps,
         trail: trail,
     }
 }
@@ -104,13 +122,16 @@ pub fn load_layer(
     requires { ⌜ LoadAsks p (now plan) count (now scratch) layers ⌝ }
     ensures { λ r. ⌜ Loaded (rulesFor p (now (plan .entry))) (length (now (plan .entry))) count cell registers steps (now (scratch .entry)) (now (scratch .exit)) r ⌝ }
 {
-    if held_by(layers, registers, steps) {
+    if held_by(layers, cell, registers, steps) {
         let trail = rewind(scratch, plan.len(), layers.trail, steps);
         return Layers {
             registers: registers,
             steps: steps,
+            width: layers.width,
+            from: layers.from,
+            most: layers.most,
             trail: trail,
         };
     }
-    run_span(plan, scratch, p, count, registers, steps, layers)
+    run_span(plan, scratch, p, count, cell, registers, steps, layers)
 }

@@ -3,7 +3,7 @@ ghost use Prim.Native.Nat.{_*_, _≤_, _<_};
 ghost use lib.ListN.{length};
 ghost use Rattle.table.specs.Problem.{rulesFor};
 ghost use Rattle.labels.specs.Labels.{orderOf, Ordered};
-ghost use Rattle.reach.specs.Reach.{FirstWith, NextSteps, Past, TableCleared, Cleared, Current, SpanAsks};
+ghost use Rattle.reach.specs.Reach.{FirstWith, NextSteps, Past, TableCleared, Cleared, Started, SpanAsks};
 use crate::layers::Layers;
 use labels::arrive;
 use labels::plant;
@@ -45,7 +45,7 @@ pub fn next_steps(scratch: &[u16], n: usize, at: usize, end: usize, steps: u32) 
 
 // The table becomes 0: on the trail, if that goes back to layer 0.
 fn clear_table(scratch: &mut [u16], n: usize, layers: Layers)
-    requires { ⌜ Past n (now scratch) layers × ((n ≤ 1024) × (n * 256 ≤ length (now scratch))) ⌝ }
+    requires { ⌜ Past n (now scratch) (layers .steps) (layers .trail) × ((n ≤ 1024) × (n * 256 ≤ length (now scratch))) ⌝ }
     ensures { λ _. ⌜ TableCleared n (now (scratch .entry)) (now (scratch .exit)) ⌝ }
 {
     let trail = layers.trail;
@@ -58,7 +58,7 @@ fn clear_table(scratch: &mut [u16], n: usize, layers: Layers)
 
 // The table, the flags and the seed flags become 0.
 fn clear_span(scratch: &mut [u16], n: usize, layers: Layers)
-    requires { ⌜ Past n (now scratch) layers × ((n ≤ 1024) × (n * 256 ≤ length (now scratch))) ⌝ }
+    requires { ⌜ Past n (now scratch) (layers .steps) (layers .trail) × ((n ≤ 1024) × (n * 256 ≤ length (now scratch))) ⌝ }
     ensures { λ _. ⌜ Cleared n (now (scratch .entry)) (now (scratch .exit)) ⌝ }
 {
     clear_table(scratch, n, layers);
@@ -82,7 +82,7 @@ pub fn start_span(
     layers: Layers,
 ) -> Span
     requires { ⌜ SpanAsks p (now plan) count (now scratch) layers ⌝ }
-    ensures { λ r. ⌜ Current (rulesFor p (now (plan .entry))) (length (now (plan .entry))) registers (now (scratch .entry)) (now (scratch .exit)) 0 (r .active) (r .at) (r .end) count ⌝ }
+    ensures { λ r. ⌜ Started (rulesFor p (now (plan .entry))) (length (now (plan .entry))) registers (now (scratch .entry)) (now (scratch .exit)) (r .active) (r .at) (r .end) count ⌝ }
 {
     let n = plan.len();
     clear_span(scratch, n, layers);

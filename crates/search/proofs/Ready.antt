@@ -4,7 +4,7 @@ use mathlib.Core.Path.{_≡_, sym}
 use mathlib.Core.List.{List}
 use lib.ListN.{length}
 use Rattle.rules.specs.Rules.{rulesOf}
-use Rattle.plan.specs.Apart.{apart}
+use Rattle.plan.specs.Apart.{apartBy}
 use Rattle.budget.specs.Done.{Lawful}
 use Rattle.budget.specs.Cone.{Lipschitz}
 use Rattle.budget.proofs.Document01.{rules-lawful}
@@ -14,8 +14,8 @@ use Rattle.table.specs.Problem.{planFor, rulesFor, Ready}
 use Rattle.table.proofs.Spreads.{cells-are}
 
 -- rows and columns from any cell are a distance
-pub rules-apart : (p : Problem) (marks : List ℕ) (start : ℕ) → Lipschitz (rulesFor p marks) (apart (planFor p marks) start)
-unfolding rulesFor
+pub rules-apart : (p : Problem) (marks : List ℕ) (start : ℕ) → Lipschitz (rulesFor p marks) (apartBy (p .width) start)
+unfolding rulesFor planFor
 rules-apart p marks start = apart-lipschitz (planFor p marks) (p .elements) (p .source) (p .sink) start
 
 module _ (p : Problem) (marks : List ℕ) (ready : Ready p marks) where

@@ -3,12 +3,11 @@ use Prim.Native.Nat.{ℕ, _+_, _*_, _-_, _≤_, _<_}
 use mathlib.Core.Path.{_≡_, refl, ap, _∙_}
 use mathlib.Core.List.{List}
 use native.Mathlib.Omega.{arith}
-use borrow.Author.Needs.{needs}
-use lib.ListN.{length, getD}
+use lib.ListN.{length}
 use Rattle.budget.specs.Table.{Table}
 use Rattle.rows.specs.Words.{KeptFrom}
 use Rattle.trail.specs.declared.Trail.{Trail}
-use Rattle.trail.specs.Trail.{placeOf, stampOf, stampAt, Sound, History, Rewound}
+use Rattle.trail.specs.Trail.{stampOf, stampAt, Sound, History, Rewound}
 use Rattle.trail.proofs.Slots.{place-in}
 use Rattle.trail.proofs.History.{history-now}
 use Rattle.trail.proofs.rewind.Statement.{statement}

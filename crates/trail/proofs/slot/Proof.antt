@@ -1,5 +1,4 @@
 -- `trail::slot`: the two cases of `slotOf`.
-use mathlib.Core.Path.{_≡_}
 use borrow.Author.Needs.{needs}
 use borrow.Author.Tests.{lt-ltb, le-ltb}
 use Rattle.trail.specs.Trail.{slotOf}

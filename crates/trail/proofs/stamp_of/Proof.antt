@@ -1,5 +1,5 @@
 -- `trail::stamp_of`: each word is below 65536, so the two make a u32.
-use Prim.Native.Nat.{_+_, _*_, _<_}
+use Prim.Native.Nat.{_+_, _<_}
 use native.Mathlib.Omega.{arith}
 use lib.ListN.{getD}
 use borrow.Author.Needs.{needs}

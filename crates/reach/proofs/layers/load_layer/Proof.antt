@@ -3,12 +3,12 @@ use mathlib.Core.Path.{sym, _∙_}
 use borrow.Author.Needs.{needs}
 use Rattle.plan.proofs.Truth.{of-true}
 use Rattle.table.proofs.Spreads.{few-cells}
-use Rattle.reach.proofs.Trailing.{run-loaded, held-parts, back-loaded}
+use Rattle.reach.proofs.Trailing.{held-parts, back-loaded}
 use Rattle.reach.proofs.layers.load_layer.Statement.{statement}
 use Rattle.reach.proofs.layers.load_layer.Tie as tie
 
 held-by-requires : tie.Need-held-by-requires
-held-by-requires c κs = search needs
+held-by-requires c κs = c .before .before .pre .held .wide
 
 rewind-requires : tie.Need-rewind-requires
 rewind-requires c κs =
@@ -22,8 +22,8 @@ returns : tie.Need-returns
 returns c =
     let t = c .before .before .before .before in
     let s = t .before .before .before .before in
-    let held = held-parts (s .args .layers) (s .args .registers) (s .args .steps) (of-true _ (sym (t .before .held-by .ensures) ∙ t .if1 .taken)) in
-    back-loaded _ _ _ _ _ _ (s .pre .held) (held .1 .0) (held .1 .1) _ _ (c .before .before .rewind .ensures) _ _ (held .0)
+    let held = held-parts (s .args .layers) (s .args .cell) (s .args .registers) (s .args .steps) (of-true _ (sym (t .before .held-by .ensures) ∙ t .if1 .taken)) in
+    back-loaded _ _ _ _ _ _ (s .pre .held) (held .low) (held .high) _ _ (c .before .before .rewind .ensures) _ _ (held .span) (held .near)
 
 run-span-requires : tie.Need-run-span-requires
 run-span-requires c κs = c .before .before .before .before .before .pre
@@ -32,7 +32,7 @@ same-length-2 : tie.Need-same-length-2
 same-length-2 c = c .before .before .run-span .ensures .same
 
 returns-2 : tie.Need-returns-2
-returns-2 c = run-loaded (c .before .before .run-span .ensures) _
+returns-2 c = c .before .before .run-span .ensures
 
 pub load-layer-spec : {M : Type 1} → statement M
 load-layer-spec =

@@ -1,29 +1,44 @@
 -- `reach::layers::run_span`: the table is that of u steps, and the labels with at most u steps are seeds; a turn is a layer or a leap, and then the arrivals.
 -- The loop does not see the words at the entry: what it keeps, it keeps for whatever words the labels are from.
-use Prim.Native.Nat.{ℕ, _-_, _<_, _≤_}
+use Prim.Native.Nat.{ℕ, _+_, _-_, _<_, _≤_}
+use mathlib.Core.Bool.{Bool}
 use mathlib.Core.Logic.{⊎-elim}
 use mathlib.Core.List.{List}
 use native.Mathlib.Omega.{arith}
 use borrow.Author.Needs.{needs}
 use lib.ListN.{length}
 use Rattle.rules.specs.Rules.{Rules}
-use Rattle.table.specs.Problem.{rulesFor}
+use Rattle.plan.specs.Apart.{apartBy}
+use Rattle.budget.specs.Cone.{Shrinking, inCone}
+use Rattle.budget.proofs.Cone.{cone-shrinks}
+use Rattle.trail.specs.declared.Trail.{Trail}
+use Rattle.table.specs.declared.problem.Problem.{Problem}
+use Rattle.table.specs.Problem.{planFor, rulesFor}
 use Rattle.table.proofs.Spreads.{few-cells}
 use Rattle.table.proofs.Colours.{problem-colouring, coloured-apart}
 use Rattle.labels.proofs.Labels.{ordered-count}
-use Rattle.reach.specs.Reach.{Reaching, Current, Trailing}
-use Rattle.search.proofs.Ready.{ready-lawful, ready-cells}
-use Rattle.reach.proofs.Turns.{layer-turn, leap-forth, leap-turn, leap-tables, arrive-turn, cells-in}
-use Rattle.reach.proofs.Trailing.{no-budget, trail-start, trail-layer, trail-leap, trail-arrive, trail-sound, span-run}
+use Rattle.reach.specs.Reach.{Reaching, Started, Current, Trailing}
+use Rattle.search.proofs.Ready.{rules-apart, ready-lawful, ready-cells}
+use Rattle.reach.proofs.Turns.{layer-turn, leap-forth, leap-turn, leap-tables, arrive-turn, drop-turn, cells-in}
+use Rattle.reach.proofs.Trailing.{trail-start, trail-layer, trail-leap, trail-arrive, trail-drop, trail-sound, span-loaded}
 use Rattle.reach.proofs.layers.run_span.Statement.{statement}
 use Rattle.reach.proofs.layers.run_span.Tie as tie
 
+-- the rows that matter: those in the cone of the cell
+abbrev inside : Problem → ℕ → ℕ → ℕ → ℕ → Bool
+inside p cell steps = inCone (apartBy (p .width) cell) (steps + 1)
+
+-- what holds at u: the table and the trail
+abbrev Turning : Problem → List ℕ → ℕ → ℕ → ℕ → ℕ → List ℕ → List ℕ → ℕ → ℕ → ℕ → ℕ → Trail → Type 0
+Turning p marks count cell registers steps old words u active at end trail =
+    Current (rulesFor p marks) (length marks) registers (inside p cell steps) old words u active at end count × Trailing (rulesFor p marks) (length marks) registers (inside p cell steps) old words u trail
+
 abbrev Inv-loop : tie.InvT-loop
-Inv-loop plan scratch₀ p count registers steps n span u₀ at₀ active₀ trail₀ scratch u at active trail =
-    (u ≤ steps) × ((old : List ℕ) → Current (rulesFor p plan) (length plan) registers old scratch₀ 0 active₀ at₀ (span .end) count → Current (rulesFor p plan) (length plan) registers old scratch u active at (span .end) count × Trailing (rulesFor p plan) (length plan) registers old scratch u trail)
+Inv-loop plan scratch₀ p count cell registers steps n span u₀ at₀ active₀ trail₀ scratch u at active trail =
+    (u ≤ steps) × ((old : List ℕ) → Started (rulesFor p plan) (length plan) registers old scratch₀ active₀ at₀ (span .end) count → Turning p plan count cell registers steps old scratch u active at (span .end) trail)
 
 abbrev μ-loop : tie.MeasureT-loop
-μ-loop plan scratch₀ p count registers steps n span u₀ at₀ active₀ trail₀ scratch u at active trail = steps - u
+μ-loop plan scratch₀ p count cell registers steps n span u₀ at₀ active₀ trail₀ scratch u at active trail = steps - u
 
 -- the entry, the problem's rules and cells, and the end of the span's labels
 
@@ -36,11 +51,17 @@ R a = rulesFor (start a .args .p) (start a .args .plan .now)
 abbrev cells : tie.At-loop Inv-loop μ-loop → ℕ
 cells a = length (start a .args .plan .now)
 
+abbrev cone : tie.At-loop Inv-loop μ-loop → ℕ → ℕ → Bool
+cone a = inside (start a .args .p) (start a .args .cell) (start a .args .steps)
+
+narrows : (a : tie.At-loop Inv-loop μ-loop) → Shrinking (R a) (cone a)
+narrows a = cone-shrinks (R a) _ _ (rules-apart (start a .args .p) (start a .args .plan .now) (start a .args .cell))
+
 abbrev end : tie.At-loop Inv-loop μ-loop → ℕ
 end a = a .before .before .before .before .start-span .result .end
 
 -- at the loop's head
-head : (a : tie.At-loop Inv-loop μ-loop) → Current (R a) (cells a) (start a .args .registers) (start a .args .scratch .now) (a .loop .scratch) (a .loop .u) (a .loop .active) (a .loop .at) (end a) (start a .args .count) × Trailing (R a) (cells a) (start a .args .registers) (start a .args .scratch .now) (a .loop .scratch) (a .loop .u) (a .loop .trail)
+head : (a : tie.At-loop Inv-loop μ-loop) → let s = start a .args in Turning (s .p) (s .plan .now) (s .count) (s .cell) (s .registers) (s .steps) (s .scratch .now) (a .loop .scratch) (a .loop .u) (a .loop .active) (a .loop .at) (end a) (a .loop .trail)
 head a = a .loop .inv .1 (start a .args .scratch .now) (a .before .before .before .before .start-span .ensures)
 
 -- u has grown
@@ -48,12 +69,12 @@ forth : (j : tie.Joined1 Inv-loop μ-loop) → (j .before .before .loop .u < j .
 forth j =
     let a = j .before .before in
     ⊎-elim
-    (λ w. omega (arith, w .4, w .2 .ensures .within, leap-forth (R a) _ _ _ _ _ _ _ _ _ (head a .0) (ready-lawful _ _ (start a .pre .ready)) (ready-cells _ _ (start a .pre .ready)) (w .0 .taken) (start a .args .steps) _ (omega (arith, j .before .loop-test .taken)) (w .2 .ensures)))
+    (λ w. omega (arith, w .4, w .2 .ensures .within, leap-forth (R a) _ _ _ _ _ _ _ _ _ _ (head a .0) (ready-lawful _ _ (start a .pre .ready)) (ready-cells _ _ (start a .pre .ready)) (narrows a) (w .0 .taken) (start a .args .steps) _ (omega (arith, j .before .loop-test .taken)) (w .2 .ensures)))
     (λ w. omega (arith, w .8))
     (j .if1 .came)
 
 -- before the arrivals
-middle : (j : tie.Joined1 Inv-loop μ-loop) (old : List ℕ) → let a = j .before .before in Current (R a) (cells a) (start a .args .registers) old (a .loop .scratch) (a .loop .u) (a .loop .active) (a .loop .at) (end a) (start a .args .count) × Trailing (R a) (cells a) (start a .args .registers) old (a .loop .scratch) (a .loop .u) (a .loop .trail) → Reaching (R a) (cells a) (start a .args .registers) old (j .if1 .scratch) (j .if1 .u) (j .if1 .active) (a .loop .at) (end a) (start a .args .count) × Trailing (R a) (cells a) (start a .args .registers) old (j .if1 .scratch) (j .if1 .u) (j .if1 .trail)
+middle : (j : tie.Joined1 Inv-loop μ-loop) (old : List ℕ) → let a = j .before .before in let s = start a .args in Turning (s .p) (s .plan .now) (s .count) (s .cell) (s .registers) (s .steps) old (a .loop .scratch) (a .loop .u) (a .loop .active) (a .loop .at) (end a) (a .loop .trail) → Reaching (R a) (cells a) (s .registers) (cone a) old (j .if1 .scratch) (j .if1 .u) (j .if1 .active) (a .loop .at) (end a) (s .count) × Trailing (R a) (cells a) (s .registers) (cone a) old (j .if1 .scratch) (j .if1 .u) (j .if1 .trail)
 middle j old g =
     let a = j .before .before in
     let law = ready-lawful _ _ (start a .pre .ready) in
@@ -62,14 +83,14 @@ middle j old g =
     (λ w.
     let before : a .loop .u < start a .args .steps = omega (arith, j .before .loop-test .taken) in
     rw (w .3, w .4, w .5, w .6) (
-      leap-turn (R a) _ _ _ _ _ _ _ _ _ (g .0) law size (w .0 .taken) (start a .args .steps) _ before (w .2 .ensures),
-      trail-leap (R a) _ _ _ _ _ _ (g .1) _ (omega (arith, leap-forth (R a) _ _ _ _ _ _ _ _ _ (g .0) law size (w .0 .taken) (start a .args .steps) _ before (w .2 .ensures)))
-          (leap-tables (R a) _ _ _ _ _ _ _ _ _ (g .0) law size (w .0 .taken) (start a .args .steps) _ before (w .2 .ensures)),
+      leap-turn (R a) _ _ _ _ _ _ _ _ _ _ (g .0) law size (narrows a) (w .0 .taken) (start a .args .steps) _ before (w .2 .ensures),
+      trail-leap (R a) _ _ _ _ _ _ _ (g .1) _ (omega (arith, leap-forth (R a) _ _ _ _ _ _ _ _ _ _ (g .0) law size (narrows a) (w .0 .taken) (start a .args .steps) _ before (w .2 .ensures)))
+          (leap-tables (R a) _ _ _ _ _ _ _ _ _ _ (g .0) law size (narrows a) (w .0 .taken) (start a .args .steps) _ before (w .2 .ensures)),
     ))
     (λ w.
     let made = rw (w .2 .ensures) at (w .3 .ensures) in
-    let f = layer-turn (R a) _ _ _ _ _ _ _ _ _ (g .0) law size _ _ _ made in
-    rw (w .7, w .8, w .9, w .10) (f, trail-layer (R a) _ _ _ _ _ _ (g .1) _ _ made (f .table)))
+    let f = layer-turn (R a) _ _ _ _ _ _ _ _ _ _ (g .0) law size (narrows a) _ _ _ made in
+    rw (w .7, w .8, w .9, w .10) (f, trail-layer (R a) _ _ _ _ _ _ _ (g .1) _ _ made (f .table)))
     (j .if1 .came)
 
 start-span-requires : tie.Need-start-span-requires Inv-loop μ-loop
@@ -83,13 +104,13 @@ new-trail-requires c κs =
     (omega (arith, s .pre .ready .source), few-cells _ _ (s .pre .ready))
 
 loop-holds : tie.Need-loop-holds Inv-loop μ-loop
-loop-holds c = (omega arith, λ old f. (f, trail-start _ _ _ _ _ _ (c .new-trail .ensures) (no-budget (f .reaching .table))))
+loop-holds c = (omega arith, λ old f. (f .current _, trail-start _ _ _ _ _ _ _ (c .new-trail .ensures) (f .empty)))
 
 next-steps-requires : tie.Need-next-steps-requires Inv-loop μ-loop
 next-steps-requires c κs =
     let a = c .before .before .before in
     let f = head a .0 .reaching in (
-      λ h. cells-in (R a) _ _ _ _ _ _ _ _ _ f (a .loop .at) h,
+      λ h. cells-in (R a) _ _ _ _ _ _ _ _ _ _ f (a .loop .at) h,
       (
         omega (arith, f .endCount, ordered-count (f .ordered)),
         (few-cells _ _ (start a .pre .ready), omega (arith, f .same, start a .pre .room)),
@@ -106,7 +127,7 @@ next-layer-requires : tie.Need-next-layer-requires Inv-loop μ-loop
 next-layer-requires c κs =
     let a = c .before .before .before .before in
     let f = head a .0 .reaching in
-    (start a .pre .ready, (omega (arith, f .same, start a .pre .room), (f .list .listed, (rw (c .stamped .ensures) (trail-sound (R a) _ _ _ _ _ _ (head a .1)), coloured-apart (problem-colouring (start a .args .p) (start a .args .plan .now)) (f .coloured)))))
+    (start a .pre .ready, (omega (arith, f .same, start a .pre .room), (f .list .listed, (rw (c .stamped .ensures) (trail-sound (R a) _ _ _ _ _ _ _ (head a .1)), coloured-apart (problem-colouring (start a .args .p) (start a .args .plan .now)) (f .coloured)))))
 
 add-u : tie.Need-add-u Inv-loop μ-loop
 add-u c =
@@ -123,32 +144,60 @@ arrive-requires c κs =
         (
           omega (arith, f .endCount, ordered-count (f .ordered)),
           (
-            λ i h. cells-in (R a) _ _ _ _ _ _ _ _ _ f i h,
+            λ i h. cells-in (R a) _ _ _ _ _ _ _ _ _ _ f i h,
             (few-cells _ _ (start a .pre .ready), omega (arith, f .same, start a .pre .room)),
           ),
         ),
       ),
     )
 
+-- after them
+later : (b : tie.After-arrive Inv-loop μ-loop) (old : List ℕ) → let a = b .before .before .before .before in let s = start a .args in Turning (s .p) (s .plan .now) (s .count) (s .cell) (s .registers) (s .steps) old (a .loop .scratch) (a .loop .u) (a .loop .active) (a .loop .at) (end a) (a .loop .trail) → Turning (s .p) (s .plan .now) (s .count) (s .cell) (s .registers) (s .steps) old (b .arrive .last .0) (b .before .before .if1 .u) (b .arrive .result .active) (b .arrive .result .at) (end a) (b .before .before .if1 .trail)
+later b old g =
+    let a = b .before .before .before .before in
+    let m = middle (b .before .before) old g in
+    (arrive-turn (R a) _ _ _ _ _ _ _ _ _ _ (m .0) _ _ _ (b .arrive .ensures), trail-arrive (R a) _ _ _ _ _ _ _ (m .1) _ (b .arrive .ensures))
+
+drop-outside-requires : tie.Need-drop-outside-requires Inv-loop μ-loop
+unfolding planFor
+drop-outside-requires c κs =
+    let b = c .before .before .before in
+    let a = b .before .before .before .before in
+    let ready = start a .pre .ready in
+    let f = later b (start a .args .scratch .now) (head a) .0 .reaching in
+    record {
+      listed = f .list .listed;
+      wide = ready .sized .wide;
+      narrow = ready .sized .narrow;
+      low = ready .sized .low;
+      few = few-cells _ _ ready;
+      room = omega (arith, f .same, start a .pre .room);
+    }
+
 loop-less : tie.Need-loop-less Inv-loop μ-loop
-loop-less c = omega (arith, forth (c .before .before .before .before))
+loop-less c = omega (arith, forth (c .before .before .before .before .before .before .before .before))
 
 loop-again : tie.Need-loop-again Inv-loop μ-loop
 loop-again c =
-    let j = c .before .before .before .before in
+    let b = c .before .before .before .before .before .before in
+    let j = b .before .before in
     let a = j .before .before in
-    let arrived = c .before .before .arrive .ensures in (
+    let dropped = c .before .before .drop-outside .ensures in (
       omega (arith, forth j),
       λ old f.
-          let m = middle j old (a .loop .inv .1 old f) in
-          (arrive-turn (R a) _ _ _ _ _ _ _ _ _ (m .0) _ _ _ arrived, trail-arrive (R a) _ _ _ _ _ _ (m .1) _ arrived),
+          let m = later b old (a .loop .inv .1 old f) in
+          (drop-turn (R a) _ _ _ _ _ _ _ _ _ _ (m .0) _ _ dropped, trail-drop (R a) _ _ _ _ _ _ _ (m .1) _ dropped),
     )
 
 same-length : tie.Need-same-length Inv-loop μ-loop
 same-length c = head (c .before) .0 .reaching .same
 
 returns : tie.Need-returns Inv-loop μ-loop
-returns c = span-run (R (c .before)) _ _ _ _ _ _ _ _ _ _ _ (head (c .before) .0) (head (c .before) .1) (omega arith)
+unfolding planFor
+returns c =
+    let a = c .before in
+    let s = start a in
+    span-loaded (R a) _ _ _ _ (s .args .p .width) (s .args .cell) (s .pre .ready .sized .wide) (rules-apart (s .args .p) (s .args .plan .now) (s .args .cell)) _ _ _ _ _ _ _ (head a .0) (head a .1) (omega arith)
 
 pub run-span-spec : {M : Type 1} → statement M
 run-span-spec =
@@ -165,6 +214,7 @@ run-span-spec =
     next-layer-requires
     add-u
     arrive-requires
+    drop-outside-requires
     loop-less
     loop-again
     same-length

@@ -34,7 +34,7 @@ returns c =
     let back = c .before .before .rewind .ensures in
     record {
       same = back .same;
-      rows = back-empty _ _ _ (s .pre .0) (t .if1 .taken) _ _ back;
+      rows = back-empty _ _ (s .args .layers) (s .pre .0) (t .if1 .taken) _ _ back;
       rest = back .kept;
     }
 

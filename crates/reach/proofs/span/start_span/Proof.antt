@@ -6,8 +6,7 @@ use Rattle.rules.specs.Rules.{rulesOf}
 use Rattle.table.specs.Problem.{rulesFor}
 use Rattle.table.proofs.Spreads.{few-cells}
 use Rattle.labels.proofs.Labels.{ordered-count, ordered-kept}
-use Rattle.reach.proofs.Turns.{arrive-turn}
-use Rattle.reach.proofs.Start.{start-list, source-start, from-end, labels-start}
+use Rattle.reach.proofs.Start.{listed, source-start, from-end, labels-started}
 use Rattle.reach.proofs.span.start_span.Statement.{statement}
 use Rattle.reach.proofs.span.start_span.Tie as tie
 
@@ -21,7 +20,7 @@ unfolding rulesFor rulesOf
 plant-requires c κs =
     let s = c .before .before .before .before .before .before .before .before in
     let z = c .before .before .before .before .clear-span .ensures in
-    (start-list (rulesFor (s .args .p) (s .args .plan .now)) _ _ _ z .listed, (s .pre .ready .source, (few-cells _ _ (s .pre .ready), omega (arith, s .pre .room, z .same))))
+    (listed (rulesFor (s .args .p) (s .args .plan .now)) _ _ _ z, (s .pre .ready .source, (few-cells _ _ (s .pre .ready), omega (arith, s .pre .room, z .same))))
 
 same-length : tie.Need-same-length
 same-length c = search needs
@@ -55,7 +54,7 @@ arrive-requires c κs =
     let o = ordered-kept (s .pre .ordered) (c .before .before .before .before .before .before .before .before .clear-span .last .0) (λ i lo hi. z .kept i (omega arith) (omega arith)) in
     let f = c .before .before .before .first-with .ensures in
     let g = c .before .first-with2 .ensures in (
-      start-list (rulesFor (s .args .p) (s .args .plan .now)) _ _ _ z .listed,
+      listed (rulesFor (s .args .p) (s .args .plan .now)) _ _ _ z,
       (
         from-end (rulesFor (s .args .p) (s .args .plan .now)) _ _ _ z _ _ (omega (arith, c .before .before .before .before .before .if1 .left)) (s .pre .ordered) (s .pre .inStep) _ _ f g,
         (
@@ -73,8 +72,7 @@ returns-2 c =
     let s = c .before .before .before .before .before .before .before .before .before .before .before .before .before .before .before in
     let z = c .before .before .before .before .before .before .before .before .before .before .before .clear-span .ensures in
     let R = rulesFor (s .args .p) (s .args .plan .now) in
-    arrive-turn R _ _ _ _ _ _ _ _ _
-    (labels-start R _ _ _ z _ _ (omega (arith, c .before .before .before .before .before .before .before .before .if1 .left)) (s .pre .ordered) (s .pre .inStep) _ _ (c .before .before .before .before .before .before .first-with .ensures) (c .before .before .before .before .first-with2 .ensures)) _ _ _ (c .before .before .arrive .ensures)
+    labels-started R _ _ _ z _ _ (omega (arith, c .before .before .before .before .before .before .before .before .if1 .left)) (s .pre .ordered) (s .pre .inStep) _ _ (c .before .before .before .before .before .before .first-with .ensures) (c .before .before .before .before .first-with2 .ensures) _ _ _ (c .before .before .arrive .ensures)
 
 pub start-span-spec : {M : Type 1} → statement M
 start-span-spec =

@@ -12,7 +12,7 @@ use Rattle.table.proofs.pushes.spread.Tie as tie
 fill-arrival-requires : tie.Need-fill-arrival-requires
 fill-arrival-requires c κs =
     let s = c .before .before .before in
-    record { ready = s .pre .ready; costed = s .pre .costed; inside = s .pre .cellIn; room = s .pre .room }
+    record { ready = s .pre .ready; costed = s .pre .costed; inside = omega (arith, s .pre .cellIn); room = s .pre .room }
 
 neighbours-of-requires : tie.Need-neighbours-of-requires
 unfolding planFor
