@@ -31,6 +31,7 @@ use Rattle.labels.specs.Labels.{knownOf, registersOf, stepsOf, labelsOf, orderO
 use Rattle.labels.specs.Additions.{LabelsAdded}
 use Rattle.labels.proofs.Labels.{known-below, known-kept, label-kept, labelled-kept, ordered-kept, ordered-none, word-unknown, unknown-not}
 use Rattle.search.specs.Front.{total, Waiting, Front}
+use Rattle.search.specs.Search.{Blank}
 use Rattle.search.proofs.Total.{total-kept}
 use Rattle.search.proofs.Arrivals.{active-kept, active-planted, active-arrived, cleared-table, cleared-active}
 use Rattle.search.proofs.Fronts.{order-same, order-registers, order-steps, waiting-ascend, front-next, front-grows}
@@ -262,18 +263,18 @@ module _ (R : Rules) (n : ℕ) (inPlan : R .source < n) (words : List ℕ) (k s 
           omega (arith, label-kept n words new (λ i lo hi. low i (omega arith)) c (known-below n words c t) .steps, w .labelsLow c t, total-kept n words new (λ i lo hi. low i (omega arith)))
 
 -- words of zeros, with the source as the only seed
-module _ (R : Rules) (n : ℕ) (inPlan : R .source < n) (words : List ℕ) (zeros : (i : ℕ) → i < n * 136 → getD words i 0 ≡ 0) where
+module _ (R : Rules) (n : ℕ) (inPlan : R .source < n) (words : List ℕ) (blank : Blank n words) where
   pub start-active : Active R n words 0
-  start-active = cleared-active R n words (λ i h. zeros i (omega arith)) (λ i lo hi. zeros i hi)
+  start-active = cleared-active R n words (λ i h. blank .table i (omega arith)) (λ i lo hi. blank .labels i (omega arith) (omega arith))
 
   pub start-front : (new : List ℕ) (active : ℕ) → Planted n (R .source) words new active → Front R n new 0 0 active 0 0 0
   start-front new active p =
       record {
         waiting =
             record {
-              searching = search-start R (budgetOf n new) (labelsOf n new) (λ c l. budget-kept n words new (λ i lo hi. p .low i (omega arith)) c l ∙ cleared-table n words (λ i h. zeros i (omega arith)) c l) (λ c t. unknown c t);
+              searching = search-start R (budgetOf n new) (labelsOf n new) (λ c l. budget-kept n words new (λ i lo hi. p .low i (omega arith)) c l ∙ cleared-table n words (λ i h. blank .table i (omega arith)) c l) (λ c t. unknown c t);
               list = active-planted R n words new (R .source) 0 active start-active p;
-              ordered = ordered-none n new (λ c h. p .low (n * 128 + c) (omega arith) ∙ zeros (n * 128 + c) (omega arith));
+              ordered = ordered-none n new (λ c h. p .low (n * 128 + c) (omega arith) ∙ blank .labels (n * 128 + c) (omega arith) (omega arith));
               sourceIn = inPlan;
               sourceSeed = word-seed n new (R .source) (p .nowSeed);
               orderSeed = λ i h. absurd (omega arith);
@@ -294,8 +295,8 @@ module _ (R : Rules) (n : ℕ) (inPlan : R .source < n) (words : List ℕ) (zero
     where
       unknown : (c : ℕ) → T (knownOf n new c) → ⊥
       unknown c t =
-          unknown-not (word-unknown n new c (p .low (n * 128 + c) (omega (arith, known-below n new c t)) ∙ zeros (n * 128 + c) (omega (arith, known-below n new c t)))) t
+          unknown-not (word-unknown n new c (p .low (n * 128 + c) (omega (arith, known-below n new c t)) ∙ blank .labels (n * 128 + c) (omega arith) (omega (arith, known-below n new c t)))) t
 
       seeds : (c : ℕ) → c < n → T (seedOf n new c) → (c ≡ R .source) ⊎ (c ≡ R .source → ⊥) → (c ≡ R .source) ⊎ Place n new (n * 131) 0 c
       seeds c h t (inl e) = inl e
-      seeds c h t (inr e) = absurd (omega (arith, seed-word n new c t, p .otherSeeds c h e, zeros (n * 135 + c) (omega arith)))
+      seeds c h t (inr e) = absurd (omega (arith, seed-word n new c t, p .otherSeeds c h e, blank .labels (n * 135 + c) (omega arith) (omega arith)))

@@ -1,5 +1,5 @@
 -- What the search leaves: the least registers and steps from the sink, with the labels; or that there is no route.
-use Prim.Native.Nat.{ℕ, _*_, _<_}
+use Prim.Native.Nat.{ℕ, _*_, _≤_, _<_}
 use mathlib.Core.Path.{_≡_}
 use mathlib.Core.List.{List}
 use lib.ListN.{length, getD}
@@ -9,9 +9,10 @@ use Rattle.rows.specs.Words.{KeptFrom}
 use Rattle.search.specs.Turn.{Reaching}
 use Rattle.search.specs.declared.waves.Reached.{Reached}
 
--- the words that the search uses are zero
-abbrev pub Blank : ℕ → List ℕ → Type 0
-Blank n words = (i : ℕ) → i < n * 136 → getD words i 0 ≡ 0
+-- the table is zero, and so are the labels, lists and flags
+pub record Blank (n : ℕ) (words : List ℕ) : Type 0 where
+  pub table : (i : ℕ) → i < n * 64 → getD words i 0 ≡ 0
+  pub labels : (i : ℕ) → n * 128 ≤ i → i < n * 136 → getD words i 0 ≡ 0
 
 pub data SearchDone (R : Rules) (n : ℕ) (new : List ℕ) : Reached → Type 0 where
   sink : (k s count : ℕ) → Reaching R n new k s count → SearchDone R n new (Reached.Sink k s count)

@@ -17,7 +17,7 @@ pub enum Reached {
     Nothing,
 }
 
-// The words that it uses start as zeros.
+// The table, the labels, the lists and the flags start as zeros.
 pub fn search(plan: &[u8], scratch: &mut [u16], p: Problem, costs: &[u16; COSTS]) -> Reached
     requires { ⌜ Ready p (now plan) × (Room (length (now plan)) (now scratch) × (Blank (length (now plan)) (now scratch) × CostsOf (p .elements) (now costs))) ⌝ }
     ensures { λ r. ⌜ SearchEffect (rulesFor p (now (plan .entry))) (length (now (plan .entry))) (now (scratch .entry)) (now (scratch .exit)) r ⌝ }

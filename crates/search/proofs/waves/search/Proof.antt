@@ -27,7 +27,7 @@ abbrev μ-loop : tie.MeasureT-loop
 μ-loop plan scratch₀ p costs n active f₀ scratch f = 4294968321 - (total (length plan) scratch + f .at)
 
 plant-requires : tie.Need-plant-requires Inv-loop μ-loop
-plant-requires c κs = (listed-none _ _ _ (λ k h. c .before .before .before .pre .1 .1 .0 _ (omega arith)), (c .before .before .before .pre .0 .source, (few-cells _ _ (c .before .before .before .pre .0), omega (arith, c .before .before .before .pre .1 .0))))
+plant-requires c κs = (listed-none _ _ _ (λ k h. c .before .before .before .pre .1 .1 .0 .labels _ (omega arith) (omega arith)), (c .before .before .before .pre .0 .source, (few-cells _ _ (c .before .before .before .pre .0), omega (arith, c .before .before .before .pre .1 .0))))
 
 loop-holds : tie.Need-loop-holds Inv-loop μ-loop
 unfolding rulesFor rulesOf
