@@ -58,7 +58,8 @@ pub fn route_ready(
     ensures { λ r. ⌜ RouteDone p (now (plan .entry)) (now (scratch .entry)) (now (scratch .exit)) (now (visits .entry)) (now (visits .exit)) r ⌝ }
 {
     let n = plan.len();
-    clear(scratch, 0, n * 256);
+    clear(scratch, 0, n * 64);
+    clear(scratch, n * 128, n * 136);
     let reached = search(plan, scratch, p, costs);
     match reached {
         Reached::Sink(registers, steps, count) => {
