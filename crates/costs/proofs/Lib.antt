@@ -1,3 +1,2 @@
 pub mod Written
-pub mod Costed
-pub mod Own
+pub mod Put

@@ -1,23 +1,23 @@
 -- What a step or a gate costs at each load, within a load limit. Past it the cost is all that a 16-bit word can hold, which leaves nothing of any word.
-use Prim.Native.Nat.{ℕ, _+_, _<_}
+use Prim.Native.Nat.{ℕ, _+_, _*_, _<_}
 use mathlib.Core.Path.{_≡_}
 use mathlib.Core.Bool.{cond}
-use mathlib.Core.List.{List, []}
+use mathlib.Core.List.{List}
 use lib.Dec.{leb}
-use lib.ListN.{getD}
+use lib.ListN.{length, getD}
 use Rattle.timing.specs.declared.elements.Wire.{Wire}
 use Rattle.timing.specs.declared.elements.Driver.{Driver}
 use Rattle.timing.specs.declared.elements.Buffer.{Buffer}
 use Rattle.timing.specs.declared.elements.Elements.{Elements}
 use Rattle.timing.specs.Elements.{bufferOf}
 use Rattle.timing.specs.Formulas.{wireDelay, wireLoad, gateDelay, bufferDriver, registerDriver}
-use Rattle.costs.specs.declared.LimitCosts.{LimitCosts}
-use Rattle.costs.specs.declared.GateCosts.{GateCosts}
-use Rattle.costs.specs.declared.StepCosts.{StepCosts}
-use Rattle.costs.specs.declared.Costs.{Costs}
 
 abbrev pub rowWords : ℕ
 rowWords = 64
+
+-- ten rows
+abbrev pub costWords : ℕ
+costWords = 640
 
 -- no word is above it
 abbrev pub wordMost : ℕ
@@ -37,35 +37,49 @@ stepCost wire limit l = cond (leb (l + wireLoad wire) limit) (wireDelay wire l) 
 abbrev pub Row : (ℕ → ℕ) → List ℕ → Type 0
 Row cost row = (l : ℕ) → l < rowWords → getD row l 0 ≡ cost l
 
-pub record LimitCostsOf (most : ℕ) (c : LimitCosts) : Type 0 where
-  pub limit : c .limit ≡ most
-  pub row : Row (limitCost most) (c .row)
+-- and so does the row at `at`
+abbrev pub RowAt : (ℕ → ℕ) → ℕ → List ℕ → Type 0
+RowAt cost at rows = (l : ℕ) → l < rowWords → getD rows (at + l) 0 ≡ cost l
 
-pub record GateCostsOf (g : Driver) (most : ℕ) (c : GateCosts) : Type 0 where
-  pub driver : c .driver ≡ g
-  pub limit : c .limit ≡ most
-  pub row : Row (gateCost g most) (c .row)
-
-pub record StepCostsOf (w : Wire) (most : ℕ) (c : StepCosts) : Type 0 where
-  pub wire : c .wire ≡ w
-  pub limit : c .limit ≡ most
-  pub row : Row (stepCost w most) (c .row)
+-- `new` has the first n words of the row at `at`; the words before it are those of `old`
+pub record Put (at n : ℕ) (row old new : List ℕ) : Type 0 where
+  pub size : length new ≡ costWords
+  pub done : (l : ℕ) → l < n → getD new (at + l) 0 ≡ getD row l 0
+  pub low : (k : ℕ) → k < at → getD new k 0 ≡ getD old k 0
 
 unfoldable pub bufferAt : Elements → ℕ → Buffer
 bufferAt e i = getD (e .buffers) i (bufferOf 0 0 0)
 
--- stands past the end of a list
-abbrev pub noCosts : GateCosts
-noCosts = record { driver = record { resistance = record { 0 = 0 }; delay = 0 }; limit = 0; row = [] }
+-- where the rows start
+abbrev pub noneAt : ℕ
+noneAt = 0
 
--- of each listed buffer
-abbrev pub BufferCostsOf : Elements → List GateCosts → Type 0
-BufferCostsOf e items = (i : ℕ) → i < e .count → GateCostsOf (bufferDriver (bufferAt e i)) (e .limit .0) (getD items i noCosts)
+abbrev pub registerAt : ℕ
+registerAt = 64
 
--- of all elements
-pub record CostsOf (e : Elements) (c : Costs) : Type 0 where
-  pub none : LimitCostsOf (e .limit .0) (c .none)
-  pub horizontal : StepCostsOf (e .horizontal) (e .limit .0) (c .horizontal)
-  pub vertical : StepCostsOf (e .vertical) (e .limit .0) (c .vertical)
-  pub register : GateCostsOf (registerDriver (e .register)) (e .limit .0) (c .register)
-  pub buffers : BufferCostsOf e (c .buffers)
+abbrev pub horizontalAt : ℕ
+horizontalAt = 128
+
+abbrev pub verticalAt : ℕ
+verticalAt = 192
+
+abbrev pub buffersAt : ℕ → ℕ
+buffersAt i = 256 + i * 64
+
+-- the rows of the first n buffers
+abbrev pub BufferRows : Elements → ℕ → List ℕ → Type 0
+BufferRows e n rows = (i : ℕ) → i < n → RowAt (gateCost (bufferDriver (bufferAt e i)) (e .limit .0)) (buffersAt i) rows
+
+-- `new` has them too; the words before them are those of `old`
+pub record BuffersPut (e : Elements) (n : ℕ) (old new : List ℕ) : Type 0 where
+  pub size : length new ≡ costWords
+  pub done : BufferRows e n new
+  pub low : (k : ℕ) → k < buffersAt 0 → getD new k 0 ≡ getD old k 0
+
+-- the rows of all elements
+pub record CostsOf (e : Elements) (rows : List ℕ) : Type 0 where
+  pub none : RowAt (limitCost (e .limit .0)) noneAt rows
+  pub register : RowAt (gateCost (registerDriver (e .register)) (e .limit .0)) registerAt rows
+  pub horizontal : RowAt (stepCost (e .horizontal) (e .limit .0)) horizontalAt rows
+  pub vertical : RowAt (stepCost (e .vertical) (e .limit .0)) verticalAt rows
+  pub buffers : BufferRows e (e .count) rows

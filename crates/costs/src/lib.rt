@@ -1,7 +1,11 @@
 // What a step or a gate costs at each load, as a row of 64 words, one a load. Past the load limit it costs all that a word can hold.
+// The rows of all elements are one array, which is lent to the search.
+ghost use Prim.Native.Nat.{_+_, _≤_};
+ghost use mathlib.Core.Path.{_≡_};
+ghost use lib.ListN.{length};
 ghost use Rattle.timing.specs.Elements.{WireInRange, DriverInRange};
 ghost use Rattle.timing.specs.Valid.{Valid};
-ghost use Rattle.costs.specs.Costs.{LimitCostsOf, GateCostsOf, StepCostsOf, BufferCostsOf, CostsOf};
+ghost use Rattle.costs.specs.Costs.{rowWords, costWords, limitCost, gateCost, stepCost, Row, Put, BuffersPut, CostsOf};
 use timing::Driver;
 use timing::Elements;
 use timing::Load;
@@ -10,40 +14,26 @@ use timing::Wire;
 // Words of a row.
 pub const ROW: usize = 64;
 
+// Words of the ten rows.
+pub const COSTS: usize = 640;
+
+// Where the rows start: no gate, a register, a step of each wire, the listed buffers.
+pub const NONE: usize = 0;
+
+pub const REGISTER: usize = 64;
+
+pub const HORIZONTAL: usize = 128;
+
+pub const VERTICAL: usize = 192;
+
+pub const BUFFERS: usize = 256;
+
 // No word is above it.
 const ALL: u16 = 65535;
 
 // No gate: nothing within the limit.
-pub struct LimitCosts {
-    pub limit: usize,
-    pub row: [u16; ROW],
-}
-
-// A gate with this driver.
-pub struct GateCosts {
-    pub driver: Driver,
-    pub limit: usize,
-    pub row: [u16; ROW],
-}
-
-// One step of this wire; the limit is on the load after it.
-pub struct StepCosts {
-    pub wire: Wire,
-    pub limit: usize,
-    pub row: [u16; ROW],
-}
-
-// The costs of all elements; of the buffers, those that are listed.
-pub struct Costs {
-    pub none: LimitCosts,
-    pub horizontal: StepCosts,
-    pub vertical: StepCosts,
-    pub register: GateCosts,
-    pub buffers: [GateCosts; Elements::BUFFERS_MAX],
-}
-
-pub fn limit_costs(limit: usize) -> LimitCosts
-    ensures { λ r. ⌜ LimitCostsOf limit r ⌝ }
+fn limit_row(limit: usize) -> [u16; ROW]
+    ensures { λ r. ⌜ Row (limitCost limit) r ⌝ }
 {
     let mut row = [0u16; ROW];
     let mut l = 0;
@@ -51,15 +41,13 @@ pub fn limit_costs(limit: usize) -> LimitCosts
         row[l] = if l <= limit { 0 } else { ALL };
         l += 1;
     }
-    LimitCosts {
-        limit: limit,
-        row: row,
-    }
+    row
 }
 
-pub fn gate_costs(driver: Driver, limit: usize) -> GateCosts
+// A gate with this driver.
+fn gate_row(driver: Driver, limit: usize) -> [u16; ROW]
     requires { ⌜ DriverInRange driver ⌝ }
-    ensures { λ r. ⌜ GateCostsOf driver limit r ⌝ }
+    ensures { λ r. ⌜ Row (gateCost driver limit) r ⌝ }
 {
     let mut row = [0u16; ROW];
     let mut l = 0;
@@ -68,16 +56,13 @@ pub fn gate_costs(driver: Driver, limit: usize) -> GateCosts
         row[l] = if l <= limit { delay } else { ALL };
         l += 1;
     }
-    GateCosts {
-        driver: driver,
-        limit: limit,
-        row: row,
-    }
+    row
 }
 
-pub fn step_costs(wire: Wire, limit: usize) -> StepCosts
+// One step of this wire; the limit is on the load after it.
+fn step_row(wire: Wire, limit: usize) -> [u16; ROW]
     requires { ⌜ WireInRange wire ⌝ }
-    ensures { λ r. ⌜ StepCostsOf wire limit r ⌝ }
+    ensures { λ r. ⌜ Row (stepCost wire limit) r ⌝ }
 {
     let step = wire.load().0 as usize;
     let mut row = [0u16; ROW];
@@ -87,44 +72,51 @@ pub fn step_costs(wire: Wire, limit: usize) -> StepCosts
         row[l] = if l + step <= limit { delay } else { ALL };
         l += 1;
     }
-    StepCosts {
-        wire: wire,
-        limit: limit,
-        row: row,
-    }
+    row
 }
 
-// The costs of each listed buffer; `rest` stands past the count.
-fn buffer_costs(e: Elements, rest: GateCosts) -> [GateCosts; Elements::BUFFERS_MAX]
-    requires { ⌜ Valid e ⌝ }
-    ensures { λ r. ⌜ BufferCostsOf e r ⌝ }
+// The row is put at `at`; the words before it stay.
+fn put_row(rows: [u16; COSTS], at: usize, row: [u16; ROW]) -> [u16; COSTS]
+    requires { ⌜ (length rows ≡ costWords) × (at + rowWords ≤ costWords) ⌝ }
+    ensures { λ r. ⌜ Put at rowWords row rows r ⌝ }
+{
+    let mut all = rows;
+    let mut l = 0;
+    while l < ROW {
+        all[at + l] = row[l];
+        l += 1;
+    }
+    all
+}
+
+// The rows of the listed buffers.
+fn put_buffers(rows: [u16; COSTS], e: Elements) -> [u16; COSTS]
+    requires { ⌜ (length rows ≡ costWords) × Valid e ⌝ }
+    ensures { λ r. ⌜ BuffersPut e (e .count) rows r ⌝ }
 {
     let limit = e.limit.0 as usize;
     let count = e.count;
-    let mut items = [rest; Elements::BUFFERS_MAX];
+    let mut all = rows;
     let mut i = 0;
     while i < count {
         let buffer = e.buffers[i];
-        let costs = gate_costs(buffer.driver(), limit);
-        items[i] = costs;
+        let row = gate_row(buffer.driver(), limit);
+        let more = put_row(all, BUFFERS + i * ROW, row);
+        all = more;
         i += 1;
     }
-    items
+    all
 }
 
-pub fn costs_of(e: Elements) -> Costs
+// The rows of all elements.
+pub fn costs_of(e: Elements) -> [u16; COSTS]
     requires { ⌜ Valid e ⌝ }
     ensures { λ r. ⌜ CostsOf e r ⌝ }
 {
     let limit = e.limit.0 as usize;
-    let driver = e.register.driver();
-    let register = gate_costs(driver, limit);
-    let buffers = buffer_costs(e, register);
-    Costs {
-        none: limit_costs(limit),
-        horizontal: step_costs(e.horizontal, limit),
-        vertical: step_costs(e.vertical, limit),
-        register: register,
-        buffers: buffers,
-    }
+    let none = put_row([0u16; COSTS], NONE, limit_row(limit));
+    let register = put_row(none, REGISTER, gate_row(e.register.driver(), limit));
+    let horizontal = put_row(register, HORIZONTAL, step_row(e.horizontal, limit));
+    let vertical = put_row(horizontal, VERTICAL, step_row(e.vertical, limit));
+    put_buffers(vertical, e)
 }

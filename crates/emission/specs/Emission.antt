@@ -8,6 +8,7 @@ use Rattle.rules.specs.Legal.{Route}
 use Rattle.rules.specs.Ranking.{written, IsBest}
 use Rattle.budget.specs.Done.{Least, Labelled}
 use Rattle.budget.specs.Emission.{FirstEnding, visit}
+use Rattle.costs.specs.Costs.{CostsOf}
 use Rattle.rows.specs.Words.{Filled, KeptFrom}
 use Rattle.labels.specs.Labels.{labelsOf}
 use Rattle.choice.specs.declared.State.{State}
@@ -45,8 +46,9 @@ pub record Emitted (R : Rules) (n steps : ℕ) (words₀ words : List ℕ) (visi
   pub rest : KeptFrom (n * 256) words₀ words
 
 -- Before `emit`: the search has found these figures, and the visits have room.
-pub record EmitAsks (p : Problem) (marks : List ℕ) (count registers steps : ℕ) (words visits : List ℕ) : Type 0 where
+pub record EmitAsks (p : Problem) (marks costs : List ℕ) (count registers steps : ℕ) (words visits : List ℕ) : Type 0 where
   pub ready : Ready p marks
+  pub costed : CostsOf (p .elements) costs
   pub room : Room (length marks) words
   pub reaching : Reaching (rulesFor p marks) (length marks) words registers steps count
   pub fits : 2 * (steps + 1) ≤ length visits

@@ -7,6 +7,7 @@ ghost use Rattle.emission.specs.Emission.{Emitted, EmitAsks};
 use choice::Choice;
 use choice::State;
 use choice::choose;
+use costs::COSTS;
 use reach::load_layer;
 use reach::no_layers;
 use table::Problem;
@@ -25,12 +26,13 @@ pub fn emit(
     plan: &[u8],
     scratch: &mut [u16],
     p: Problem,
+    costs: &[u16; COSTS],
     count: usize,
     registers: u16,
     steps: u32,
     visits: &mut [u16],
 )
-    requires { ⌜ EmitAsks p (now plan) count registers steps (now scratch) (now visits) ⌝ }
+    requires { ⌜ EmitAsks p (now plan) (now costs) count registers steps (now scratch) (now visits) ⌝ }
     ensures { λ _. ⌜ Emitted (rulesFor p (now (plan .entry))) (length (now (plan .entry))) steps (now (scratch .entry)) (now (scratch .exit)) (now (visits .entry)) (now (visits .exit)) ⌝ }
 {
     let elements = p.elements;
@@ -53,6 +55,7 @@ pub fn emit(
             plan,
             scratch,
             p,
+            costs,
             count,
             at.cell,
             at.registers,

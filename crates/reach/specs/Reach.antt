@@ -13,7 +13,7 @@ use Rattle.budget.specs.Table.{Table, RepresentsRow}
 use Rattle.budget.specs.Cone.{RepresentsIn, inCone}
 use Rattle.budget.specs.Emission.{exactSeed, Reaches}
 use Rattle.budget.specs.Colours.{LabelsInStep}
-use Rattle.costs.specs.Costs.{rowWords}
+use Rattle.costs.specs.Costs.{rowWords, CostsOf}
 use Rattle.rows.specs.Words.{Kept, KeptFrom}
 use Rattle.trail.specs.declared.Trail.{Trail}
 use Rattle.trail.specs.Trail.{Sound, History}
@@ -128,8 +128,9 @@ pub record Held (R : Rules) (n count : ℕ) (words : List ℕ) (layers : Layers)
   pub past : Past n words (layers .steps) (layers .trail)
   pub means : (s cell : ℕ) → layers .trail .low ≤ s → s ≤ layers .steps → T (nearBy layers s cell) → (c : ℕ) → T (R .linked cell c) → RepresentsRow (past .Z s) (Reaches R (labelsOf n words) (layers .registers) s) c
 
-pub record LoadAsks (p : Problem) (marks : List ℕ) (count : ℕ) (words : List ℕ) (layers : Layers) : Type 0 where
+pub record LoadAsks (p : Problem) (marks costs : List ℕ) (count : ℕ) (words : List ℕ) (layers : Layers) : Type 0 where
   pub ready : Ready p marks
+  pub costed : CostsOf (p .elements) costs
   pub room : Room (length marks) words
   pub held : Held (rulesFor p marks) (length marks) count words layers
   pub inStep : LabelsInStep (rulesFor p marks) (labelsOf (length marks) words)

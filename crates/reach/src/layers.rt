@@ -8,6 +8,7 @@ use crate::cone::drop_outside;
 use crate::cone::in_cone;
 use crate::span::next_steps;
 use crate::span::start_span;
+use costs::COSTS;
 use labels::arrive;
 use table::Problem;
 use table::next_layer;
@@ -70,13 +71,14 @@ fn run_span(
     plan: &[u8],
     scratch: &mut [u16],
     p: Problem,
+    costs: &[u16; COSTS],
     count: usize,
     cell: usize,
     registers: u16,
     steps: u32,
     layers: Layers,
 ) -> Layers
-    requires { ⌜ LoadAsks p (now plan) count (now scratch) layers ⌝ }
+    requires { ⌜ LoadAsks p (now plan) (now costs) count (now scratch) layers ⌝ }
     ensures { λ r. ⌜ Loaded (rulesFor p (now (plan .entry))) (length (now (plan .entry))) count cell registers steps (now (scratch .entry)) (now (scratch .exit)) r ⌝ }
 {
     let n = plan.len();
@@ -89,7 +91,7 @@ fn run_span(
         if active == 0 {
             u = next_steps(scratch, n, at, span.end, steps);
         } else {
-            let grown = next_layer(plan, scratch, p, active, stamped(trail, u + 1));
+            let grown = next_layer(plan, scratch, p, costs, active, stamped(trail, u + 1));
             active = grown.count;
             trail = grown.trail;
             u += 1;
@@ -113,13 +115,14 @@ pub fn load_layer(
     plan: &[u8],
     scratch: &mut [u16],
     p: Problem,
+    costs: &[u16; COSTS],
     count: usize,
     cell: usize,
     registers: u16,
     steps: u32,
     layers: Layers,
 ) -> Layers
-    requires { ⌜ LoadAsks p (now plan) count (now scratch) layers ⌝ }
+    requires { ⌜ LoadAsks p (now plan) (now costs) count (now scratch) layers ⌝ }
     ensures { λ r. ⌜ Loaded (rulesFor p (now (plan .entry))) (length (now (plan .entry))) count cell registers steps (now (scratch .entry)) (now (scratch .exit)) r ⌝ }
 {
     if held_by(layers, cell, registers, steps) {
@@ -133,5 +136,15 @@ pub fn load_layer(
             trail: trail,
         };
     }
-    run_span(plan, scratch, p, count, cell, registers, steps, layers)
+    run_span(
+        plan,
+        scratch,
+        p,
+        costs,
+        count,
+        cell,
+        registers,
+        steps,
+        layers,
+    )
 }

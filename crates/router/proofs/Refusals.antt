@@ -19,8 +19,6 @@ use Rattle.answers.specs.declared.answer.Refusal.{Refusal}
 use Rattle.answers.proofs.GoodEnds.{ends-good}
 use Rattle.answers.proofs.FirstFault.{tables-valid}
 use Rattle.table.specs.declared.problem.Problem.{Problem}
-use Rattle.costs.specs.declared.Costs.{Costs}
-use Rattle.costs.specs.Costs.{CostsOf}
 use Rattle.table.specs.Problem.{planFor, rulesFor, Ready}
 use Rattle.table.proofs.Spreads.{cells-product}
 use Rattle.router.specs.Route.{Question, rulesAsked, cellsAsked, cellWords, passes, fails, afterPlan, afterTables, checks, answerAfter, answerOf, scratchAfter, scratchOf, visitsAfter, visitsOf}
@@ -71,33 +69,31 @@ module _ (q : Question) (scratch visits : List ℕ) where
         unfolding checks afterPlan afterTables
         passed h = rw (valid, afterPlan, clean, afterTables, apart, le-ltb (length scratch) (cellsAsked q * cellWords) h)
 
-        module _ (costs : Costs) (costed : CostsOf (elementsOf (q .tables) (q .buffers)) costs) where
-          abbrev problem : Problem
-          problem = record { width = q .width; height = q .height; source = q .source; sink = q .sink; elements = elementsOf (q .tables) (q .buffers); costs = costs }
+        abbrev problem : Problem
+        problem = record { width = q .width; height = q .height; source = q .source; sink = q .sink; elements = elementsOf (q .tables) (q .buffers) }
 
-          pub ready : Ready problem (q .marks)
-          unfolding planFor cells cellsAsked
-          ready =
-              let sized = valid-sized (planOf (q .width) (q .height) (q .marks)) valid in
-              let good = ends-good (q .width * q .height) (q .source) (q .sink) apart in
-              record {
-                sized = sized;
-                valid = tables-valid (q .tables) (q .buffers) clean;
-                costs = costed;
-                source = omega (arith, sized .full, good .source-in);
-                sink = omega (arith, sized .full, good .sink-in);
-              }
+        pub ready : Ready problem (q .marks)
+        unfolding planFor cells cellsAsked
+        ready =
+            let sized = valid-sized (planOf (q .width) (q .height) (q .marks)) valid in
+            let good = ends-good (q .width * q .height) (q .source) (q .sink) apart in
+            record {
+              sized = sized;
+              valid = tables-valid (q .tables) (q .buffers) clean;
+              source = omega (arith, sized .full, good .source-in);
+              sink = omega (arith, sized .full, good .sink-in);
+            }
 
-          cells-are : length (q .marks) ≡ cellsAsked q
-          unfolding cellsAsked
-          cells-are = cells-product problem (q .marks) ready
+        cells-are : length (q .marks) ≡ cellsAsked q
+        unfolding cellsAsked
+        cells-are = cells-product problem (q .marks) ready
 
-          pub passed-room : cellsAsked q * cellWords ≤ length scratch → length (q .marks) * cellWords ≤ length scratch
-          passed-room h = omega (arith, cells-are)
+        pub passed-room : cellsAsked q * cellWords ≤ length scratch → length (q .marks) * cellWords ≤ length scratch
+        passed-room h = omega (arith, cells-are)
 
-          -- the checks have passed, and the problem is routed
-          pub routed : cellsAsked q * cellWords ≤ length scratch → (scratch′ visits′ : List ℕ) (r : Answer) → RouteDone problem (q .marks) scratch scratch′ visits visits′ r → Effect q scratch scratch′ visits visits′ r
-          unfolding answerOf scratchOf visitsOf answerAfter scratchAfter visitsAfter rulesFor planFor rulesAsked elementsOf
-          routed h scratch′ visits′ r d =
-              let e = passed h in
-              (rw (e, answerAfter) (d .answer), (rw (e, scratchAfter) (rw cells-are at (d .zero-words)), rw (e, visitsAfter) (d .filled)))
+        -- the checks have passed, and the problem is routed
+        pub routed : cellsAsked q * cellWords ≤ length scratch → (scratch′ visits′ : List ℕ) (r : Answer) → RouteDone problem (q .marks) scratch scratch′ visits visits′ r → Effect q scratch scratch′ visits visits′ r
+        unfolding answerOf scratchOf visitsOf answerAfter scratchAfter visitsAfter rulesFor planFor rulesAsked elementsOf
+        routed h scratch′ visits′ r d =
+            let e = passed h in
+            (rw (e, answerAfter) (d .answer), (rw (e, scratchAfter) (rw cells-are at (d .zero-words)), rw (e, visitsAfter) (d .filled)))

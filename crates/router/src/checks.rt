@@ -54,9 +54,8 @@ fn after_plan(
                 source: source as usize,
                 sink: sink as usize,
                 elements: elements,
-                costs: costs,
             };
-            return route_ready(plan, scratch, p, visits);
+            return route_ready(plan, scratch, p, &costs, visits);
         }
     }
 }

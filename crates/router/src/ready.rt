@@ -1,12 +1,14 @@
 // The best route of a problem that the checks have passed. The scratch words are zero afterwards.
 ghost use Prim.Native.Nat.{_*_};
 ghost use lib.ListN.{length};
+ghost use Rattle.costs.specs.Costs.{CostsOf};
 ghost use Rattle.table.specs.Problem.{Ready, Room, rulesFor};
 ghost use Rattle.search.specs.Turn.{Reaching};
 ghost use Rattle.router.specs.Ready.{RouteDone};
 use answers::Answer;
 use answers::Figures;
 use answers::Refusal;
+use costs::COSTS;
 use emission::emit;
 use rows::clear;
 use search::Reached;
@@ -18,12 +20,13 @@ fn write_route(
     plan: &[u8],
     scratch: &mut [u16],
     p: Problem,
+    costs: &[u16; COSTS],
     visits: &mut [u16],
     registers: u16,
     steps: u32,
     count: usize,
 ) -> Answer
-    requires { ⌜ Ready p (now plan) × (Room (length (now plan)) (now scratch) × Reaching (rulesFor p (now plan)) (length (now plan)) (now scratch) registers steps count) ⌝ }
+    requires { ⌜ Ready p (now plan) × (Room (length (now plan)) (now scratch) × (Reaching (rulesFor p (now plan)) (length (now plan)) (now scratch) registers steps count × CostsOf (p .elements) (now costs))) ⌝ }
     ensures { λ r. ⌜ RouteDone p (now (plan .entry)) (now (scratch .entry)) (now (scratch .exit)) (now (visits .entry)) (now (visits .exit)) r ⌝ }
 {
     let n = plan.len();
@@ -38,22 +41,28 @@ fn write_route(
         clear(scratch, 0, n * 256);
         return Answer::NoRoom(figures);
     }
-    emit(plan, scratch, p, count, registers, steps, visits);
+    emit(plan, scratch, p, costs, count, registers, steps, visits);
     clear(scratch, 0, n * 256);
     Answer::Found(figures)
 }
 
 // The best route, 7 or 8.
-pub fn route_ready(plan: &[u8], scratch: &mut [u16], p: Problem, visits: &mut [u16]) -> Answer
-    requires { ⌜ Ready p (now plan) × Room (length (now plan)) (now scratch) ⌝ }
+pub fn route_ready(
+    plan: &[u8],
+    scratch: &mut [u16],
+    p: Problem,
+    costs: &[u16; COSTS],
+    visits: &mut [u16],
+) -> Answer
+    requires { ⌜ Ready p (now plan) × (Room (length (now plan)) (now scratch) × CostsOf (p .elements) (now costs)) ⌝ }
     ensures { λ r. ⌜ RouteDone p (now (plan .entry)) (now (scratch .entry)) (now (scratch .exit)) (now (visits .entry)) (now (visits .exit)) r ⌝ }
 {
     let n = plan.len();
     clear(scratch, 0, n * 256);
-    let reached = search(plan, scratch, p);
+    let reached = search(plan, scratch, p, costs);
     match reached {
         Reached::Sink(registers, steps, count) => {
-            return write_route(plan, scratch, p, visits, registers, steps, count);
+            return write_route(plan, scratch, p, costs, visits, registers, steps, count);
         }
         Reached::Nothing => {
             clear(scratch, 0, n * 256);

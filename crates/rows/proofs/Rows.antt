@@ -1,37 +1,42 @@
--- The laws of `pushed`: what a step's cost leaves of the arrival word, and what the largest growth says of the row.
+-- The laws of `pushed`: what the costs leave of the word that is read, and what the largest growth says of the row.
 use Prim.Native.Nat.{ℕ, _+_, _-_, _≤_, _<_, max}
 use mathlib.Core.Path.{_≡_}
+use mathlib.Core.Logic.{_⊎_, inl, inr}
 use mathlib.Core.List.{List}
 use native.Mathlib.Omega.{arith}
+use borrow.Author.Tests.{lt-ltb, le-ltb}
+use lib.Dec.{ltb}
 use lib.ListN.{getD}
-use Rattle.timing.specs.declared.elements.Wire.{Wire}
-use Rattle.timing.specs.Formulas.{wireLoad}
-use Rattle.budget.specs.Table.{maxBelow}
+use Rattle.plan.proofs.Truth.{split}
+use Rattle.budget.specs.Table.{only, maxBelow}
 use Rattle.budget.proofs.Max.{below-max, max-none}
-use Rattle.costs.specs.Costs.{rowWords, wordMost, stepCost}
-use Rattle.rows.specs.Rows.{pushed, RowGrows}
-use Rattle.rows.proofs.Leaves.{step-leaves}
+use Rattle.costs.specs.Costs.{rowWords, wordMost}
+use Rattle.rows.specs.Rows.{wordOf, pushed, StepRow, RowGrows}
 
-module _ (words : List ℕ) (from to : ℕ) (wire : Wire) (limit : ℕ) where
-  -- the word at load l, by the cost of the step
-  pub pushed-is : (l : ℕ) → getD words (from + (l + wireLoad wire)) 0 ≤ wordMost → pushed words from to wire limit l ≡ max (getD words (to + l) 0) (getD words (from + (l + wireLoad wire)) 0 - stepCost wire limit l)
-  unfolding pushed
-  pushed-is l h = rw (step-leaves wire limit l (getD words (from + (l + wireLoad wire)) 0) h)
+module _ (words : List ℕ) (from to : ℕ) (costs : List ℕ) (base step : ℕ) where
+  -- the word at load l, with the word that is read
+  pub pushed-is : StepRow costs base step → (l : ℕ) → l < rowWords → getD words (from + (l + step)) 0 ≤ wordMost → pushed words from to costs base step l ≡ max (getD words (to + l) 0) (getD words (from + (l + step)) 0 - getD costs (base + l) 0)
+  unfolding pushed wordOf only
+  pushed-is row l k h = go (split rowWords (l + step))
+    where
+      go : (rowWords ≤ l + step) ⊎ (l + step < rowWords) → max (getD words (to + l) 0) (only (ltb (l + step) rowWords) (getD words (from + (l + step)) 0) - getD costs (base + l) 0) ≡ max (getD words (to + l) 0) (getD words (from + (l + step)) 0 - getD costs (base + l) 0)
+      go (inl m) = simp (le-ltb (l + step) rowWords m) (omega (arith, row .past l k m))
+      go (inr m) = simp (lt-ltb (l + step) rowWords m)
 
   -- by how much it grows
   unfoldable pub growth : ℕ → ℕ
-  growth l = pushed words from to wire limit l - getD words (to + l) 0
+  growth l = pushed words from to costs base step l - getD words (to + l) 0
 
-  pub growth-is : (l : ℕ) → getD words (from + (l + wireLoad wire)) 0 ≤ wordMost → growth l ≡ getD words (from + (l + wireLoad wire)) 0 - stepCost wire limit l - getD words (to + l) 0
+  pub growth-is : StepRow costs base step → (l : ℕ) → l < rowWords → getD words (from + (l + step)) 0 ≤ wordMost → growth l ≡ getD words (from + (l + step)) 0 - getD costs (base + l) 0 - getD words (to + l) 0
   unfolding growth
-  growth-is l h = omega (arith, pushed-is l h)
+  growth-is row l k h = omega (arith, pushed-is row l k h)
 
-  pub row-grows : 0 < maxBelow rowWords growth → RowGrows from to wire limit words
+  pub row-grows : 0 < maxBelow rowWords growth → RowGrows from to costs base step words
   unfolding growth
   row-grows h =
       let w = below-max rowWords growth 0 h in
       record { load = w .at; inRow = w .below; more = omega (arith, w .above) }
 
-  pub row-stays : maxBelow rowWords growth ≡ 0 → (l : ℕ) → l < rowWords → pushed words from to wire limit l ≡ getD words (to + l) 0
+  pub row-stays : maxBelow rowWords growth ≡ 0 → (l : ℕ) → l < rowWords → pushed words from to costs base step l ≡ getD words (to + l) 0
   unfolding growth pushed
   row-stays e l h = omega (arith, max-none rowWords growth e l h)

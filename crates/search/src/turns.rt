@@ -2,9 +2,11 @@
 ghost use mathlib.Core.Path.{_≡_};
 ghost use Prim.Native.Nat.{_+_, _*_, _≤_};
 ghost use lib.ListN.{length};
+ghost use Rattle.costs.specs.Costs.{CostsOf};
 ghost use Rattle.table.specs.Problem.{Ready, Room, rulesFor};
 ghost use Rattle.labels.specs.Labels.{Ordered};
 ghost use Rattle.search.specs.Turn.{FrontOf, quietTurn, TurnEffect};
+use costs::COSTS;
 use labels::fresh_in;
 use labels::label_active;
 use labels::steps_of;
@@ -67,12 +69,18 @@ fn after_quiet(scratch: &[u16], n: usize, f: Progress) -> Turn
 }
 
 // One layer; then, if it grew, the sink is tested and new labels are set; if not, the next label or wave is next.
-pub fn take_turn(plan: &[u8], scratch: &mut [u16], p: Problem, f: Progress) -> Turn
-    requires { ⌜ Ready p (now plan) × (Room (length (now plan)) (now scratch) × FrontOf (rulesFor p (now plan)) (length (now plan)) (now scratch) f) ⌝ }
+pub fn take_turn(
+    plan: &[u8],
+    scratch: &mut [u16],
+    p: Problem,
+    costs: &[u16; COSTS],
+    f: Progress,
+) -> Turn
+    requires { ⌜ Ready p (now plan) × (Room (length (now plan)) (now scratch) × (FrontOf (rulesFor p (now plan)) (length (now plan)) (now scratch) f × CostsOf (p .elements) (now costs))) ⌝ }
     ensures { λ r. ⌜ TurnEffect (rulesFor p (now (plan .entry))) (length (now (plan .entry))) (now (scratch .entry)) f (now (scratch .exit)) r ⌝ }
 {
     let n = plan.len();
-    let grown = next_layer(plan, scratch, p, f.active, no_trail());
+    let grown = next_layer(plan, scratch, p, costs, f.active, no_trail());
     let active = grown.count;
     if active == 0 {
         return after_quiet(scratch, n, f);

@@ -1,10 +1,12 @@
 // The search alone: the least registers and steps from the sink, or that there is no route.
 ghost use lib.ListN.{length};
+ghost use Rattle.costs.specs.Costs.{CostsOf};
 ghost use Rattle.table.specs.Problem.{Ready, Room, rulesFor};
 ghost use Rattle.search.specs.Search.{Blank, SearchEffect};
 use crate::turns::Progress;
 use crate::turns::Turn;
 use crate::turns::take_turn;
+use costs::COSTS;
 use labels::arrive;
 use labels::plant;
 use table::Problem;
@@ -16,8 +18,8 @@ pub enum Reached {
 }
 
 // The words that it uses start as zeros.
-pub fn search(plan: &[u8], scratch: &mut [u16], p: Problem) -> Reached
-    requires { ⌜ Ready p (now plan) × (Room (length (now plan)) (now scratch) × Blank (length (now plan)) (now scratch)) ⌝ }
+pub fn search(plan: &[u8], scratch: &mut [u16], p: Problem, costs: &[u16; COSTS]) -> Reached
+    requires { ⌜ Ready p (now plan) × (Room (length (now plan)) (now scratch) × (Blank (length (now plan)) (now scratch) × CostsOf (p .elements) (now costs))) ⌝ }
     ensures { λ r. ⌜ SearchEffect (rulesFor p (now (plan .entry))) (length (now (plan .entry))) (now (scratch .entry)) (now (scratch .exit)) r ⌝ }
 {
     let n = plan.len();
@@ -31,7 +33,7 @@ pub fn search(plan: &[u8], scratch: &mut [u16], p: Problem) -> Reached
         count: 0,
     };
     loop {
-        let t = take_turn(plan, scratch, p, f);
+        let t = take_turn(plan, scratch, p, costs, f);
         match t {
             Turn::Sink(registers, steps, count) => {
                 return Reached::Sink(registers, steps, count);

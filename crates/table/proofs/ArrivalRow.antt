@@ -18,7 +18,7 @@ use Rattle.budget.specs.Table.{Table, only, maxBelow, viaBuffer, arrival, loadO
 use Rattle.budget.proofs.Max.{max-longer}
 use Rattle.budget.proofs.Active.{max-same}
 use Rattle.costs.specs.Costs.{rowWords, bufferAt}
-use Rattle.rows.specs.Rows.{copied, raised}
+use Rattle.rows.proofs.Leaves.{limited, driven}
 use Rattle.table.specs.declared.problem.Problem.{Problem}
 use Rattle.table.specs.Problem.{planFor, rulesFor, Ready, budgetOf, seedOf}
 use Rattle.table.specs.ArrivalRow.{takesBuffers, behind, buffered}
@@ -53,8 +53,8 @@ module _ (words : List ℕ) (cell to : ℕ) (e : Elements) where
         simp (lt-leb _ _ h) (ap (λ (x : ℕ). cond (leb l (e .limit .0)) x (getD words (to + l) 0)) (omega arith))
 
     -- any other raises the row so far
-    pub buffered-more : (so-far : List ℕ) → getD so-far (to + l) 0 ≡ buffered words cell to e i l → getD so-far (cell * 64 + bufferLoad (bufferAt e i)) 0 ≡ getD words (cell * 64 + bufferLoad (bufferAt e i)) 0 → bufferLoad (bufferAt e i) ≤ e .limit .0 → raised so-far to (getD so-far (cell * 64 + bufferLoad (bufferAt e i)) 0) (bufferDriver (bufferAt e i)) (e .limit .0) l ≡ buffered words cell to e (suc i) l
-    unfolding buffered maxBelow behind only raised
+    pub buffered-more : (so-far : List ℕ) → getD so-far (to + l) 0 ≡ buffered words cell to e i l → getD so-far (cell * 64 + bufferLoad (bufferAt e i)) 0 ≡ getD words (cell * 64 + bufferLoad (bufferAt e i)) 0 → bufferLoad (bufferAt e i) ≤ e .limit .0 → driven so-far to (getD so-far (cell * 64 + bufferLoad (bufferAt e i)) 0) (bufferDriver (bufferAt e i)) (e .limit .0) l ≡ buffered words cell to e (suc i) l
+    unfolding buffered maxBelow behind only
     buffered-more so-far here top h =
         rw top (simp (le-leb _ _ h) (raised-twice (leb l (e .limit .0)) _ _ _ _ _ here))
 
@@ -133,17 +133,17 @@ module _ (p : Problem) (marks words : List ℕ) (cell : ℕ) (ready : Ready p ma
       simp
       (is-true (mayStand R cell noGate) (no-gate-stands (planFor p marks) e (p .source) (p .sink) cell), budget-word l h)
 
-  pub copied-through : site p marks cell ≡ false → (l : ℕ) → copied words cell (e .limit .0) l ≡ through l
-  unfolding copied through
-  copied-through s l = rw (buffers-none s l) (ap (only (leb l (e .limit .0))) (omega arith))
+  pub limited-through : site p marks cell ≡ false → (l : ℕ) → limited words cell (e .limit .0) l ≡ through l
+  unfolding through
+  limited-through s l = rw (buffers-none s l) (ap (only (leb l (e .limit .0))) (omega arith))
 
   pub through-arrival : seedOf (length marks) words cell ≡ false → (l : ℕ) → l < rowWords → through l ≡ arrival R (seedOf (length marks) words) (R .bound 0) A cell l
   unfolding through only
   through-arrival s l h = rw (whole l h) (simp s (ap (only (leb l (e .limit .0))) (omega arith)))
 
   module _ (mid : List ℕ) (to l : ℕ) where
-    pub buffered-through : site p marks cell ≡ true → ((k : ℕ) → k < rowWords → getD mid (cell * 64 + k) 0 ≡ getD words (cell * 64 + k) 0) → getD mid (to + l) 0 ≡ copied words cell (e .limit .0) l → buffered mid cell to e (e .count) l ≡ through l
-    unfolding copied through buffered only behind
+    pub buffered-through : site p marks cell ≡ true → ((k : ℕ) → k < rowWords → getD mid (cell * 64 + k) 0 ≡ getD words (cell * 64 + k) 0) → getD mid (to + l) 0 ≡ limited words cell (e .limit .0) l → buffered mid cell to e (e .count) l ≡ through l
+    unfolding through buffered only behind
     buffered-through s row here =
         rw (buffers-listed s l, ← same) (raised-once (leb l (e .limit .0)) _ _ _ _ here)
       where
@@ -151,6 +151,6 @@ module _ (p : Problem) (marks words : List ℕ) (cell : ℕ) (ready : Ready p ma
         same =
             max-same (e .count) (behind mid cell e l) (behind words cell e l) (λ i h. simp (row (bufferLoad (bufferAt e i)) (buffer-load i h)))
 
-    pub raised-arrival : seedOf (length marks) words cell ≡ true → l < rowWords → getD mid (to + l) 0 ≡ through l → raised mid to (2 * e .period + 1) (registerDriver (e .register)) (e .limit .0) l ≡ arrival R (seedOf (length marks) words) (R .bound 0) A cell l
-    unfolding raised through only
-    raised-arrival s h here = rw (whole l h) (simp s (raised-twice (leb l (e .limit .0)) _ _ _ _ _ here))
+    pub driven-arrival : seedOf (length marks) words cell ≡ true → l < rowWords → getD mid (to + l) 0 ≡ through l → driven mid to (2 * e .period + 1) (registerDriver (e .register)) (e .limit .0) l ≡ arrival R (seedOf (length marks) words) (R .bound 0) A cell l
+    unfolding through only
+    driven-arrival s h here = rw (whole l h) (simp s (raised-twice (leb l (e .limit .0)) _ _ _ _ _ here))

@@ -8,6 +8,7 @@ use lib.ListN.{length, getD, set, length-set}
 use lib.Seq.{getD-set-same, getD-set-other}
 use Rattle.plan.proofs.Truth.{split, equal}
 use Rattle.rows.specs.Words.{Kept, KeptFrom}
+use Rattle.costs.specs.Costs.{CostsOf}
 use Rattle.lists.specs.Lists.{flagOf, Place, Listed}
 use Rattle.lists.proofs.Lists.{bit-cases, listed-count}
 use Rattle.trail.specs.declared.Trail.{Trail}
@@ -101,10 +102,11 @@ module _ (n active i : ℕ) (old now : List ℕ) (listed : Listed n old (n * 132
       flags c (inr e) (inr z) = inr (flag-other c e ∙ z)
 
 -- the pushes may begin
-pub cleared-asks : (p : Problem) (marks : List ℕ) (active : ℕ) (t : Trail) (old mid : List ℕ) → Ready p marks → length marks * 256 ≤ length old → Sound (length marks) old t → Listed (length marks) old (length marks * 132) active → Apart (rulesFor p marks) (length marks) old → FlagsCleared (length marks) old mid → SpreadAllAsks p marks active t mid
-cleared-asks p marks active t old mid ready room sound listed apart f =
+pub cleared-asks : (p : Problem) (marks costs : List ℕ) (active : ℕ) (t : Trail) (old mid : List ℕ) → Ready p marks → length marks * 256 ≤ length old → Sound (length marks) old t → Listed (length marks) old (length marks * 132) active → Apart (rulesFor p marks) (length marks) old → CostsOf (p .elements) costs → FlagsCleared (length marks) old mid → SpreadAllAsks p marks costs active t mid
+cleared-asks p marks costs active t old mid ready room sound listed apart costed f =
     record {
       ready = ready;
+      costed = costed;
       room = omega (arith, f .same);
       sound = sound-kept (length marks) old t mid sound (record { near = λ k lo hi. f .low k (omega arith) (omega arith); far = λ k lo hi. f .rest k (omega arith) });
       unflagged = f .cleared;

@@ -1,17 +1,15 @@
 -- One push, as a table.
 use Prim.Native.Nat.{ℕ, _+_, _-_, _*_, _≤_, _<_, max}
 use mathlib.Core.Path.{_≡_, refl, sym, ap, _∙_}
-use mathlib.Core.Bool.{not, _&&_}
+use mathlib.Core.Bool.{_&&_}
 use mathlib.Core.Logic.{_⊎_, inl, inr}
 use mathlib.Core.List.{List}
 use native.Mathlib.Omega.{arith}
-use lib.Dec.{T, eqb, leb, ltb, leb→le, ltb→lt, lt→ltb, eqb→eq, T-not}
+use lib.Dec.{eqb, ltb, ltb→lt, lt→ltb, eqb→eq}
 use lib.ListN.{getD}
-use Rattle.timing.specs.declared.elements.Wire.{Wire}
-use Rattle.timing.specs.Formulas.{wireDelay, wireLoad}
-use Rattle.plan.proofs.Truth.{both, fst, snd, decided, split, equal, eq→eqb}
-use Rattle.budget.specs.Table.{Table, only}
-use Rattle.budget.specs.Sides.{gift, isSide}
+use Rattle.plan.proofs.Truth.{both, fst, snd, split, equal, eq→eqb}
+use Rattle.budget.specs.Table.{only}
+use Rattle.budget.specs.Sides.{isSide}
 use Rattle.budget.proofs.Max.{only-true, only-false, only-bound}
 use Rattle.costs.specs.Costs.{rowWords}
 use Rattle.rows.specs.Words.{Filled, Kept, KeptFrom}
@@ -24,7 +22,7 @@ use Rattle.trail.proofs.History.{SameView}
 use Rattle.table.specs.declared.pushes.Grown.{Grown}
 use Rattle.table.specs.Problem.{budgetOf}
 use Rattle.table.specs.Layer.{arrivalOf, rowGift, Grew, SameRow, Raised, NotedRow, Offered, OfferAsks}
-use Rattle.table.proofs.Views.{budget-at, budget-outside, budget-kept, arrival-at, arrival-kept, inside}
+use Rattle.table.proofs.Views.{budget-at, budget-outside, budget-kept, arrival-outside, arrival-kept, inside}
 use Rattle.table.proofs.Follows.{follows-same, follows-grew}
 use Rattle.table.proofs.WholeLayer.{raised-more}
 
@@ -37,19 +35,13 @@ pub one-side : (n to c : ℕ) (x : ℕ) → to < n → c ≡ to → only (isSide
 unfolding isSide
 one-side n to c x h e = only-true (ltb to n && eqb c to) x (both (ltb to n) (eqb c to) (lt→ltb to n h) (eq→eqb c to e))
 
--- a gift depends on the giver's row alone
-pub gift-row : (w : Wire) (limit : ℕ) (B C : Table) (b c : ℕ) → ((l : ℕ) → C c l ≡ B b l) → (l : ℕ) → gift w limit C c l ≡ gift w limit B b l
-unfolding gift
-gift-row w limit B C b c e l = simp e
-
-module _ (n to : ℕ) (wire : Wire) (limit : ℕ) (next : Grown) (old : List ℕ) (asks : OfferAsks n to wire limit next old) where
+module _ (n to : ℕ) (costs : List ℕ) (base step : ℕ) (next : Grown) (old : List ℕ) (asks : OfferAsks n to costs base step next old) where
   -- past the last load there is no gift
-  no-gift : (l : ℕ) → rowWords ≤ l → rowGift n old wire limit l ≡ 0
-  unfolding gift
-  no-gift l h = only-false (leb (l + wireLoad wire) limit) _ (λ t. omega (arith, leb→le (l + wireLoad wire) limit t, asks .light))
+  no-gift : (l : ℕ) → rowWords ≤ l → rowGift n old costs base step l ≡ 0
+  no-gift l h = omega (arith, arrival-outside n old (l + step) (omega arith))
 
   -- nothing changes: what the cell gives is in the table already
-  offer-same : ((c l : ℕ) → budgetOf n old c l ≡ max (budgetOf n old c l) (only (isSide n to c) (rowGift n old wire limit l))) → Offered n to wire limit (next .trail) old old next
+  offer-same : ((c l : ℕ) → budgetOf n old c l ≡ max (budgetOf n old c l) (only (isSide n to c) (rowGift n old costs base step l))) → Offered n to costs base step (next .trail) old old next
   offer-same e =
       record {
         raised = record { same = refl; listed = asks .listed; flags = λ c h. inl refl; quiet = λ c h z l. refl; kept = λ k lo hi. refl; seeds = λ k lo hi. refl };
@@ -59,19 +51,15 @@ module _ (n to : ℕ) (wire : Wire) (limit : ℕ) (next : Grown) (old : List ℕ
       }
 
   -- no neighbour
-  pub offer-none : to ≡ n → Offered n to wire limit (next .trail) old old next
-  offer-none e = offer-same (λ c l. omega (arith, no-side n to c (rowGift n old wire limit l) (λ h q. omega arith)))
+  pub offer-none : to ≡ n → Offered n to costs base step (next .trail) old old next
+  offer-none e = offer-same (λ c l. omega (arith, no-side n to c (rowGift n old costs base step l) (λ h q. omega arith)))
 
   -- the row of `to` in the words is the push, which is the gift
-  gift-is : (l : ℕ) → l < rowWords → pushed old (n * 64) (to * 64) wire limit l ≡ max (getD old (to * 64 + l) 0) (rowGift n old wire limit l)
-  unfolding pushed gift
-  gift-is l h = go (decided (leb (l + wireLoad wire) limit))
-    where
-      go : T (leb (l + wireLoad wire) limit) ⊎ T (not (leb (l + wireLoad wire) limit)) → max (getD old (to * 64 + l) 0) (only (leb (l + wireLoad wire) limit) (getD old (n * 64 + (l + wireLoad wire)) 0 - wireDelay wire l)) ≡ max (getD old (to * 64 + l) 0) (only (leb (l + wireLoad wire) limit) (arrivalOf n old (l + wireLoad wire) - wireDelay wire l))
-      go (inl t) = rw (arrival-at n old (l + wireLoad wire) (omega (arith, leb→le (l + wireLoad wire) limit t, asks .light)))
-      go (inr f) = omega (arith, only-false (leb (l + wireLoad wire) limit) (getD old (n * 64 + (l + wireLoad wire)) 0 - wireDelay wire l) (λ t. T-not (leb (l + wireLoad wire) limit) f t), only-false (leb (l + wireLoad wire) limit) (arrivalOf n old (l + wireLoad wire) - wireDelay wire l) (λ t. T-not (leb (l + wireLoad wire) limit) f t))
+  gift-is : (l : ℕ) → pushed old (n * 64) (to * 64) costs base step l ≡ max (getD old (to * 64 + l) 0) (rowGift n old costs base step l)
+  unfolding pushed
+  gift-is l = refl
 
-  module _ (new : List ℕ) (inPlan : to < n) (push : Filled (pushed old (n * 64) (to * 64) wire limit) (to * 64) rowWords old new) where
+  module _ (new : List ℕ) (inPlan : to < n) (push : Filled (pushed old (n * 64) (to * 64) costs base step) (to * 64) rowWords old new) where
     outside : (k : ℕ) → (k < to * 64) ⊎ (to * 64 + rowWords ≤ k) → getD new k 0 ≡ getD old k 0
     outside k (inl h) = push .low k h
     outside k (inr h) = push .high k h
@@ -84,37 +72,37 @@ module _ (n to : ℕ) (wire : Wire) (limit : ℕ) (next : Grown) (old : List ℕ
         go (inl g) = inr (omega arith)
         go (inr g) = inl (omega arith)
 
-    push-table : (c l : ℕ) → budgetOf n new c l ≡ max (budgetOf n old c l) (only (isSide n to c) (rowGift n old wire limit l))
+    push-table : (c l : ℕ) → budgetOf n new c l ≡ max (budgetOf n old c l) (only (isSide n to c) (rowGift n old costs base step l))
     push-table c l = go (inside n c l) (equal c to)
       where
-        nothing : (c < n → l < rowWords → ⊥) → only (isSide n to c) (rowGift n old wire limit l) ≡ 0
+        nothing : (c < n → l < rowWords → ⊥) → only (isSide n to c) (rowGift n old costs base step l) ≡ 0
         nothing f = pick (split n c) (split rowWords l)
           where
-            pick : (n ≤ c) ⊎ (c < n) → (rowWords ≤ l) ⊎ (l < rowWords) → only (isSide n to c) (rowGift n old wire limit l) ≡ 0
+            pick : (n ≤ c) ⊎ (c < n) → (rowWords ≤ l) ⊎ (l < rowWords) → only (isSide n to c) (rowGift n old costs base step l) ≡ 0
             pick (inl g) z = no-side n to c _ (λ h q. omega arith)
-            pick (inr g) (inl z) = omega (arith, only-bound (isSide n to c) (rowGift n old wire limit l) 0 (λ t. omega (arith, no-gift l z)))
+            pick (inr g) (inl z) = omega (arith, only-bound (isSide n to c) (rowGift n old costs base step l) 0 (λ t. omega (arith, no-gift l z)))
             pick (inr g) (inr z) = absurd (f g z)
 
-        go : ((c < n) × (l < rowWords)) ⊎ (c < n → l < rowWords → ⊥) → (c ≡ to) ⊎ (c ≡ to → ⊥) → budgetOf n new c l ≡ max (budgetOf n old c l) (only (isSide n to c) (rowGift n old wire limit l))
+        go : ((c < n) × (l < rowWords)) ⊎ (c < n → l < rowWords → ⊥) → (c ≡ to) ⊎ (c ≡ to → ⊥) → budgetOf n new c l ≡ max (budgetOf n old c l) (only (isSide n to c) (rowGift n old costs base step l))
         go (inr f) q = omega (arith, budget-outside n new c l f, budget-outside n old c l f, nothing f)
         go (inl h) (inl e) =
-            let a : getD new (c * 64 + l) 0 ≡ max (getD old (c * 64 + l) 0) (rowGift n old wire limit l) = rw e (push .done l (h .1) ∙ gift-is l (h .1)) in
-            omega (arith, budget-at n new c l (h .0) (h .1), budget-at n old c l (h .0) (h .1), one-side n to c (rowGift n old wire limit l) inPlan e)
+            let a : getD new (c * 64 + l) 0 ≡ max (getD old (c * 64 + l) 0) (rowGift n old costs base step l) = rw e (push .done l (h .1) ∙ gift-is l) in
+            omega (arith, budget-at n new c l (h .0) (h .1), budget-at n old c l (h .0) (h .1), one-side n to c (rowGift n old costs base step l) inPlan e)
         go (inl h) (inr f) =
-            omega (arith, budget-at n new c l (h .0) (h .1), budget-at n old c l (h .0) (h .1), outside (c * 64 + l) (other c l (h .1) f), no-side n to c (rowGift n old wire limit l) (λ g q. f q))
+            omega (arith, budget-at n new c l (h .0) (h .1), budget-at n old c l (h .0) (h .1), outside (c * 64 + l) (other c l (h .1) f), no-side n to c (rowGift n old costs base step l) (λ g q. f q))
 
     push-flag : (c : ℕ) → flagOf n new c ≡ flagOf n old c
     push-flag c = outside (n * 134 + c) (inr (omega arith))
 
     push-row-same : (c : ℕ) → (c ≡ to → ⊥) → SameRow n old new c
-    push-row-same c f l = omega (arith, push-table c l, no-side n to c (rowGift n old wire limit l) (λ g q. f q))
+    push-row-same c f l = omega (arith, push-table c l, no-side n to c (rowGift n old costs base step l) (λ g q. f q))
 
     -- the row is pushed, since it grows, and `to` is listed
     module _ (last : List ℕ) (count : ℕ) (list : Enlisted n (n * 133) (next .count) to new last count) where
       same-table : (c l : ℕ) → budgetOf n last c l ≡ budgetOf n new c l
       same-table = budget-kept n new last (λ k lo hi. list .low k (omega arith))
 
-      pub listed-table : (c l : ℕ) → budgetOf n last c l ≡ max (budgetOf n old c l) (only (isSide n to c) (rowGift n old wire limit l))
+      pub listed-table : (c l : ℕ) → budgetOf n last c l ≡ max (budgetOf n old c l) (only (isSide n to c) (rowGift n old costs base step l))
       listed-table c l = same-table c l ∙ push-table c l
 
       pub listed-flag : (c : ℕ) → c < n → (c ≡ to → ⊥) → flagOf n last c ≡ flagOf n old c
@@ -132,7 +120,7 @@ module _ (n to : ℕ) (wire : Wire) (limit : ℕ) (next : Grown) (old : List ℕ
       pub listed-arrival : (l : ℕ) → arrivalOf n last l ≡ arrivalOf n old l
       listed-arrival = arrival-kept n old last (λ k lo hi. list .low k (omega arith) ∙ outside k (inr (omega arith)))
 
-      pub listed-raised : RowGrows (n * 64) (to * 64) wire limit old → Raised n old last count
+      pub listed-raised : RowGrows (n * 64) (to * 64) costs base step old → Raised n old last count
       listed-raised g =
           record {
             same = list .same ∙ push .same;
@@ -159,22 +147,21 @@ module _ (n to : ℕ) (wire : Wire) (limit : ℕ) (next : Grown) (old : List ℕ
           quiet c h z (inr f) l = same-table c l ∙ push-row-same c f l
 
   -- the row does not grow
-  pub offer-quiet : to < n → ((l : ℕ) → l < rowWords → pushed old (n * 64) (to * 64) wire limit l ≡ getD old (to * 64 + l) 0) → Offered n to wire limit (next .trail) old old next
+  pub offer-quiet : to < n → ((l : ℕ) → l < rowWords → pushed old (n * 64) (to * 64) costs base step l ≡ getD old (to * 64 + l) 0) → Offered n to costs base step (next .trail) old old next
   offer-quiet h e = offer-same (push-table old h (filled-longer (filled-none _ _ _) rowWords (omega arith) (λ k lo hi. sym (e k hi))))
 
 -- what is asked of the words after the row is saved
-module _ (n to : ℕ) (wire : Wire) (limit : ℕ) (next : Grown) (old : List ℕ) (asks : OfferAsks n to wire limit next old) (mid : List ℕ) (r : Trail) (note : NotedRow n to old (next .trail) mid r) where
+module _ (n to : ℕ) (costs : List ℕ) (base step : ℕ) (next : Grown) (old : List ℕ) (asks : OfferAsks n to costs base step next old) (mid : List ℕ) (r : Trail) (note : NotedRow n to old (next .trail) mid r) where
   pub noted-listed-kept : Listed n mid (n * 133) (next .count)
   noted-listed-kept =
       listed-kept (asks .listed) mid (λ c h. note .labels (n * 134 + c) (omega arith) (omega arith)) (λ i h. note .labels (n * 133 + i) (omega arith) (omega (arith, listed-count (asks .listed))))
 
-  noted-asks : OfferAsks n to wire limit (record { count = next .count; trail = r }) mid
+  noted-asks : OfferAsks n to costs base step (record { count = next .count; trail = r }) mid
   noted-asks =
       record {
         toIn = asks .toIn;
         few = asks .few;
-        wireFits = asks .wireFits;
-        light = asks .light;
+        costed = asks .costed;
         room = omega (arith, asks .room, note .same);
         listed = noted-listed-kept;
         sound = note .follows .sound;
@@ -197,23 +184,23 @@ module _ (n to : ℕ) (wire : Wire) (limit : ℕ) (next : Grown) (old : List ℕ
   noted-arrival : (l : ℕ) → arrivalOf n mid l ≡ arrivalOf n old l
   noted-arrival = arrival-kept n old mid (λ k lo hi. note .low k (omega arith) hi)
 
-  same-gift : (l : ℕ) → rowGift n mid wire limit l ≡ rowGift n old wire limit l
-  same-gift = gift-row wire limit (λ c. arrivalOf n old) (λ c. arrivalOf n mid) 0 0 noted-arrival
+  same-gift : (l : ℕ) → rowGift n mid costs base step l ≡ rowGift n old costs base step l
+  same-gift l = rw (noted-arrival (l + step))
 
-  pushed-same : to < n → (l : ℕ) → l < rowWords → pushed mid (n * 64) (to * 64) wire limit l ≡ pushed old (n * 64) (to * 64) wire limit l
+  pushed-same : to < n → (l : ℕ) → l < rowWords → pushed mid (n * 64) (to * 64) costs base step l ≡ pushed old (n * 64) (to * 64) costs base step l
   pushed-same inPlan l h =
-      omega (arith, gift-is n to wire limit _ mid noted-asks l h, gift-is n to wire limit next old asks l h, same-gift l, note .low (to * 64 + l) (omega arith) (omega arith))
+      omega (arith, gift-is n to costs base step _ mid noted-asks l, gift-is n to costs base step next old asks l, same-gift l, note .low (to * 64 + l) (omega arith) (omega arith))
 
   -- the row grows: it is saved and pushed, and `to` is listed
-  pub offer-grew : (new : List ℕ) → to < n → Filled (pushed mid (n * 64) (to * 64) wire limit) (to * 64) rowWords mid new → (last : List ℕ) (count : ℕ) → RowGrows (n * 64) (to * 64) wire limit old → Enlisted n (n * 133) (next .count) to new last count → Offered n to wire limit (next .trail) old last (record { count = count; trail = r })
+  pub offer-grew : (new : List ℕ) → to < n → Filled (pushed mid (n * 64) (to * 64) costs base step) (to * 64) rowWords mid new → (last : List ℕ) (count : ℕ) → RowGrows (n * 64) (to * 64) costs base step old → Enlisted n (n * 133) (next .count) to new last count → Offered n to costs base step (next .trail) old last (record { count = count; trail = r })
   offer-grew new inPlan push last count grows list =
       record {
         raised =
             raised-more n old mid last (next .count) count (λ c l. omega (arith, noted-table c l)) (λ c l. omega (arith, table c l)) noted-raised
-            (listed-raised n to wire limit _ mid noted-asks new inPlan push last count list grows-still);
+            (listed-raised n to costs base step _ mid noted-asks new inPlan push last count list grows-still);
         follows =
-            follows-grew n to old (next .trail) mid r note last (listed-near n to wire limit _ mid noted-asks new inPlan push last count list) (listed-high n to wire limit _ mid noted-asks new inPlan push last count list)
-            (listed-row n to wire limit _ mid noted-asks new inPlan push last count list) (listed-flag n to wire limit _ mid noted-asks new inPlan push last count list);
+            follows-grew n to old (next .trail) mid r note last (listed-near n to costs base step _ mid noted-asks new inPlan push last count list) (listed-high n to costs base step _ mid noted-asks new inPlan push last count list)
+            (listed-row n to costs base step _ mid noted-asks new inPlan push last count list) (listed-flag n to costs base step _ mid noted-asks new inPlan push last count list);
         table =
             λ c l.
             omega (
@@ -222,13 +209,13 @@ module _ (n to : ℕ) (wire : Wire) (limit : ℕ) (next : Grown) (old : List ℕ
               noted-table c l,
               ap (only (isSide n to c)) (same-gift l),
             );
-        arrival = λ l. listed-arrival n to wire limit _ mid noted-asks new inPlan push last count list l ∙ noted-arrival l;
+        arrival = λ l. listed-arrival n to costs base step _ mid noted-asks new inPlan push last count list l ∙ noted-arrival l;
       }
     where
-      table : (c l : ℕ) → budgetOf n last c l ≡ max (budgetOf n mid c l) (only (isSide n to c) (rowGift n mid wire limit l))
-      table = listed-table n to wire limit _ mid noted-asks new inPlan push last count list
+      table : (c l : ℕ) → budgetOf n last c l ≡ max (budgetOf n mid c l) (only (isSide n to c) (rowGift n mid costs base step l))
+      table = listed-table n to costs base step _ mid noted-asks new inPlan push last count list
 
-      grows-still : RowGrows (n * 64) (to * 64) wire limit mid
+      grows-still : RowGrows (n * 64) (to * 64) costs base step mid
       grows-still =
           record {
             load = grows .load;

@@ -1,15 +1,18 @@
 -- The four pushes of a cell are what the rules give its neighbours; the pushes of the active list together.
-use Prim.Native.Nat.{ℕ, _+_, _*_, _≤_, _<_, max}
+use Prim.Native.Nat.{ℕ, _+_, _-_, _*_, _≤_, _<_, max}
 use mathlib.Core.Path.{_≡_, refl, sym, _∙_}
 use mathlib.Core.Logic.{_⊎_, inl, inr}
 use mathlib.Core.List.{List}
 use native.Mathlib.Omega.{arith}
+use borrow.Author.Tests.{lt-leb}
+use lib.Dec.{leb, leb→le}
 use lib.ListN.{length, getD}
 use Rattle.plan.specs.Plan.{Plan, cells}
 use Rattle.plan.specs.Joined.{neighboursOf}
 use Rattle.plan.proofs.Check.{cells-most}
 use Rattle.timing.specs.declared.elements.Wire.{Wire}
 use Rattle.timing.specs.Elements.{WireInRange}
+use Rattle.timing.specs.Formulas.{wireDelay, wireLoad}
 use Rattle.plan.proofs.Truth.{split}
 use Rattle.rules.specs.Rules.{Rules}
 use Rattle.budget.specs.Table.{Table, only, given}
@@ -24,14 +27,13 @@ use Rattle.trail.specs.declared.Trail.{Trail}
 use Rattle.trail.specs.Trail.{Sound}
 use Rattle.table.specs.declared.problem.Problem.{Problem}
 use Rattle.table.specs.declared.pushes.Grown.{Grown}
-use Rattle.costs.specs.declared.StepCosts.{StepCosts}
-use Rattle.costs.specs.Costs.{rowWords, StepCostsOf}
-use Rattle.costs.proofs.Own.{step-own}
+use Rattle.costs.specs.Costs.{rowWords, costWords, stepCost, horizontalAt, verticalAt, RowAt}
+use Rattle.rows.specs.Rows.{StepRow}
+use Rattle.rows.proofs.Leaves.{step-leaves}
 use Rattle.table.specs.Problem.{planFor, rulesFor, Ready, budgetOf, seedOf}
-use Rattle.table.specs.Layer.{arrivalOf, arrivals, Raised, Follows, Offered, OfferAsks, Spread, SpreadAsks, SpreadAll, SpreadAllAsks}
+use Rattle.table.specs.Layer.{arrivalOf, rowGift, arrivals, Raised, Follows, Offered, OfferAsks, Spread, SpreadAsks, SpreadAll, SpreadAllAsks}
 use Rattle.table.proofs.Views.{budget-kept, seeds-kept, arrival-at, arrival-outside, limit-named}
 use Rattle.table.proofs.Follows.{follows-same, follows-kept, follows-more}
-use Rattle.table.proofs.Offers.{gift-row}
 use Rattle.table.proofs.WholeLayer.{raised-more}
 
 -- a ready problem's sizes
@@ -48,10 +50,10 @@ module _ (p : Problem) (marks : List ℕ) (ready : Ready p marks) where
   few-cells = omega (arith, cells-are, cells-most (planFor p marks) (ready .sized))
 
 -- an offer only adds
-pub offered-least : {n to : ℕ} {wire : Wire} {limit : ℕ} {t : Trail} {old new : List ℕ} {next : Grown} → Offered n to wire limit t old new next → (c l : ℕ) → budgetOf n old c l ≤ budgetOf n new c l
+pub offered-least : {n to : ℕ} {costs : List ℕ} {base step : ℕ} {t : Trail} {old new : List ℕ} {next : Grown} → Offered n to costs base step t old new next → (c l : ℕ) → budgetOf n old c l ≤ budgetOf n new c l
 offered-least o c l = omega (arith, o .table c l)
 
-module _ (p : Problem) (marks : List ℕ) (cell : ℕ) (next : Grown) (words : List ℕ) (asks : SpreadAsks p marks cell next words) where
+module _ (p : Problem) (marks costs : List ℕ) (cell : ℕ) (next : Grown) (words : List ℕ) (asks : SpreadAsks p marks costs cell next words) where
   abbrev n : ℕ
   n = length marks
 
@@ -61,20 +63,27 @@ module _ (p : Problem) (marks : List ℕ) (cell : ℕ) (next : Grown) (words : L
   inside : cell < cells P
   inside = omega (arith, asks .cellIn, cells-are p marks (asks .ready))
 
+  -- a step past the row costs all, since the limit is within the row
+  pub step-row : (wire : Wire) (base : ℕ) → base + rowWords ≤ costWords → WireInRange wire → RowAt (stepCost wire (p .elements .limit .0)) base costs → StepRow costs base (wireLoad wire)
+  unfolding stepCost wireLoad
+  step-row wire base h w row =
+      record {
+        inside = h;
+        short = omega (arith, w .load);
+        past = λ l k m. row l k ∙ simp (lt-leb (l + wireLoad wire) (p .elements .limit .0) (omega (arith, asks .ready .valid .limit)));
+      }
+
   -- what each offer asks
-  pub offer-asks : (to : ℕ) (wire : Wire) (costs : StepCosts) (now : List ℕ) (from : Grown) → StepCostsOf wire (p .elements .limit .0) costs → to ≤ cells P → WireInRange wire → length now ≡ length words → Listed n now (n * 133) (from .count) → Sound n now (from .trail) → OfferAsks n to (costs .wire) (costs .limit) from now × StepCostsOf (costs .wire) (costs .limit) costs
-  offer-asks to wire costs now from costed h w same listed sound = (
-    record {
-      toIn = omega (arith, cells-are p marks (asks .ready));
-      few = few-cells p marks (asks .ready);
-      wireFits = rw (costed .wire) w;
-      light = omega (arith, costed .limit, asks .ready .valid .limit);
-      room = omega (arith, asks .room);
-      listed = listed;
-      sound = sound;
-    },
-    step-own costed,
-  )
+  pub offer-asks : (to base step : ℕ) (now : List ℕ) (from : Grown) → StepRow costs base step → to ≤ cells P → length now ≡ length words → Listed n now (n * 133) (from .count) → Sound n now (from .trail) → OfferAsks n to costs base step from now
+  offer-asks to base step now from row h same listed sound =
+      record {
+        toIn = omega (arith, cells-are p marks (asks .ready));
+        few = few-cells p marks (asks .ready);
+        costed = row;
+        room = omega (arith, asks .room);
+        listed = listed;
+        sound = sound;
+      }
 
   sides : (B : Table) → ((l : ℕ) → p .elements .limit .0 < l → B cell l ≡ 0) → (c l x : ℕ) → max (max (max (max x (only (isSide n (neighboursOf P cell .up) c) (gift (p .elements .vertical) (p .elements .limit .0) B cell l))) (only (isSide n (neighboursOf P cell .left) c) (gift (p .elements .horizontal) (p .elements .limit .0) B cell l))) (only (isSide n (neighboursOf P cell .right) c) (gift (p .elements .horizontal) (p .elements .limit .0) B cell l))) (only (isSide n (neighboursOf P cell .down) c) (gift (p .elements .vertical) (p .elements .limit .0) B cell l)) ≡ max x (given (rulesFor p marks) B cell c l)
   unfolding rulesFor
@@ -121,7 +130,7 @@ module _ (p : Problem) (marks : List ℕ) (cell : ℕ) (next : Grown) (words : L
         }
 
     -- then the four offers
-    module _ (w₁ w₂ w₃ w₄ : List ℕ) (k₁ k₂ k₃ k₄ : Grown) (up : Offered n (neighboursOf P cell .up) (p .elements .vertical) (p .elements .limit .0) (next .trail) w₀ w₁ k₁) (left : Offered n (neighboursOf P cell .left) (p .elements .horizontal) (p .elements .limit .0) (k₁ .trail) w₁ w₂ k₂) (right : Offered n (neighboursOf P cell .right) (p .elements .horizontal) (p .elements .limit .0) (k₂ .trail) w₂ w₃ k₃) (down : Offered n (neighboursOf P cell .down) (p .elements .vertical) (p .elements .limit .0) (k₃ .trail) w₃ w₄ k₄) where
+    module _ (w₁ w₂ w₃ w₄ : List ℕ) (k₁ k₂ k₃ k₄ : Grown) (up : Offered n (neighboursOf P cell .up) costs verticalAt (wireLoad (p .elements .vertical)) (next .trail) w₀ w₁ k₁) (left : Offered n (neighboursOf P cell .left) costs horizontalAt (wireLoad (p .elements .horizontal)) (k₁ .trail) w₁ w₂ k₂) (right : Offered n (neighboursOf P cell .right) costs horizontalAt (wireLoad (p .elements .horizontal)) (k₂ .trail) w₂ w₃ k₃) (down : Offered n (neighboursOf P cell .down) costs verticalAt (wireLoad (p .elements .vertical)) (k₃ .trail) w₃ w₄ k₄) where
       row₁ : (l : ℕ) → arrivalOf n w₁ l ≡ arrivals R n words cell l
       row₁ l = up .arrival l ∙ filled-row l
 
@@ -131,20 +140,35 @@ module _ (p : Problem) (marks : List ℕ) (cell : ℕ) (next : Grown) (words : L
       row₃ : (l : ℕ) → arrivalOf n w₃ l ≡ arrivals R n words cell l
       row₃ l = right .arrival l ∙ row₂ l
 
-      -- one offer, of the cell's arrival row
-      at-start : (to : ℕ) (wire : Wire) (t : Trail) (old new : List ℕ) (k : Grown) → Offered n to wire (p .elements .limit .0) t old new k → ((l : ℕ) → arrivalOf n old l ≡ arrivals R n words cell l) → (c l : ℕ) → budgetOf n new c l ≡ max (budgetOf n old c l) (only (isSide n to c) (gift wire (p .elements .limit .0) (arrivals R n words) cell l))
-      at-start to wire t old new k o e c l =
-          o .table c l ∙ rw (gift-row wire (p .elements .limit .0) (arrivals R n words) (λ c. arrivalOf n old) cell 0 e l)
+      -- nothing arrives past the limit
+      past : (l : ℕ) → p .elements .limit .0 < l → arrivals R n words cell l ≡ 0
+      past l h = arrival-past R (seedOf n words) (R .bound 0) (budgetOf n words) cell l (omega (arith, limit-named p marks))
+
+      -- one gift, of the cell's arrival row
+      gift-row : (wire : Wire) (base : ℕ) → RowAt (stepCost wire (p .elements .limit .0)) base costs → (old : List ℕ) → ((l : ℕ) → arrivalOf n old l ≡ arrivals R n words cell l) → (l : ℕ) → rowGift n old costs base (wireLoad wire) l ≡ gift wire (p .elements .limit .0) (arrivals R n words) cell l
+      unfolding gift
+      gift-row wire base row old e l = go (split (l + wireLoad wire) (p .elements .limit .0))
+        where
+          go : (l + wireLoad wire ≤ p .elements .limit .0) ⊎ (p .elements .limit .0 < l + wireLoad wire) → arrivalOf n old (l + wireLoad wire) - getD costs (base + l) 0 ≡ only (leb (l + wireLoad wire) (p .elements .limit .0)) (arrivals R n words cell (l + wireLoad wire) - wireDelay wire l)
+          go (inl h) =
+              rw (e (l + wireLoad wire), row l (omega (arith, asks .ready .valid .limit)))
+              (step-leaves wire (p .elements .limit .0) l (arrivals R n words cell (l + wireLoad wire)) (λ k. absurd (omega arith)))
+          go (inr h) =
+              omega (arith, e (l + wireLoad wire), past (l + wireLoad wire) h, only-false (leb (l + wireLoad wire) (p .elements .limit .0)) (arrivals R n words cell (l + wireLoad wire) - wireDelay wire l) (λ t. omega (arith, leb→le (l + wireLoad wire) (p .elements .limit .0) t)))
+
+      -- and one offer
+      at-start : (to : ℕ) (wire : Wire) (base : ℕ) → RowAt (stepCost wire (p .elements .limit .0)) base costs → (t : Trail) (old new : List ℕ) (k : Grown) → Offered n to costs base (wireLoad wire) t old new k → ((l : ℕ) → arrivalOf n old l ≡ arrivals R n words cell l) → (c l : ℕ) → budgetOf n new c l ≡ max (budgetOf n old c l) (only (isSide n to c) (gift wire (p .elements .limit .0) (arrivals R n words) cell l))
+      at-start to wire base row t old new k o e c l = o .table c l ∙ rw (gift-row wire base row old e l)
 
       spread-table : (c l : ℕ) → budgetOf n w₄ c l ≡ max (budgetOf n words c l) (given R (arrivals R n words) cell c l)
       spread-table c l =
           cc (
             filled-budget c l,
-            at-start (neighboursOf P cell .up) (p .elements .vertical) (next .trail) w₀ w₁ k₁ up filled-row c l,
-            at-start (neighboursOf P cell .left) (p .elements .horizontal) (k₁ .trail) w₁ w₂ k₂ left row₁ c l,
-            at-start (neighboursOf P cell .right) (p .elements .horizontal) (k₂ .trail) w₂ w₃ k₃ right row₂ c l,
-            at-start (neighboursOf P cell .down) (p .elements .vertical) (k₃ .trail) w₃ w₄ k₄ down row₃ c l,
-            sides (arrivals R n words) (λ l h. arrival-past R (seedOf n words) (R .bound 0) (budgetOf n words) cell l (omega (arith, limit-named p marks))) c l (budgetOf n words c l),
+            at-start (neighboursOf P cell .up) (p .elements .vertical) verticalAt (asks .costed .vertical) (next .trail) w₀ w₁ k₁ up filled-row c l,
+            at-start (neighboursOf P cell .left) (p .elements .horizontal) horizontalAt (asks .costed .horizontal) (k₁ .trail) w₁ w₂ k₂ left row₁ c l,
+            at-start (neighboursOf P cell .right) (p .elements .horizontal) horizontalAt (asks .costed .horizontal) (k₂ .trail) w₂ w₃ k₃ right row₂ c l,
+            at-start (neighboursOf P cell .down) (p .elements .vertical) verticalAt (asks .costed .vertical) (k₃ .trail) w₃ w₄ k₄ down row₃ c l,
+            sides (arrivals R n words) past c l (budgetOf n words c l),
           )
 
       least₁ : (c l : ℕ) → budgetOf n words c l ≤ budgetOf n w₁ c l
@@ -169,7 +193,7 @@ module _ (p : Problem) (marks : List ℕ) (cell : ℕ) (next : Grown) (words : L
           }
 
 -- The active list, one cell after another.
-module _ (p : Problem) (marks : List ℕ) (active : ℕ) (t : Trail) (words : List ℕ) (asks : SpreadAllAsks p marks active t words) where
+module _ (p : Problem) (marks costs : List ℕ) (active : ℕ) (t : Trail) (words : List ℕ) (asks : SpreadAllAsks p marks costs active t words) where
   abbrev m : ℕ
   m = length marks
 
@@ -216,10 +240,11 @@ module _ (p : Problem) (marks : List ℕ) (active : ℕ) (t : Trail) (words : Li
           before .most (budgetOf m words (giver i) l) (giver i) l (omega arith) (λ j h. omega (arith, gives-none (arrivals Q m words) i j l short (omega arith))),
         )
 
-    pub spread-next-asks : SpreadAsks p marks (getD now (m * 132 + i) 0) next now
+    pub spread-next-asks : SpreadAsks p marks costs (getD now (m * 132 + i) 0) next now
     spread-next-asks =
         record {
           ready = asks .ready;
+          costed = asks .costed;
           cellIn = omega (arith, same-cell, asks .cells i short);
           room = omega (arith, before .raised .same, asks .room);
           listed = before .raised .listed;

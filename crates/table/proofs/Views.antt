@@ -10,6 +10,7 @@ use lib.ListN.{getD}
 use Rattle.plan.proofs.Truth.{both, fst, snd, split}
 use Rattle.budget.proofs.Max.{only-true, only-false}
 use Rattle.rows.specs.Words.{Kept}
+use Rattle.rows.specs.Rows.{wordOf}
 use Rattle.costs.specs.Costs.{rowWords, bufferAt}
 use Rattle.rules.specs.Rules.{rulesOf}
 use Rattle.table.specs.declared.problem.Problem.{Problem}
@@ -30,11 +31,11 @@ module _ (n : ℕ) where
       only-false (ltb c n && ltb l rowWords) _ (λ t. f (ltb→lt c n (fst (ltb c n) _ t)) (ltb→lt l rowWords (snd (ltb c n) _ t)))
 
   pub arrival-at : (words : List ℕ) (l : ℕ) → l < rowWords → arrivalOf n words l ≡ getD words (n * 64 + l) 0
-  unfolding arrivalOf
+  unfolding wordOf
   arrival-at words l k = only-true (ltb l rowWords) _ (lt→ltb l rowWords k)
 
   pub arrival-outside : (words : List ℕ) (l : ℕ) → rowWords ≤ l → arrivalOf n words l ≡ 0
-  unfolding arrivalOf
+  unfolding wordOf
   arrival-outside words l h = only-false (ltb l rowWords) _ (λ t. omega (arith, ltb→lt l rowWords t))
 
   -- a place of the table, or outside it

@@ -9,22 +9,22 @@ use Rattle.timing.specs.declared.elements.Elements.{Elements}
 use Rattle.timing.specs.Formulas.{gateDelay, bufferDriver, bufferLoad}
 use Rattle.timing.specs.Valid.{Valid}
 use Rattle.budget.specs.Table.{only, maxBelow}
-use Rattle.costs.specs.declared.GateCosts.{GateCosts}
-use Rattle.costs.specs.Costs.{rowWords, bufferAt, BufferCostsOf}
+use Rattle.costs.specs.Costs.{rowWords, bufferAt, BufferRows, CostsOf}
 use Rattle.rows.specs.Rows.{viewOf}
 use Rattle.table.specs.declared.problem.Problem.{Problem}
 use Rattle.table.specs.Problem.{Ready, Room}
 
--- a cell of a plan that has passed the checks, and room for the scratch words
-pub record CellReady (p : Problem) (marks words : List ℕ) (cell : ℕ) : Type 0 where
+-- a cell of a plan that has passed the checks, the costs, and room for the scratch words
+pub record CellReady (p : Problem) (marks costs words : List ℕ) (cell : ℕ) : Type 0 where
   pub ready : Ready p marks
+  pub costed : CostsOf (p .elements) costs
   pub inside : cell < length marks
   pub room : Room (length marks) words
 
 -- checked tables with the buffers' costs, and two rows in the words, the cell's row of the table before the one at `to`
-pub record RowsReady (e : Elements) (costs : List GateCosts) (cell to : ℕ) (words : List ℕ) : Type 0 where
+pub record RowsReady (e : Elements) (costs : List ℕ) (cell to : ℕ) (words : List ℕ) : Type 0 where
   pub valid : Valid e
-  pub costed : BufferCostsOf e costs
+  pub costed : BufferRows e (e .count) costs
   pub before : cell * 64 + rowWords ≤ to
   pub inside : to + rowWords ≤ length words
 

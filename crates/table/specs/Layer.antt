@@ -1,34 +1,32 @@
 -- What one layer does to the scratch words.
-use Prim.Native.Nat.{ℕ, _+_, _*_, _≤_, _<_, max, min}
+use Prim.Native.Nat.{ℕ, _+_, _*_, _-_, _≤_, _<_, max, min}
 use mathlib.Core.Path.{_≡_}
 use mathlib.Core.Bool.{Bool, true}
 use mathlib.Core.Logic.{_⊎_}
 use mathlib.Core.List.{List}
-use lib.Dec.{T, ltb}
+use lib.Dec.{T}
 use lib.ListN.{length, getD}
-use Rattle.timing.specs.declared.elements.Wire.{Wire}
 use Rattle.rules.specs.Rules.{Rules}
 use Rattle.budget.specs.Table.{Table, only, arrival, given, layer}
-use Rattle.budget.specs.Sides.{gift, isSide}
+use Rattle.budget.specs.Sides.{isSide}
 use Rattle.rows.specs.Words.{Kept, KeptFrom}
-use Rattle.costs.specs.Costs.{rowWords}
+use Rattle.rows.specs.Rows.{wordOf, StepRow}
+use Rattle.costs.specs.Costs.{CostsOf}
 use Rattle.lists.specs.Lists.{flagOf, Listed}
 use Rattle.trail.specs.declared.Trail.{Trail}
 use Rattle.trail.specs.Trail.{Sound, History, Noted}
-use Rattle.timing.specs.Ranges.{loadMax}
-use Rattle.timing.specs.Elements.{WireInRange}
 use Rattle.table.specs.Problem.{Ready, Room, rulesFor, budgetOf, seedOf}
 use Rattle.table.specs.Colours.{Giver}
 use Rattle.table.specs.declared.problem.Problem.{Problem}
 use Rattle.table.specs.declared.pushes.Grown.{Grown}
 
 -- the arrival row in the words; 0 past the loads
-unfoldable pub arrivalOf : ℕ → List ℕ → ℕ → ℕ
-arrivalOf n words l = only (ltb l rowWords) (getD words (n * 64 + l) 0)
+abbrev pub arrivalOf : ℕ → List ℕ → ℕ → ℕ
+arrivalOf n words l = wordOf words (n * 64) l
 
--- what a step of this wire leaves of it
-abbrev pub rowGift : ℕ → List ℕ → Wire → ℕ → ℕ → ℕ
-rowGift n words wire limit l = gift wire limit (λ c. arrivalOf n words) 0 l
+-- what a step with the costs at `base` leaves of it
+abbrev pub rowGift : ℕ → List ℕ → List ℕ → ℕ → ℕ → ℕ → ℕ
+rowGift n words costs base step l = arrivalOf n words (l + step) - getD costs (base + l) 0
 
 -- the arrival rows of all cells, as the table in the words has them
 abbrev pub arrivals : Rules → ℕ → List ℕ → Table
@@ -95,24 +93,24 @@ pub record NotedRow (n cell : ℕ) (old : List ℕ) (t : Trail) (new : List ℕ)
   pub follows : Follows n t old r new
   pub noted : FlagsNoted n old t → Noted n new r cell
 
-pub record OfferAsks (n to : ℕ) (wire : Wire) (limit : ℕ) (next : Grown) (words : List ℕ) : Type 0 where
+pub record OfferAsks (n to : ℕ) (costs : List ℕ) (base step : ℕ) (next : Grown) (words : List ℕ) : Type 0 where
   pub toIn : to ≤ n
   pub few : n ≤ 1024
-  pub wireFits : WireInRange wire
-  pub light : limit ≤ loadMax
+  pub costed : StepRow costs base step
   pub room : Room n words
   pub listed : Listed n words (n * 133) (next .count)
   pub sound : Sound n words (next .trail)
 
 -- After `offer`: one neighbour's row is raised; the arrival row stays.
-pub record Offered (n to : ℕ) (wire : Wire) (limit : ℕ) (t : Trail) (old new : List ℕ) (next : Grown) : Type 0 where
+pub record Offered (n to : ℕ) (costs : List ℕ) (base step : ℕ) (t : Trail) (old new : List ℕ) (next : Grown) : Type 0 where
   pub raised : Raised n old new (next .count)
   pub follows : Follows n t old (next .trail) new
-  pub table : (c l : ℕ) → budgetOf n new c l ≡ max (budgetOf n old c l) (only (isSide n to c) (rowGift n old wire limit l))
+  pub table : (c l : ℕ) → budgetOf n new c l ≡ max (budgetOf n old c l) (only (isSide n to c) (rowGift n old costs base step l))
   pub arrival : (l : ℕ) → arrivalOf n new l ≡ arrivalOf n old l
 
-pub record SpreadAsks (p : Problem) (marks : List ℕ) (cell : ℕ) (next : Grown) (words : List ℕ) : Type 0 where
+pub record SpreadAsks (p : Problem) (marks costs : List ℕ) (cell : ℕ) (next : Grown) (words : List ℕ) : Type 0 where
   pub ready : Ready p marks
+  pub costed : CostsOf (p .elements) costs
   pub cellIn : cell < length marks
   pub room : Room (length marks) words
   pub listed : Listed (length marks) words (length marks * 133) (next .count)
@@ -125,8 +123,9 @@ pub record Spread (R : Rules) (n cell : ℕ) (t : Trail) (old new : List ℕ) (n
   pub table : (c l : ℕ) → budgetOf n new c l ≡ max (budgetOf n old c l) (given R (arrivals R n old) cell c l)
 
 -- no cell is flagged, and no wire joins two cells of the active list
-pub record SpreadAllAsks (p : Problem) (marks : List ℕ) (active : ℕ) (t : Trail) (words : List ℕ) : Type 0 where
+pub record SpreadAllAsks (p : Problem) (marks costs : List ℕ) (active : ℕ) (t : Trail) (words : List ℕ) : Type 0 where
   pub ready : Ready p marks
+  pub costed : CostsOf (p .elements) costs
   pub room : Room (length marks) words
   pub sound : Sound (length marks) words t
   pub unflagged : (c : ℕ) → c < length marks → flagOf (length marks) words c ≡ 0

@@ -9,7 +9,7 @@ use Rattle.plan.specs.Plan.{Plan, planOf, Sized}
 use Rattle.timing.specs.Valid.{Valid}
 use Rattle.rules.specs.Rules.{Rules, rulesOf}
 use Rattle.budget.specs.Table.{Table, only}
-use Rattle.costs.specs.Costs.{rowWords, CostsOf}
+use Rattle.costs.specs.Costs.{rowWords}
 use Rattle.rows.specs.Rows.{viewOf}
 use Rattle.table.specs.declared.problem.Problem.{Problem}
 
@@ -19,11 +19,10 @@ planFor p marks = planOf (p .width) (p .height) marks
 unfoldable pub rulesFor : Problem → List ℕ → Rules
 rulesFor p marks = rulesOf (planFor p marks) (p .elements) (p .source) (p .sink)
 
--- checks 1 to 5 have passed, and the costs are those of the elements
+-- checks 1 to 5 have passed
 pub record Ready (p : Problem) (marks : List ℕ) : Type 0 where
   pub sized : Sized (planFor p marks)
   pub valid : Valid (p .elements)
-  pub costs : CostsOf (p .elements) (p .costs)
   pub source : p .source < length marks
   pub sink : p .sink < length marks
 

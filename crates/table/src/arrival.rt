@@ -8,7 +8,11 @@ ghost use Rattle.costs.specs.Costs.{rowWords};
 ghost use Rattle.table.specs.Problem.{rulesFor, budgetOf, seedOf};
 ghost use Rattle.table.specs.ArrivalRow.{CellReady, RowsReady, takesBuffers, buffered};
 use crate::problem::Problem;
-use costs::GateCosts;
+use costs::BUFFERS;
+use costs::COSTS;
+use costs::NONE;
+use costs::REGISTER;
+use costs::ROW;
 use plan::is_blocked;
 use rows::copy_row;
 use rows::raise_row;
@@ -34,9 +38,9 @@ fn raise_buffers(
     cell: usize,
     to: usize,
     elements: Elements,
-    costs: [GateCosts; Elements::BUFFERS_MAX],
+    costs: &[u16; COSTS],
 )
-    requires { ⌜ RowsReady elements costs cell to (now scratch) ⌝ }
+    requires { ⌜ RowsReady elements (now costs) cell to (now scratch) ⌝ }
     ensures { λ _. ⌜ Filled (buffered (now (scratch .entry)) cell to elements (elements .count)) to rowWords (now (scratch .entry)) (now (scratch .exit)) ⌝ }
 {
     let limit = elements.limit.0 as usize;
@@ -47,29 +51,25 @@ fn raise_buffers(
         let load = buffer.load().0 as usize;
         if load <= limit {
             let top = view(scratch, cell, load);
-            let gate = costs[i];
-            raise_row(scratch, to, top, gate);
+            raise_row(scratch, to, top, costs, BUFFERS + i * ROW);
         }
         i += 1;
     }
 }
 
 // The arrival row of a cell, in the one row that there is for it.
-pub fn fill_arrival(plan: &[u8], scratch: &mut [u16], p: Problem, cell: usize)
-    requires { ⌜ CellReady p (now plan) (now scratch) cell ⌝ }
+pub fn fill_arrival(plan: &[u8], scratch: &mut [u16], p: Problem, costs: &[u16; COSTS], cell: usize)
+    requires { ⌜ CellReady p (now plan) (now costs) (now scratch) cell ⌝ }
     ensures { λ _. ⌜ Filled (arrival (rulesFor p (now (plan .entry))) (seedOf (length (now (plan .entry))) (now (scratch .entry))) (rulesFor p (now (plan .entry)) .bound 0) (budgetOf (length (now (plan .entry))) (now (scratch .entry))) cell) (length (now (plan .entry)) * 64) rowWords (now (scratch .entry)) (now (scratch .exit)) ⌝ }
 {
     let n = plan.len();
     let to = n * 64;
+    copy_row(scratch, cell, to, costs, NONE);
     let elements = p.elements;
-    let none = p.costs.none;
-    copy_row(scratch, cell, to, none);
     if takes_buffers(plan[cell], p, cell) {
-        let buffers = p.costs.buffers;
-        raise_buffers(scratch, cell, to, elements, buffers);
+        raise_buffers(scratch, cell, to, elements, costs);
     }
     if scratch[n * 135 + cell] == 1 {
-        let register = p.costs.register;
-        raise_row(scratch, to, 2 * elements.period + 1, register);
+        raise_row(scratch, to, 2 * elements.period + 1, costs, REGISTER);
     }
 }

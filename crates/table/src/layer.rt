@@ -2,6 +2,7 @@
 // It is made in place: no wire joins two active cells, so none of their rows changes.
 ghost use Prim.Native.Nat.{_+_, _*_, _≤_, _<_};
 ghost use lib.ListN.{length};
+ghost use Rattle.costs.specs.Costs.{CostsOf};
 ghost use Rattle.lists.specs.Lists.{Listed};
 ghost use Rattle.trail.specs.Trail.{Sound};
 ghost use Rattle.table.specs.Problem.{Ready, Room, rulesFor};
@@ -10,6 +11,7 @@ ghost use Rattle.table.specs.Layer.{FlagsCleared, Layered};
 use crate::problem::Problem;
 use crate::pushes::Grown;
 use crate::pushes::spread_all;
+use costs::COSTS;
 use lists::take_list;
 use trail::Trail;
 
@@ -32,15 +34,16 @@ pub fn next_layer(
     plan: &[u8],
     scratch: &mut [u16],
     p: Problem,
+    costs: &[u16; COSTS],
     active: usize,
     trail: Trail,
 ) -> Grown
-    requires { ⌜ Ready p (now plan) × (Room (length (now plan)) (now scratch) × (Listed (length (now plan)) (now scratch) (length (now plan) * 132) active × (Sound (length (now plan)) (now scratch) trail × Apart (rulesFor p (now plan)) (length (now plan)) (now scratch)))) ⌝ }
+    requires { ⌜ Ready p (now plan) × (Room (length (now plan)) (now scratch) × (Listed (length (now plan)) (now scratch) (length (now plan) * 132) active × (Sound (length (now plan)) (now scratch) trail × (Apart (rulesFor p (now plan)) (length (now plan)) (now scratch) × CostsOf (p .elements) (now costs))))) ⌝ }
     ensures { λ r. ⌜ Layered (rulesFor p (now (plan .entry))) (length (now (plan .entry))) trail (now (scratch .entry)) (now (scratch .exit)) r ⌝ }
 {
     let n = plan.len();
     clear_flags(scratch, n, active);
-    let next = spread_all(plan, scratch, p, active, trail);
+    let next = spread_all(plan, scratch, p, costs, active, trail);
     take_list(scratch, n, next.count);
     next
 }

@@ -1,5 +1,4 @@
-// A routing problem: the plan's sides, the ends, the checked tables and what they cost at each load. The marks are lent beside it.
-use costs::Costs;
+// A routing problem: the plan's sides, the ends and the checked tables. The marks are lent beside it, and what the tables cost at each load.
 use timing::Elements;
 
 pub struct Problem {
@@ -8,5 +7,4 @@ pub struct Problem {
     pub source: usize,
     pub sink: usize,
     pub elements: Elements,
-    pub costs: Costs,
 }

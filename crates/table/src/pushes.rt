@@ -1,13 +1,14 @@
 // What the active cells give to their neighbours.
 ghost use Prim.Native.Nat.{_+_, _*_, _<_};
 ghost use lib.ListN.{length};
-ghost use Rattle.costs.specs.Costs.{StepCostsOf};
 ghost use Rattle.table.specs.Problem.{rulesFor};
 ghost use Rattle.trail.specs.Trail.{TrailAsks};
 ghost use Rattle.table.specs.Layer.{NotedRow, Offered, OfferAsks, Spread, SpreadAsks, SpreadAll, SpreadAllAsks};
 use crate::arrival::fill_arrival;
 use crate::problem::Problem;
-use costs::StepCosts;
+use costs::COSTS;
+use costs::HORIZONTAL;
+use costs::VERTICAL;
 use lists::enlist;
 use plan::neighbours_of;
 use rows::grows;
@@ -33,19 +34,28 @@ fn note(scratch: &mut [u16], n: usize, cell: usize, trail: Trail) -> Trail
 }
 
 // One neighbour takes what the arrival row gives, if its row grows by it, and is then listed. The number n is no neighbour.
-fn offer(scratch: &mut [u16], n: usize, to: usize, costs: StepCosts, next: Grown) -> Grown
-    requires { ⌜ OfferAsks n to (costs .wire) (costs .limit) next (now scratch) × StepCostsOf (costs .wire) (costs .limit) costs ⌝ }
-    ensures { λ r. ⌜ Offered n to (costs .wire) (costs .limit) (next .trail) (now (scratch .entry)) (now (scratch .exit)) r ⌝ }
+// The costs of the step are at `base`.
+fn offer(
+    scratch: &mut [u16],
+    n: usize,
+    to: usize,
+    costs: &[u16; COSTS],
+    base: usize,
+    step: usize,
+    next: Grown,
+) -> Grown
+    requires { ⌜ OfferAsks n to (now costs) base step next (now scratch) ⌝ }
+    ensures { λ r. ⌜ Offered n to (now (costs .entry)) base step (next .trail) (now (scratch .entry)) (now (scratch .exit)) r ⌝ }
 {
     if to == n {
         return next;
     }
     let from = n * 64;
-    if !grows(scratch, from, to * 64, costs) {
+    if !grows(scratch, from, to * 64, costs, base, step) {
         return next;
     }
     let trail = note(scratch, n, to, next.trail);
-    push_row(scratch, from, to * 64, costs);
+    push_row(scratch, from, to * 64, costs, base, step);
     let count = enlist(scratch, n, n * 133, next.count, to);
     Grown {
         count: count,
@@ -54,19 +64,26 @@ fn offer(scratch: &mut [u16], n: usize, to: usize, costs: StepCosts, next: Grown
 }
 
 // The arrival row of the cell is made, and its four neighbours take what it gives.
-fn spread(plan: &[u8], scratch: &mut [u16], p: Problem, cell: usize, next: Grown) -> Grown
-    requires { ⌜ SpreadAsks p (now plan) cell next (now scratch) ⌝ }
+fn spread(
+    plan: &[u8],
+    scratch: &mut [u16],
+    p: Problem,
+    costs: &[u16; COSTS],
+    cell: usize,
+    next: Grown,
+) -> Grown
+    requires { ⌜ SpreadAsks p (now plan) (now costs) cell next (now scratch) ⌝ }
     ensures { λ r. ⌜ Spread (rulesFor p (now (plan .entry))) (length (now (plan .entry))) cell (next .trail) (now (scratch .entry)) (now (scratch .exit)) r ⌝ }
 {
     let n = plan.len();
-    fill_arrival(plan, scratch, p, cell);
+    fill_arrival(plan, scratch, p, costs, cell);
     let near = neighbours_of(plan, p.width, p.height, cell);
-    let horizontal = p.costs.horizontal;
-    let vertical = p.costs.vertical;
-    let a = offer(scratch, n, near.up, vertical, next);
-    let b = offer(scratch, n, near.left, horizontal, a);
-    let c = offer(scratch, n, near.right, horizontal, b);
-    offer(scratch, n, near.down, vertical, c)
+    let horizontal = p.elements.horizontal.load().0 as usize;
+    let vertical = p.elements.vertical.load().0 as usize;
+    let a = offer(scratch, n, near.up, costs, VERTICAL, vertical, next);
+    let b = offer(scratch, n, near.left, costs, HORIZONTAL, horizontal, a);
+    let c = offer(scratch, n, near.right, costs, HORIZONTAL, horizontal, b);
+    offer(scratch, n, near.down, costs, VERTICAL, vertical, c)
 }
 
 // The neighbours of the active cells take what these give.
@@ -74,10 +91,11 @@ pub fn spread_all(
     plan: &[u8],
     scratch: &mut [u16],
     p: Problem,
+    costs: &[u16; COSTS],
     active: usize,
     trail: Trail,
 ) -> Grown
-    requires { ⌜ SpreadAllAsks p (now plan) active trail (now scratch) ⌝ }
+    requires { ⌜ SpreadAllAsks p (now plan) (now costs) active trail (now scratch) ⌝ }
     ensures { λ r. ⌜ SpreadAll (rulesFor p (now (plan .entry))) (length (now (plan .entry))) active trail (now (scratch .entry)) (now (scratch .exit)) r ⌝ }
 {
     let n = plan.len();
@@ -88,7 +106,7 @@ pub fn spread_all(
     let mut i = 0;
     while i < active {
         let cell = scratch[n * 132 + i] as usize;
-        next = spread(plan, scratch, p, cell, next);
+        next = spread(plan, scratch, p, costs, cell, next);
         i += 1;
     }
     next

@@ -1,47 +1,73 @@
--- Each row from its maker.
+-- Row by row; what is put later lies behind.
 use mathlib.Core.Path.{_≡_}
+use native.Mathlib.Omega.{arith}
 use borrow.Author.Needs.{needs}
 use Rattle.timing.specs.Formulas.{registerDriver}
+use Rattle.costs.specs.Costs.{noneAt, registerAt, horizontalAt, verticalAt}
+use Rattle.costs.proofs.Put.{put-stays, put-costs, buffers-stay}
 use Rattle.costs.proofs.costs_of.Statement.{statement}
 use Rattle.costs.proofs.costs_of.Tie as tie
 
 cast-limit : tie.Need-cast-limit
 cast-limit c = search needs
 
+limit-row-requires : tie.Need-limit-row-requires
+limit-row-requires c κs = search needs
+
+put-row-requires : tie.Need-put-row-requires
+put-row-requires c κs = search needs
+
 driver-requires : tie.Need-driver-requires
 driver-requires c κs = search needs
 
-gate-costs-requires : tie.Need-gate-costs-requires
+gate-row-requires : tie.Need-gate-row-requires
 unfolding registerDriver
-gate-costs-requires c κs =
-    let start = c .before .before in
+gate-row-requires c κs =
+    let start = c .before .before .before .before in
     let driver : c .driver .result ≡ registerDriver (start .args .e .register) = c .driver .ensures in
     rw driver (start .pre .register .driver)
 
-buffer-costs-requires : tie.Need-buffer-costs-requires
-buffer-costs-requires c κs = search needs
+put-row-requires-2 : tie.Need-put-row-requires-2
+put-row-requires-2 c κs = search needs
 
-limit-costs-requires : tie.Need-limit-costs-requires
-limit-costs-requires c κs = search needs
+step-row-requires : tie.Need-step-row-requires
+step-row-requires c κs = search needs
 
-step-costs-requires : tie.Need-step-costs-requires
-step-costs-requires c κs = search needs
+put-row-requires-3 : tie.Need-put-row-requires-3
+put-row-requires-3 c κs = search needs
 
-step-costs-requires-2 : tie.Need-step-costs-requires-2
-step-costs-requires-2 c κs = search needs
+step-row-requires-2 : tie.Need-step-row-requires-2
+step-row-requires-2 c κs = search needs
+
+put-row-requires-4 : tie.Need-put-row-requires-4
+put-row-requires-4 c κs = search needs
+
+put-buffers-requires : tie.Need-put-buffers-requires
+put-buffers-requires c κs = search needs
 
 returns : tie.Need-returns
 unfolding registerDriver
 returns c =
-    let start = c .before .before .before .before .before .before .before in
-    let gate = c .before .before .before .before in
-    let driver : gate .before .driver .result ≡ registerDriver (start .args .e .register) = gate .before .driver .ensures in
+    let four = c .before in
+    let three = four .before .before in
+    let two = three .before .before in
+    let one = two .before .before .before in
+    let start = one .before .before .before in
+    let driver : two .before .before .driver .result ≡ registerDriver (start .args .e .register) = two .before .before .driver .ensures in
+    let last = c .put-buffers .ensures in
     record {
-      none = c .before .before .limit-costs .ensures;
-      horizontal = c .before .step-costs .ensures;
-      vertical = c .step-costs2 .ensures;
-      register = rw driver at (gate .gate-costs .ensures);
-      buffers = c .before .before .before .buffer-costs .ensures;
+      none =
+          buffers-stay last noneAt (omega arith)
+          (put-stays (four .put-row4 .ensures) noneAt (omega arith)
+          (put-stays (three .put-row3 .ensures) noneAt (omega arith)
+          (put-stays (two .put-row2 .ensures) noneAt (omega arith) (put-costs (one .put-row .ensures) (one .before .limit-row .ensures)))));
+      register =
+          buffers-stay last registerAt (omega arith)
+          (put-stays (four .put-row4 .ensures) registerAt (omega arith)
+          (put-stays (three .put-row3 .ensures) registerAt (omega arith) (put-costs (two .put-row2 .ensures) (rw driver at (two .before .gate-row .ensures)))));
+      horizontal = buffers-stay last horizontalAt (omega arith) (put-stays (four .put-row4 .ensures) horizontalAt (omega arith) (put-costs (three .put-row3 .ensures) (three .before .step-row .ensures)));
+      vertical = buffers-stay last verticalAt (omega arith) (put-costs (four .put-row4 .ensures) (four .before .step-row2 .ensures));
+      buffers = last .done;
     }
 
 pub costs-of-spec : {M : Type 1} → statement M
@@ -49,10 +75,14 @@ costs-of-spec =
     tie.close
     (tie.spec
     cast-limit
+    limit-row-requires
+    put-row-requires
     driver-requires
-    gate-costs-requires
-    buffer-costs-requires
-    limit-costs-requires
-    step-costs-requires
-    step-costs-requires-2
+    gate-row-requires
+    put-row-requires-2
+    step-row-requires
+    put-row-requires-3
+    step-row-requires-2
+    put-row-requires-4
+    put-buffers-requires
     returns)

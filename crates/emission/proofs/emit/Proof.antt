@@ -20,12 +20,12 @@ use Rattle.emission.proofs.emit.Statement.{statement}
 use Rattle.emission.proofs.emit.Tie as tie
 
 abbrev Inv-loop : tie.InvT-loop
-Inv-loop plan scratch₀ p count registers steps visits₀ sink at₀ layers₀ i₀ scratch visits at layers i =
+Inv-loop plan scratch₀ p costs count registers steps visits₀ sink at₀ layers₀ i₀ scratch visits at layers i =
     (v : List ℕ) → visits₀ ≡ set (set v 0 (p .sink)) 1 registerCode → 2 * (steps + 1) ≤ length v →
     Emitting (rulesFor p plan) (length plan) registers steps count scratch₀ scratch v visits at layers i
 
 abbrev μ-loop : tie.MeasureT-loop
-μ-loop plan scratch₀ p count registers steps visits₀ sink at₀ layers₀ i₀ scratch visits at layers i = at .steps
+μ-loop plan scratch₀ p costs count registers steps visits₀ sink at₀ layers₀ i₀ scratch visits at layers i = at .steps
 
 -- the entry, and what the loop keeps at its head
 
@@ -73,7 +73,7 @@ sub-load-layer c = omega (arith, c .before .before .if1 .taken)
 load-layer-requires : tie.Need-load-layer-requires Inv-loop μ-loop
 load-layer-requires c κs =
     let a = c .before .before .before .before in
-    record { ready = start a .pre .ready; room = omega (arith, start a .pre .room, head a .same); held = head a .held; inStep = label-in-step (head a .labels) }
+    record { ready = start a .pre .ready; costed = start a .pre .costed; room = omega (arith, start a .pre .room, head a .same); held = head a .held; inStep = label-in-step (head a .labels) }
 
 choose-requires : tie.Need-choose-requires Inv-loop μ-loop
 choose-requires c κs =

@@ -1,28 +1,29 @@
 -- The words before load l are filled; the row read lies before them, so it is as it was.
 use Prim.Native.Nat.{_+_, _*_, _-_, _≤_}
 use mathlib.Core.Path.{_≡_, _∙_}
-use lib.ListN.{getD}
 use native.Mathlib.Omega.{arith}
 use borrow.Author.Needs.{needs}
 use Rattle.costs.specs.Costs.{rowWords}
 use Rattle.rows.specs.Words.{Filled}
 use Rattle.rows.specs.Rows.{copied}
 use Rattle.rows.proofs.Words.{filled-none, filled-more}
-use Rattle.rows.proofs.Leaves.{limit-leaves}
 use Rattle.rows.proofs.copy_row.Statement.{statement}
 use Rattle.rows.proofs.copy_row.Tie as tie
 
 abbrev Inv-loop : tie.InvT-loop
-Inv-loop scratch₀ cell to costs l₀ scratch l = (l ≤ rowWords) × Filled (copied scratch₀ cell (costs .limit)) to l scratch₀ scratch
+Inv-loop scratch₀ cell to costs base l₀ scratch l = (l ≤ rowWords) × Filled (copied scratch₀ cell costs base) to l scratch₀ scratch
 
 abbrev μ-loop : tie.MeasureT-loop
-μ-loop scratch₀ cell to costs l₀ scratch l = rowWords - l
+μ-loop scratch₀ cell to costs base l₀ scratch l = rowWords - l
 
 loop-holds : tie.Need-loop-holds Inv-loop μ-loop
 loop-holds c = (omega arith, filled-none _ _ _)
 
 view-requires : tie.Need-view-requires Inv-loop μ-loop
 view-requires c κs = (omega arith, omega arith)
+
+add-above : tie.Need-add-above Inv-loop μ-loop
+add-above c = omega arith
 
 mul-above : tie.Need-mul-above Inv-loop μ-loop
 mul-above c = omega arith
@@ -48,15 +49,13 @@ add-l c = omega arith
 loop-less : tie.Need-loop-less Inv-loop μ-loop
 loop-less c = omega arith
 
-written : (c : tie.After-above Inv-loop μ-loop) → let a = c .before .before .before .before .before .before .before .args in c .above .result ≡ copied (a .scratch .now) (a .cell) (a .t4 .limit) (c .before .before .before .before .before .loop .l)
+written : (c : tie.After-above Inv-loop μ-loop) → let a = c .before .before .before .before .before .before .before .args in c .above .result ≡ copied (a .scratch .now) (a .cell) (a .costs .now) (a .base) (c .before .before .before .before .before .loop .l)
 unfolding copied
 written c =
-    let start = c .before .before .before .before .before .before .before in
-    let a = start .args in
-    let l = c .before .before .before .before .before .loop .l in
-    let word = c .before .before .view .ensures ∙ c .before .before .before .before .before .loop .inv .1 .low (a .cell * 64 + l) (omega arith) in
-    let cost = start .pre .0 .row l (omega arith) in
-    cc (c .above .ensures, word, cost, limit-leaves (a .t4 .limit) l (getD (a .scratch .now) (a .cell * 64 + l) 0) (omega (arith, c .before .before .before .before .before .before .slice-known .given (a .cell * 64 + l))))
+    let a = c .before .before .before .before .before .before .before .args in
+    let loop = c .before .before .before .before .before .loop in
+    let word = c .before .before .view .ensures ∙ loop .inv .1 .low (a .cell * 64 + loop .l) (omega arith) in
+    cc (c .above .ensures, word)
 
 loop-again : tie.Need-loop-again Inv-loop μ-loop
 loop-again c = (omega arith, filled-more (c .before .before .before .before .before .loop .inv .1) _ (omega arith) (written c))
@@ -77,6 +76,7 @@ copy-row-spec =
     μ-loop
     loop-holds
     view-requires
+    add-above
     mul-above
     element-copy-out-above
     above-requires

@@ -5,7 +5,6 @@ use native.Mathlib.Numerals.{add-one}
 use native.Mathlib.Omega.{arith}
 use borrow.Author.Needs.{needs}
 use borrow.Author.Tests.{ltb-true, ltb-false}
-use Rattle.timing.specs.Formulas.{wireLoad}
 use Rattle.budget.specs.Table.{maxBelow}
 use Rattle.costs.specs.Costs.{rowWords}
 use Rattle.rows.proofs.Rows.{growth, growth-is, row-grows, row-stays}
@@ -13,16 +12,10 @@ use Rattle.rows.proofs.grows.Statement.{statement}
 use Rattle.rows.proofs.grows.Tie as tie
 
 abbrev Inv-loop : tie.InvT-loop
-Inv-loop scratch from to costs step grown₀ l₀ grown l = (l ≤ rowWords) × (grown ≡ maxBelow l (growth scratch from to (costs .wire) (costs .limit)))
+Inv-loop scratch from to costs base step grown₀ l₀ grown l = (l ≤ rowWords) × (grown ≡ maxBelow l (growth scratch from to costs base step))
 
 abbrev μ-loop : tie.MeasureT-loop
-μ-loop scratch from to costs step grown₀ l₀ grown l = rowWords - l
-
-load-requires : tie.Need-load-requires Inv-loop μ-loop
-load-requires c κs = search needs
-
-cast-step : tie.Need-cast-step Inv-loop μ-loop
-cast-step c = omega arith
+μ-loop scratch from to costs base step grown₀ l₀ grown l = rowWords - l
 
 loop-holds : tie.Need-loop-holds Inv-loop μ-loop
 unfolding maxBelow
@@ -38,10 +31,10 @@ mul-above : tie.Need-mul-above Inv-loop μ-loop
 mul-above c = omega arith
 
 shared-slice-read-above : tie.Need-shared-slice-read-above Inv-loop μ-loop
-unfolding wireLoad
-shared-slice-read-above c =
-    let start = c .before .before .before .before .before .before .before in
-    omega (arith, c .before .before .before .before .load .ensures, start .pre .0 .load)
+shared-slice-read-above c = omega arith
+
+add-above-3 : tie.Need-add-above-3 Inv-loop μ-loop
+add-above-3 c = omega arith
 
 mul-above-2 : tie.Need-mul-above-2 Inv-loop μ-loop
 mul-above-2 c = omega arith
@@ -52,8 +45,8 @@ element-copy-out-above c = omega arith
 above-requires : tie.Need-above-requires Inv-loop μ-loop
 above-requires c κs = search needs
 
-add-above-3 : tie.Need-add-above-3 Inv-loop μ-loop
-add-above-3 c = omega arith
+add-above-4 : tie.Need-add-above-4 Inv-loop μ-loop
+add-above-4 c = omega arith
 
 mul-above-3 : tie.Need-mul-above-3 Inv-loop μ-loop
 mul-above-3 c = omega arith
@@ -76,15 +69,13 @@ loop-less c = omega arith
 loop-again : tie.Need-loop-again Inv-loop μ-loop
 unfolding maxBelow
 loop-again c =
-    let start = c .before .before .before .before .before .before .before .before .before .before .before .before in
+    let start = c .before .before .before .before .before .before .before .before .before in
     let a = start .args in
     let loop = c .before .before .before .before .before .before .before .loop in
-    let load = c .before .before .before .before .before .before .before .before .before .load in
     let l = loop .l in
-    let cost = start .pre .1 .0 .row l (omega arith) in
-    let known = c .before .before .before .before .before .before .before .before .before .before .before .shared-slice-known .given (a .from + (l + wireLoad (a .t4 .wire))) in
-    let more = growth-is (a .scratch .now) (a .from) (a .to) (a .t4 .wire) (a .t4 .limit) l (omega (arith, known)) in
-    (omega arith, rw (add-one, maxBelow) (cc (c .larger .ensures, c .before .above2 .ensures, c .before .before .before .above .ensures, loop .inv .1, cost, load .ensures, more)))
+    let known = c .before .before .before .before .before .before .before .before .shared-slice-known .given (a .from + (l + a .step)) in
+    let more = growth-is (a .scratch .now) (a .from) (a .to) (a .costs .now) (a .base) (a .step) (start .pre .0) l (omega arith) (omega (arith, known)) in
+    (omega arith, rw (add-one, maxBelow) (cc (c .larger .ensures, c .before .above2 .ensures, c .before .before .before .above .ensures, loop .inv .1, more)))
 
 returns : tie.Need-returns Inv-loop μ-loop
 returns c =
@@ -92,8 +83,8 @@ returns c =
     let end : loop .l ≡ rowWords = omega arith in
     let grown = rw end at (loop .inv .1) in
     record {
-      some = λ e. row-grows _ _ _ _ _ (rw grown at (ltb-true 0 (loop .grown) e));
-      none = λ e. row-stays _ _ _ _ _ (omega (arith, grown, ltb-false 0 (loop .grown) e));
+      some = λ e. row-grows _ _ _ _ _ _ (rw grown at (ltb-true 0 (loop .grown) e));
+      none = λ e. row-stays _ _ _ _ _ _ (omega (arith, grown, ltb-false 0 (loop .grown) e));
     }
 
 pub grows-spec : {M : Type 1} → statement M
@@ -102,17 +93,16 @@ grows-spec =
     (tie.spec
     Inv-loop
     μ-loop
-    load-requires
-    cast-step
     loop-holds
     add-above
     add-above-2
     mul-above
     shared-slice-read-above
+    add-above-3
     mul-above-2
     element-copy-out-above
     above-requires
-    add-above-3
+    add-above-4
     mul-above-3
     shared-slice-read-above-2
     above-requires-2

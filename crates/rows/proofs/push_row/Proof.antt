@@ -1,9 +1,8 @@
--- The words before load l are filled; what is read lies after them, so it is as it was.
+-- The words before load l are filled; the word at l and the row read, which lies after them, are as they were.
 use Prim.Native.Nat.{_+_, _-_, _≤_}
 use mathlib.Core.Path.{_≡_}
 use native.Mathlib.Omega.{arith}
 use borrow.Author.Needs.{needs}
-use Rattle.timing.specs.Formulas.{wireLoad}
 use Rattle.costs.specs.Costs.{rowWords}
 use Rattle.rows.specs.Words.{Filled}
 use Rattle.rows.specs.Rows.{pushed}
@@ -13,16 +12,10 @@ use Rattle.rows.proofs.push_row.Statement.{statement}
 use Rattle.rows.proofs.push_row.Tie as tie
 
 abbrev Inv-loop : tie.InvT-loop
-Inv-loop scratch₀ from to costs step l₀ scratch l = (l ≤ rowWords) × Filled (pushed scratch₀ from to (costs .wire) (costs .limit)) to l scratch₀ scratch
+Inv-loop scratch₀ from to costs base step l₀ scratch l = (l ≤ rowWords) × Filled (pushed scratch₀ from to costs base step) to l scratch₀ scratch
 
 abbrev μ-loop : tie.MeasureT-loop
-μ-loop scratch₀ from to costs step l₀ scratch l = rowWords - l
-
-load-requires : tie.Need-load-requires Inv-loop μ-loop
-load-requires c κs = search needs
-
-cast-step : tie.Need-cast-step Inv-loop μ-loop
-cast-step c = omega arith
+μ-loop scratch₀ from to costs base step l₀ scratch l = rowWords - l
 
 loop-holds : tie.Need-loop-holds Inv-loop μ-loop
 loop-holds c = (omega arith, filled-none _ _ _)
@@ -46,10 +39,10 @@ mul-above : tie.Need-mul-above Inv-loop μ-loop
 mul-above c = omega arith
 
 slice-read-above : tie.Need-slice-read-above Inv-loop μ-loop
-unfolding wireLoad
-slice-read-above c =
-    let start = c .before .before .before .before .before .before .before .before in
-    omega (arith, c .before .before .before .before .before .load .ensures, start .pre .0 .load)
+slice-read-above c = omega arith
+
+add-above-3 : tie.Need-add-above-3 Inv-loop μ-loop
+add-above-3 c = omega arith
 
 mul-above-2 : tie.Need-mul-above-2 Inv-loop μ-loop
 mul-above-2 c = omega arith
@@ -78,18 +71,16 @@ add-l c = omega arith
 loop-less : tie.Need-loop-less Inv-loop μ-loop
 loop-less c = omega arith
 
-written : (c : tie.After-larger Inv-loop μ-loop) → let a = c .before .before .before .before .before .before .before .before .before .before .before .args in c .larger .result ≡ pushed (a .scratch .now) (a .from) (a .to) (a .t4 .wire) (a .t4 .limit) (c .before .before .before .before .before .before .loop .l)
+written : (c : tie.After-larger Inv-loop μ-loop) → let a = c .before .before .before .before .before .before .before .before .args in c .larger .result ≡ pushed (a .scratch .now) (a .from) (a .to) (a .costs .now) (a .base) (a .step) (c .before .before .before .before .before .before .loop .l)
 written c =
-    let start = c .before .before .before .before .before .before .before .before .before .before .before in
+    let start = c .before .before .before .before .before .before .before .before in
     let a = start .args in
     let loop = c .before .before .before .before .before .before .loop in
-    let load = c .before .before .before .before .before .before .before .before .load in
     let l = loop .l in
     let old = loop .inv .1 .high (a .to + l) (omega arith) in
-    let arrival = loop .inv .1 .high (a .from + (l + load .result .0)) (omega arith) in
-    let cost = start .pre .1 .0 .row l (omega arith) in
-    let known = c .before .before .before .before .before .before .before .before .before .before .slice-known .given (a .from + (l + wireLoad (a .t4 .wire))) in
-    cc (c .larger .ensures, c .before .above .ensures, old, arrival, cost, load .ensures, pushed-is (a .scratch .now) (a .from) (a .to) (a .t4 .wire) (a .t4 .limit) l (omega (arith, known)))
+    let read = loop .inv .1 .high (a .from + (l + a .step)) (omega arith) in
+    let known = c .before .before .before .before .before .before .before .slice-known .given (a .from + (l + a .step)) in
+    cc (c .larger .ensures, c .before .above .ensures, old, read, pushed-is (a .scratch .now) (a .from) (a .to) (a .costs .now) (a .base) (a .step) (start .pre .0) l (omega arith) (omega (arith, known)))
 
 loop-again : tie.Need-loop-again Inv-loop μ-loop
 loop-again c = (omega arith, filled-more (c .before .before .before .before .before .before .loop .inv .1) _ (omega arith) (written c))
@@ -108,8 +99,6 @@ push-row-spec =
     (tie.spec
     Inv-loop
     μ-loop
-    load-requires
-    cast-step
     loop-holds
     add-old
     mul-old
@@ -118,6 +107,7 @@ push-row-spec =
     add-above-2
     mul-above
     slice-read-above
+    add-above-3
     mul-above-2
     element-copy-out-above
     above-requires

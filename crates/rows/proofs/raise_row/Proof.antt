@@ -1,22 +1,20 @@
 -- The words before load l are filled; the word at l is as it was when it is read.
 use Prim.Native.Nat.{_+_, _-_, _≤_}
 use mathlib.Core.Path.{_≡_}
-use lib.ListN.{getD}
 use native.Mathlib.Omega.{arith}
 use borrow.Author.Needs.{needs}
 use Rattle.costs.specs.Costs.{rowWords}
 use Rattle.rows.specs.Words.{Filled}
 use Rattle.rows.specs.Rows.{raised}
 use Rattle.rows.proofs.Words.{filled-none, filled-more}
-use Rattle.rows.proofs.Leaves.{gate-leaves}
 use Rattle.rows.proofs.raise_row.Statement.{statement}
 use Rattle.rows.proofs.raise_row.Tie as tie
 
 abbrev Inv-loop : tie.InvT-loop
-Inv-loop scratch₀ at top costs l₀ scratch l = (l ≤ rowWords) × Filled (raised scratch₀ at top (costs .driver) (costs .limit)) at l scratch₀ scratch
+Inv-loop scratch₀ at top costs base l₀ scratch l = (l ≤ rowWords) × Filled (raised scratch₀ at top costs base) at l scratch₀ scratch
 
 abbrev μ-loop : tie.MeasureT-loop
-μ-loop scratch₀ at top costs l₀ scratch l = rowWords - l
+μ-loop scratch₀ at top costs base l₀ scratch l = rowWords - l
 
 loop-holds : tie.Need-loop-holds Inv-loop μ-loop
 loop-holds c = (omega arith, filled-none _ _ _)
@@ -29,6 +27,9 @@ mul-old c = omega arith
 
 slice-read-old : tie.Need-slice-read-old Inv-loop μ-loop
 slice-read-old c = omega arith
+
+add-above : tie.Need-add-above Inv-loop μ-loop
+add-above c = omega arith
 
 mul-above : tie.Need-mul-above Inv-loop μ-loop
 mul-above c = omega arith
@@ -57,15 +58,13 @@ add-l c = omega arith
 loop-less : tie.Need-loop-less Inv-loop μ-loop
 loop-less c = omega arith
 
-written : (c : tie.After-larger Inv-loop μ-loop) → let a = c .before .before .before .before .before .before .before .args in c .larger .result ≡ raised (a .scratch .now) (a .at) (a .top) (a .t4 .driver) (a .t4 .limit) (c .before .before .before .before .before .loop .l)
+written : (c : tie.After-larger Inv-loop μ-loop) → let a = c .before .before .before .before .before .before .before .args in c .larger .result ≡ raised (a .scratch .now) (a .at) (a .top) (a .costs .now) (a .base) (c .before .before .before .before .before .loop .l)
 unfolding raised
 written c =
-    let start = c .before .before .before .before .before .before .before in
-    let a = start .args in
-    let l = c .before .before .before .before .before .loop .l in
-    let old = c .before .before .before .before .before .loop .inv .1 .high (a .at + l) (omega arith) in
-    let cost = start .pre .0 .row l (omega arith) in
-    cc (c .larger .ensures, c .before .above .ensures, old, cost, gate-leaves (a .t4 .driver) (a .t4 .limit) l (getD (a .scratch .now) (a .at + l) 0) (a .top) (omega arith))
+    let a = c .before .before .before .before .before .before .before .args in
+    let loop = c .before .before .before .before .before .loop in
+    let old = loop .inv .1 .high (a .at + loop .l) (omega arith) in
+    cc (c .larger .ensures, c .before .above .ensures, old)
 
 loop-again : tie.Need-loop-again Inv-loop μ-loop
 loop-again c = (omega arith, filled-more (c .before .before .before .before .before .loop .inv .1) _ (omega arith) (written c))
@@ -88,6 +87,7 @@ raise-row-spec =
     add-old
     mul-old
     slice-read-old
+    add-above
     mul-above
     element-copy-out-above
     above-requires

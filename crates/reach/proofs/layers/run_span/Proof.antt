@@ -34,11 +34,11 @@ Turning p marks count cell registers steps old words u active at end trail =
     Current (rulesFor p marks) (length marks) registers (inside p cell steps) old words u active at end count × Trailing (rulesFor p marks) (length marks) registers (inside p cell steps) old words u trail
 
 abbrev Inv-loop : tie.InvT-loop
-Inv-loop plan scratch₀ p count cell registers steps n span u₀ at₀ active₀ trail₀ scratch u at active trail =
+Inv-loop plan scratch₀ p costs count cell registers steps n span u₀ at₀ active₀ trail₀ scratch u at active trail =
     (u ≤ steps) × ((old : List ℕ) → Started (rulesFor p plan) (length plan) registers old scratch₀ active₀ at₀ (span .end) count → Turning p plan count cell registers steps old scratch u active at (span .end) trail)
 
 abbrev μ-loop : tie.MeasureT-loop
-μ-loop plan scratch₀ p count cell registers steps n span u₀ at₀ active₀ trail₀ scratch u at active trail = steps - u
+μ-loop plan scratch₀ p costs count cell registers steps n span u₀ at₀ active₀ trail₀ scratch u at active trail = steps - u
 
 -- the entry, the problem's rules and cells, and the end of the span's labels
 
@@ -127,7 +127,7 @@ next-layer-requires : tie.Need-next-layer-requires Inv-loop μ-loop
 next-layer-requires c κs =
     let a = c .before .before .before .before in
     let f = head a .0 .reaching in
-    (start a .pre .ready, (omega (arith, f .same, start a .pre .room), (f .list .listed, (rw (c .stamped .ensures) (trail-sound (R a) _ _ _ _ _ _ _ (head a .1)), coloured-apart (problem-colouring (start a .args .p) (start a .args .plan .now)) (f .coloured)))))
+    (start a .pre .ready, (omega (arith, f .same, start a .pre .room), (f .list .listed, (rw (c .stamped .ensures) (trail-sound (R a) _ _ _ _ _ _ _ (head a .1)), (coloured-apart (problem-colouring (start a .args .p) (start a .args .plan .now)) (f .coloured), start a .pre .costed)))))
 
 add-u : tie.Need-add-u Inv-loop μ-loop
 add-u c =

@@ -70,32 +70,30 @@ costs-of-requires c κs =
 route-ready-requires : tie.Need-route-ready-requires
 unfolding cellsAsked
 route-ready-requires c κs =
-    let a = c .before .before .before .before .before .before .before .before .before .before .before .before .before .args in
+    let a = c .before .before .before .before .before .before .before .before .before .before .before .before .before .before .args in
     let q = questionOf (a .plan .now) (a .width) (a .height) (a .tables) (a .list) (a .source) (a .sink) in
-    let valid = c .before .before .before .before .before .before .before .before .before .before .before .before .before .pre in
-    let clean = (sym (tables-fault (a .tables) (a .list)) ∙ sym (ap (λ (x : TablesCheck). x .fault) (c .before .before .before .before .before .before .before .before .before .check-tables .ensures))) ∙ c .before .before .before .before .before .before .before .enum-told .given .1 in
-    let apart = sym (c .before .before .before .before .before .before .ends-fault .ensures) ∙ c .before .before .before .before .before .if1 .left in
-    let e = ap (λ (x : TablesCheck). x .elements) (c .before .before .before .before .before .before .before .before .before .check-tables .ensures ∙ tables-clean (a .tables) (a .list) clean) in
-    let costed = rw e at (c .before .before .costs-of .ensures) in
-    (rw e (ready q (a .scratch .now) (a .visits .now) valid clean apart _ costed), passed-room q (a .scratch .now) (a .visits .now) valid clean apart _ costed (c .before .before .before .before .if2 .left))
+    let valid = c .before .before .before .before .before .before .before .before .before .before .before .before .before .before .pre in
+    let clean = (sym (tables-fault (a .tables) (a .list)) ∙ sym (ap (λ (x : TablesCheck). x .fault) (c .before .before .before .before .before .before .before .before .before .before .check-tables .ensures))) ∙ c .before .before .before .before .before .before .before .before .enum-told .given .1 in
+    let apart = sym (c .before .before .before .before .before .before .before .ends-fault .ensures) ∙ c .before .before .before .before .before .before .if1 .left in
+    let e = ap (λ (x : TablesCheck). x .elements) (c .before .before .before .before .before .before .before .before .before .before .check-tables .ensures ∙ tables-clean (a .tables) (a .list) clean) in
+    (rw e (ready q (a .scratch .now) (a .visits .now) valid clean apart), (passed-room q (a .scratch .now) (a .visits .now) valid clean apart (c .before .before .before .before .before .if2 .left), c .before .before .before .costs-of .ensures))
 
 same-length : tie.Need-same-length
 same-length c = c .before .before .before .before .route-ready .kept .1 .0
 
 same-length-2 : tie.Need-same-length-2
-same-length-2 c = c .before .before .before .before .route-ready .kept .1 .1 .1 .0
+same-length-2 c = c .before .before .before .before .route-ready .kept .1 .1 .1 .1 .0
 
 returns-4 : tie.Need-returns-4
 unfolding cellsAsked
 returns-4 c =
-    let a = c .before .before .before .before .before .before .before .before .before .before .before .before .before .before .before .before .before .before .args in
+    let a = c .before .before .before .before .before .before .before .before .before .before .before .before .before .before .before .before .before .before .before .args in
     let q = questionOf (a .plan .now) (a .width) (a .height) (a .tables) (a .list) (a .source) (a .sink) in
-    let valid = c .before .before .before .before .before .before .before .before .before .before .before .before .before .before .before .before .before .before .pre in
-    let clean = (sym (tables-fault (a .tables) (a .list)) ∙ sym (ap (λ (x : TablesCheck). x .fault) (c .before .before .before .before .before .before .before .before .before .before .before .before .before .before .check-tables .ensures))) ∙ c .before .before .before .before .before .before .before .before .before .before .before .before .enum-told .given .1 in
-    let apart = sym (c .before .before .before .before .before .before .before .before .before .before .before .ends-fault .ensures) ∙ c .before .before .before .before .before .before .before .before .before .before .if1 .left in
-    let e = ap (λ (x : TablesCheck). x .elements) (c .before .before .before .before .before .before .before .before .before .before .before .before .before .before .check-tables .ensures ∙ tables-clean (a .tables) (a .list) clean) in
-    let costed = rw e at (c .before .before .before .before .before .before .before .costs-of .ensures) in
-    routed q _ _ valid clean apart _ costed (c .before .before .before .before .before .before .before .before .before .if2 .left) _ _ _ (rw e at (c .before .before .before .before .route-ready .ensures))
+    let valid = c .before .before .before .before .before .before .before .before .before .before .before .before .before .before .before .before .before .before .before .pre in
+    let clean = (sym (tables-fault (a .tables) (a .list)) ∙ sym (ap (λ (x : TablesCheck). x .fault) (c .before .before .before .before .before .before .before .before .before .before .before .before .before .before .before .check-tables .ensures))) ∙ c .before .before .before .before .before .before .before .before .before .before .before .before .before .enum-told .given .1 in
+    let apart = sym (c .before .before .before .before .before .before .before .before .before .before .before .before .ends-fault .ensures) ∙ c .before .before .before .before .before .before .before .before .before .before .before .if1 .left in
+    let e = ap (λ (x : TablesCheck). x .elements) (c .before .before .before .before .before .before .before .before .before .before .before .before .before .before .before .check-tables .ensures ∙ tables-clean (a .tables) (a .list) clean) in
+    routed q _ _ valid clean apart (c .before .before .before .before .before .before .before .before .before .before .if2 .left) _ _ _ (rw e at (c .before .before .before .before .route-ready .ensures))
 
 pub after-plan-spec : {M : Type 1} → statement M
 after-plan-spec = tie.close (tie.spec check-tables-requires enum-known-fault returns enum-told mul-cells ends-fault-requires returns-2 cast-if2 mul-if2 returns-3 costs-of-requires route-ready-requires same-length same-length-2 returns-4)

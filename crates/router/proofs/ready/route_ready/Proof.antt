@@ -16,22 +16,22 @@ mul-clear : tie.Need-mul-clear
 mul-clear c = omega (arith, few-cells _ _ (c .before .before .before .before .pre .0))
 
 clear-requires : tie.Need-clear-requires
-clear-requires c κs = (omega arith, c .before .before .before .before .pre .1)
+clear-requires c κs = (omega arith, c .before .before .before .before .pre .1 .0)
 
 search-requires : tie.Need-search-requires
-search-requires c κs = (c .before .before .before .before .before .before .before .before .pre .0, (omega (arith, c .before .before .before .before .before .before .before .before .pre .1, c .before .before .before .clear .ensures .same), λ i h. let e : 0 + i ≡ i = omega arith in rw e at (c .before .before .before .clear .ensures .done i (omega arith))))
+search-requires c κs = (c .before .before .before .before .before .before .before .before .pre .0, (omega (arith, c .before .before .before .before .before .before .before .before .pre .1 .0, c .before .before .before .clear .ensures .same), ((λ i h. let e : 0 + i ≡ i = omega arith in rw e at (c .before .before .before .clear .ensures .done i (omega arith))), c .before .before .before .before .before .before .before .before .pre .1 .1)))
 
 enum-known-reached : tie.Need-enum-known-reached
 enum-known-reached c = search needs
 
 write-route-requires : tie.Need-write-route-requires
-write-route-requires c κs = (c .before .before .before .before .before .before .before .before .before .before .before .before .before .before .before .before .pre .0, (omega (arith, c .before .before .before .before .before .before .before .before .before .before .before .before .before .before .before .before .pre .1, c .before .before .before .before .before .before .before .before .before .before .before .clear .ensures .same, c .before .before .before .before .before .before .before .search .ensures .same), reached-sink (c .before .before .before .before .before .before .before .search .ensures .done) _ _ _ (c .before .before .before .reached .given .1)))
+write-route-requires c κs = (c .before .before .before .before .before .before .before .before .before .before .before .before .before .before .before .before .pre .0, (omega (arith, c .before .before .before .before .before .before .before .before .before .before .before .before .before .before .before .before .pre .1 .0, c .before .before .before .before .before .before .before .before .before .before .before .clear .ensures .same, c .before .before .before .before .before .before .before .search .ensures .same), (reached-sink (c .before .before .before .before .before .before .before .search .ensures .done) _ _ _ (c .before .before .before .reached .given .1), c .before .before .before .before .before .before .before .before .before .before .before .before .before .before .before .before .pre .1 .1)))
 
 same-length : tie.Need-same-length
 same-length c = c .before .before .before .before .write-route .kept .1 .0 ∙ (c .before .before .before .before .before .before .before .before .before .before .before .before .search .ensures .same ∙ c .before .before .before .before .before .before .before .before .before .before .before .before .before .before .before .before .clear .ensures .same)
 
 same-length-2 : tie.Need-same-length-2
-same-length-2 c = c .before .before .before .before .write-route .kept .1 .1 .1 .0
+same-length-2 c = c .before .before .before .before .write-route .kept .1 .1 .1 .1 .0
 
 returns : tie.Need-returns
 returns c =
@@ -50,7 +50,7 @@ mul-clear-2 : tie.Need-mul-clear-2
 mul-clear-2 c = omega (arith, few-cells _ _ (c .before .before .before .before .before .before .before .before .before .before .before .before .before .before .pre .0))
 
 clear-requires-2 : tie.Need-clear-requires-2
-clear-requires-2 c κs = (omega arith, omega (arith, c .before .before .before .before .before .before .before .before .before .before .before .before .before .before .pre .1, c .before .before .before .before .before .before .before .before .before .clear .ensures .same, c .before .before .before .before .before .search .ensures .same))
+clear-requires-2 c κs = (omega arith, omega (arith, c .before .before .before .before .before .before .before .before .before .before .before .before .before .before .pre .1 .0, c .before .before .before .before .before .before .before .before .before .clear .ensures .same, c .before .before .before .before .before .search .ensures .same))
 
 same-length-3 : tie.Need-same-length-3
 same-length-3 c = c .before .before .clear2 .ensures .same ∙ (c .before .before .before .before .before .before .before .before .search .ensures .same ∙ c .before .before .before .before .before .before .before .before .before .before .before .before .clear .ensures .same)
@@ -60,7 +60,7 @@ returns-2 c =
     let s = c .before .before .before .before .before .before .before .before .before .before .before .before .before .before .before .before .before in
     let n = length (s .args .plan .now) in
     done-none _ _ _ _ _
-    (zeroed-is (n * 256) (n * 256) (s .args .scratch .now) _ _ (omega arith) (s .pre .1) (c .before .before .before .before .before .before .before .before .search .ensures .same ∙ c .before .before .before .before .before .before .before .before .before .before .before .before .clear .ensures .same) (λ k h. c .before .before .before .before .before .before .before .before .search .ensures .rest k (omega arith) ∙ c .before .before .before .before .before .before .before .before .before .before .before .before .clear .ensures .high k (omega arith)) (c .before .before .clear2 .ensures))
+    (zeroed-is (n * 256) (n * 256) (s .args .scratch .now) _ _ (omega arith) (s .pre .1 .0) (c .before .before .before .before .before .before .before .before .search .ensures .same ∙ c .before .before .before .before .before .before .before .before .before .before .before .before .clear .ensures .same) (λ k h. c .before .before .before .before .before .before .before .before .search .ensures .rest k (omega arith) ∙ c .before .before .before .before .before .before .before .before .before .before .before .before .clear .ensures .high k (omega arith)) (c .before .before .clear2 .ensures))
     (best-is-none _ _ (s .pre .0) (reached-nothing (c .before .before .before .before .before .before .before .before .search .ensures .done) (c .before .before .before .before .enum-told .given .1)))
 
 pub route-ready-spec : {M : Type 1} → statement M

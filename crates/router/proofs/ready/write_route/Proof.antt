@@ -12,7 +12,7 @@ use Rattle.router.proofs.ready.write_route.Tie as tie
 
 -- the best route, by what holds at the entry
 best-at : (s : tie.Start) → BestIs (rulesFor (s .args .p) (s .args .plan .now)) (s .args .p .elements .period) (s .args .registers) (s .args .steps)
-best-at s = best-is _ _ (s .pre .0) _ _ _ _ _ (s .pre .1 .1)
+best-at s = best-is _ _ (s .pre .0) _ _ _ _ _ (s .pre .1 .1 .0)
 
 cast-latency : tie.Need-cast-latency
 cast-latency c = search needs
@@ -45,7 +45,7 @@ returns c =
     done-no-room _ _ _ _ _ (zeroed-is _ 0 _ _ _ (omega arith) (s .pre .1 .0) refl (λ k h. refl) (c .before .before .clear .ensures)) _ _ q (c .before .before .before .before .if1 .taken)
 
 emit-requires : tie.Need-emit-requires
-emit-requires c κs = record { ready = c .before .before .before .before .before .before .before .before .pre .0; room = c .before .before .before .before .before .before .before .before .pre .1 .0; reaching = c .before .before .before .before .before .before .before .before .pre .1 .1; fits = omega (arith, c .before .before .if1 .left) }
+emit-requires c κs = record { ready = c .before .before .before .before .before .before .before .before .pre .0; room = c .before .before .before .before .before .before .before .before .pre .1 .0; costed = c .before .before .before .before .before .before .before .before .pre .1 .1 .1; reaching = c .before .before .before .before .before .before .before .before .pre .1 .1 .0; fits = omega (arith, c .before .before .if1 .left) }
 
 mul-clear-2 : tie.Need-mul-clear-2
 mul-clear-2 c = omega (arith, few-cells _ _ (c .before .before .before .before .before .before .before .before .before .before .before .before .before .before .pre .0))

@@ -21,20 +21,20 @@ use Rattle.search.proofs.waves.search.Statement.{statement}
 use Rattle.search.proofs.waves.search.Tie as tie
 
 abbrev Inv-loop : tie.InvT-loop
-Inv-loop plan scratch₀ p n active f₀ scratch f = FrontOf (rulesFor p plan) (length plan) scratch f × ((length scratch ≡ length scratch₀) × KeptFrom (length plan * 136) scratch₀ scratch)
+Inv-loop plan scratch₀ p costs n active f₀ scratch f = FrontOf (rulesFor p plan) (length plan) scratch f × ((length scratch ≡ length scratch₀) × KeptFrom (length plan * 136) scratch₀ scratch)
 
 abbrev μ-loop : tie.MeasureT-loop
-μ-loop plan scratch₀ p n active f₀ scratch f = 4294968321 - (total (length plan) scratch + f .at)
+μ-loop plan scratch₀ p costs n active f₀ scratch f = 4294968321 - (total (length plan) scratch + f .at)
 
 plant-requires : tie.Need-plant-requires Inv-loop μ-loop
-plant-requires c κs = (listed-none _ _ _ (λ k h. c .before .before .before .pre .1 .1 _ (omega arith)), (c .before .before .before .pre .0 .source, (few-cells _ _ (c .before .before .before .pre .0), omega (arith, c .before .before .before .pre .1 .0))))
+plant-requires c κs = (listed-none _ _ _ (λ k h. c .before .before .before .pre .1 .1 .0 _ (omega arith)), (c .before .before .before .pre .0 .source, (few-cells _ _ (c .before .before .before .pre .0), omega (arith, c .before .before .before .pre .1 .0))))
 
 loop-holds : tie.Need-loop-holds Inv-loop μ-loop
 unfolding rulesFor rulesOf
-loop-holds c = (start-front _ _ (ready-source _ _ (c .before .before .before .before .before .before .pre .0)) _ (c .before .before .before .before .before .before .pre .1 .1) _ _ (c .before .before .plant .ensures), (refl, λ k h. refl))
+loop-holds c = (start-front _ _ (ready-source _ _ (c .before .before .before .before .before .before .pre .0)) _ (c .before .before .before .before .before .before .pre .1 .1 .0) _ _ (c .before .before .plant .ensures), (refl, λ k h. refl))
 
 take-turn-requires : tie.Need-take-turn-requires Inv-loop μ-loop
-take-turn-requires c κs = (c .before .before .before .before .before .before .before .before .pre .0, (omega (arith, c .before .before .before .before .before .before .before .before .pre .1 .0, c .before .before .before .before .plant .ensures .same, c .before .loop .inv .1 .0), c .before .loop .inv .0))
+take-turn-requires c κs = (c .before .before .before .before .before .before .before .before .pre .0, (omega (arith, c .before .before .before .before .before .before .before .before .pre .1 .0, c .before .before .before .before .plant .ensures .same, c .before .loop .inv .1 .0), (c .before .loop .inv .0, c .before .before .before .before .before .before .before .before .pre .1 .1 .1)))
 
 enum-known-t : tie.Need-enum-known-t Inv-loop μ-loop
 enum-known-t c = search needs

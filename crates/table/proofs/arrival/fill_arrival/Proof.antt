@@ -6,14 +6,15 @@ use native.Mathlib.Omega.{arith}
 use borrow.Author.Needs.{needs}
 use borrow.Author.Tests.{eq-eqb, ne-eqb}
 use lib.ListN.{length, getD}
-use Rattle.costs.proofs.Own.{limit-own, gate-own}
+use Rattle.timing.specs.Formulas.{registerDriver}
 use Rattle.rows.specs.Words.{Filled}
-use Rattle.costs.specs.Costs.{rowWords}
+use Rattle.costs.specs.Costs.{rowWords, noneAt, registerAt}
 use Rattle.rows.specs.Rows.{copied, raised}
 use Rattle.rows.proofs.Words.{filled-as, filled-twice}
+use Rattle.rows.proofs.Leaves.{limited, copied-limited, raised-driven}
 use Rattle.table.specs.Problem.{seedOf}
 use Rattle.table.specs.ArrivalRow.{takesBuffers, buffered}
-use Rattle.table.proofs.ArrivalRow.{through, copied-through, buffered-through, through-arrival, raised-arrival}
+use Rattle.table.proofs.ArrivalRow.{through, limited-through, buffered-through, through-arrival, driven-arrival}
 use Rattle.table.proofs.arrival.fill_arrival.Statement.{statement}
 use Rattle.table.proofs.arrival.fill_arrival.Tie as tie
 
@@ -22,8 +23,8 @@ mul-to c = search needs
 
 copy-row-requires : tie.Need-copy-row-requires
 copy-row-requires c κs =
-    let start = c .before .before .before .before .before in
-    (limit-own (start .pre .ready .costs .none), (omega (arith, start .pre .inside), omega (arith, start .pre .inside, start .pre .room)))
+    let start = c .before .before .before in
+    (omega arith, (omega (arith, start .pre .inside), omega (arith, start .pre .inside, start .pre .room)))
 
 shared-slice-read-takes-buffers : tie.Need-shared-slice-read-takes-buffers
 shared-slice-read-takes-buffers c = search needs
@@ -33,10 +34,10 @@ takes-buffers-requires c κs = search needs
 
 raise-buffers-requires : tie.Need-raise-buffers-requires
 raise-buffers-requires c κs =
-    let start = c .before .before .before .before .before .before .before .before .before .before .before .before .before in
+    let start = c .before .before .before .before .before .before .before .before .before .before .before in
     record {
       valid = start .pre .ready .valid;
-      costed = start .pre .ready .costs .buffers;
+      costed = start .pre .costed .buffers;
       before = omega (arith, start .pre .inside);
       inside = omega (arith, start .pre .inside, start .pre .room, c .before .before .before .before .before .before .before .copy-row .ensures .same);
     }
@@ -51,22 +52,25 @@ mul-if2-2 : tie.Need-mul-if2-2
 mul-if2-2 c = search needs
 
 -- the row that the buffers leave
-mid : (c : tie.Joined1) → let start = c .before .before .before .before .before .before .before .before .before .before .before in Filled (through (start .args .p) (start .args .plan .now) (start .args .scratch .now) (start .args .cell) (start .pre .ready) (start .pre .inside)) (length (start .args .plan .now) * 64) rowWords (start .args .scratch .now) (c .if1 .scratch)
+mid : (c : tie.Joined1) → let start = c .before .before .before .before .before .before .before .before .before .before in Filled (through (start .args .p) (start .args .plan .now) (start .args .scratch .now) (start .args .cell) (start .pre .ready) (start .pre .inside)) (length (start .args .plan .now) * 64) rowWords (start .args .scratch .now) (c .if1 .scratch)
 mid c =
-    let start = c .before .before .before .before .before .before .before .before .before .before .before in
+    let start = c .before .before .before .before .before .before .before .before .before .before in
     let a = start .args in
     let to = length (a .plan .now) * 64 in
+    let row = c .before .before .before .before .before .before .copy-row in
+    let known = c .before .before .before .before .before .before .before .before .slice-known .given in
     let test : c .before .takes-buffers .result ≡ takesBuffers (getD (a .plan .now) (a .cell) 0) (a .p) (a .cell) = c .before .takes-buffers .ensures in
-    let copy : Filled (copied (a .scratch .now) (a .cell) (a .p .elements .limit .0)) to rowWords (a .scratch .now) (c .before .before .before .before .before .copy-row .last .0) = rw (start .pre .ready .costs .none .limit) at (c .before .before .before .before .before .copy-row .ensures) in
+    let copy : Filled (limited (a .scratch .now) (a .cell) (a .p .elements .limit .0)) to rowWords (a .scratch .now) (row .last .0) =
+    filled-as {F = copied (a .scratch .now) (a .cell) (a .costs .now) noneAt} (row .ensures) _ (λ k h. copied-limited (a .scratch .now) (a .cell) (a .costs .now) noneAt (a .p .elements .limit .0) (start .pre .costed .none) k h (omega (arith, known (a .cell * 64 + k)))) in
     ⊎-elim
     (λ w.
-    let raise : Filled (buffered (c .before .before .before .before .before .copy-row .last .0) (a .cell) to (a .p .elements) (a .p .elements .count)) to rowWords (c .before .before .before .before .before .copy-row .last .0) (w .3 .last .0) = w .3 .ensures in
-    rw (w .6) (filled-as (filled-twice copy _ _ raise) _ (λ k h. buffered-through (a .p) (a .plan .now) (a .scratch .now) (a .cell) (start .pre .ready) (start .pre .inside) _ to k (sym test ∙ w .0 .taken) (λ j l. copy .low (a .cell * 64 + j) (omega (arith, start .pre .inside))) (copy .done k h))))
-    (λ w. rw (w .1) (filled-as copy _ (λ k h. copied-through (a .p) (a .plan .now) (a .scratch .now) (a .cell) (start .pre .ready) (start .pre .inside) (sym test ∙ w .0 .left) k)))
+    let raise : Filled (buffered (row .last .0) (a .cell) to (a .p .elements) (a .p .elements .count)) to rowWords (row .last .0) (w .2 .last .0) = w .2 .ensures in
+    rw (w .5) (filled-as (filled-twice copy _ _ raise) _ (λ k h. buffered-through (a .p) (a .plan .now) (a .scratch .now) (a .cell) (start .pre .ready) (start .pre .inside) _ to k (sym test ∙ w .0 .taken) (λ j l. copy .low (a .cell * 64 + j) (omega (arith, start .pre .inside))) (copy .done k h))))
+    (λ w. rw (w .1) (filled-as copy _ (λ k h. limited-through (a .p) (a .plan .now) (a .scratch .now) (a .cell) (start .pre .ready) (start .pre .inside) (sym test ∙ w .0 .left) k)))
     (c .if1 .came)
 
 slice-read-if2 : tie.Need-slice-read-if2
-slice-read-if2 c = omega (arith, mid (c .before) .same, c .before .before .before .before .before .before .before .before .before .before .before .before .pre .room)
+slice-read-if2 c = omega (arith, mid (c .before) .same, c .before .before .before .before .before .before .before .before .before .before .before .pre .room)
 
 mul-raise-row : tie.Need-mul-raise-row
 mul-raise-row c = search needs
@@ -76,28 +80,30 @@ add-raise-row c = search needs
 
 raise-row-requires : tie.Need-raise-row-requires
 raise-row-requires c κs =
-    let start = c .before .before .before .before .before .before .before .before .before .before .before .before .before .before .before .before in
-    (gate-own (start .pre .ready .costs .register), omega (arith, mid (c .before .before .before .before .before) .same, start .pre .room))
+    let start = c .before .before .before .before .before .before .before .before .before .before .before .before .before .before in
+    (omega arith, omega (arith, mid (c .before .before .before .before) .same, start .pre .room))
 
 same-length : tie.Need-same-length
-same-length c = c .before .before .raise-row .ensures .same ∙ mid (c .before .before .before .before .before .before .before .before) .same
+same-length c = c .before .before .raise-row .ensures .same ∙ mid (c .before .before .before .before .before .before .before) .same
 
 -- the seed flag is as it was
-flag : (c : tie.Joined1) → let a = c .before .before .before .before .before .before .before .before .before .before .before .args in let k = length (a .plan .now) * 135 + a .cell in getD (c .if1 .scratch) k 0 ≡ getD (a .scratch .now) k 0
+flag : (c : tie.Joined1) → let a = c .before .before .before .before .before .before .before .before .before .before .args in let k = length (a .plan .now) * 135 + a .cell in getD (c .if1 .scratch) k 0 ≡ getD (a .scratch .now) k 0
 flag c =
-    let start = c .before .before .before .before .before .before .before .before .before .before .before in
+    let start = c .before .before .before .before .before .before .before .before .before .before in
     mid c .high (length (start .args .plan .now) * 135 + start .args .cell) (omega (arith, start .pre .inside))
 
 returns : tie.Need-returns
 unfolding seedOf
 returns c =
-    let join = c .before .before .before .before .before .before .before .before in
-    let start = join .before .before .before .before .before .before .before .before .before .before .before in
+    let join = c .before .before .before .before .before .before .before in
+    let start = join .before .before .before .before .before .before .before .before .before .before in
     let a = start .args in
     let to = length (a .plan .now) * 64 in
-    let costed = start .pre .ready .costs .register in
-    let raise : Filled (raised (join .if1 .scratch) to (2 * a .p .elements .period + 1) (a .p .costs .register .driver) (a .p .costs .register .limit)) to rowWords (join .if1 .scratch) (c .before .before .raise-row .last .0) = c .before .before .raise-row .ensures in
-    filled-as (filled-twice (mid join) _ _ (rw (costed .driver, costed .limit) at raise)) _ (λ k h. raised-arrival (a .p) (a .plan .now) (a .scratch .now) (a .cell) (start .pre .ready) (start .pre .inside) _ to k (eq-eqb _ _ (sym (flag join) ∙ c .before .before .before .before .before .before .if2 .taken)) h (mid join .done k h))
+    let raise : Filled (raised (join .if1 .scratch) to (2 * a .p .elements .period + 1) (a .costs .now) registerAt) to rowWords (join .if1 .scratch) (c .before .before .raise-row .last .0) = c .before .before .raise-row .ensures in
+    filled-as (filled-twice (mid join) _ _ raise) _
+    (λ k h.
+    raised-driven (join .if1 .scratch) to (2 * a .p .elements .period + 1) (a .costs .now) registerAt (registerDriver (a .p .elements .register)) (a .p .elements .limit .0) (start .pre .costed .register) (omega (arith, start .pre .ready .valid .most)) k h
+    ∙ driven-arrival (a .p) (a .plan .now) (a .scratch .now) (a .cell) (start .pre .ready) (start .pre .inside) (join .if1 .scratch) to k (eq-eqb _ _ (sym (flag join) ∙ c .before .before .before .before .before .if2 .taken)) h (mid join .done k h))
 
 same-length-2 : tie.Need-same-length-2
 same-length-2 c = mid (c .before .before) .same
@@ -106,7 +112,7 @@ returns-2 : tie.Need-returns-2
 unfolding seedOf
 returns-2 c =
     let join = c .before .before in
-    let start = join .before .before .before .before .before .before .before .before .before .before .before in
+    let start = join .before .before .before .before .before .before .before .before .before .before in
     let a = start .args in
     filled-as (mid join) _ (λ k h. through-arrival (a .p) (a .plan .now) (a .scratch .now) (a .cell) (start .pre .ready) (start .pre .inside) (ne-eqb _ _ (λ z. c .if2 .left (flag join ∙ z))) k h)
 

@@ -1,29 +1,28 @@
 -- After i buffers the row at `to` is `buffered` by the first i; the cell's row lies before it, so it is as it was.
-use lib.ListN.{getD}
 use Prim.Native.Nat.{_+_, _*_, _-_, _≤_}
-use mathlib.Core.Path.{_≡_, sym}
+use mathlib.Core.Path.{_≡_, sym, _∙_}
 use mathlib.Core.Logic.{⊎-elim}
 use native.Mathlib.Omega.{arith}
 use native.Mathlib.Numerals.{add-one}
 use borrow.Author.Needs.{needs}
+use lib.ListN.{getD}
 use Rattle.timing.specs.Elements.{bufferOf, driverOf}
 use Rattle.timing.specs.Formulas.{bufferDriver, bufferLoad}
+use Rattle.costs.specs.Costs.{rowWords, bufferAt, buffersAt}
 use Rattle.rows.specs.Words.{Filled}
-use Rattle.costs.specs.declared.GateCosts.{GateCosts}
-use Rattle.costs.specs.Costs.{rowWords, bufferAt, noCosts, GateCostsOf}
-use Rattle.costs.proofs.Own.{gate-own}
 use Rattle.rows.specs.Rows.{raised}
 use Rattle.rows.proofs.Words.{filled-none, filled-longer, filled-as, filled-twice}
+use Rattle.rows.proofs.Leaves.{raised-driven}
 use Rattle.table.specs.ArrivalRow.{buffered}
 use Rattle.table.proofs.ArrivalRow.{buffered-none, buffered-past, buffered-more}
 use Rattle.table.proofs.arrival.raise_buffers.Statement.{statement}
 use Rattle.table.proofs.arrival.raise_buffers.Tie as tie
 
 abbrev Inv-loop : tie.InvT-loop
-Inv-loop scratch₀ cell to elements costs limit count i₀ scratch i = (i ≤ elements .count) × Filled (buffered scratch₀ cell to elements i) to rowWords scratch₀ scratch
+Inv-loop scratch₀ cell to costs elements limit count i₀ scratch i = (i ≤ elements .count) × Filled (buffered scratch₀ cell to elements i) to rowWords scratch₀ scratch
 
 abbrev μ-loop : tie.MeasureT-loop
-μ-loop scratch₀ cell to elements costs limit count i₀ scratch i = elements .count - i
+μ-loop scratch₀ cell to costs elements limit count i₀ scratch i = elements .count - i
 
 cast-limit : tie.Need-cast-limit Inv-loop μ-loop
 cast-limit c = omega arith
@@ -46,17 +45,17 @@ cast-load c = omega arith
 view-requires : tie.Need-view-requires Inv-loop μ-loop
 view-requires c κs = search needs
 
-mul-gate : tie.Need-mul-gate Inv-loop μ-loop
-mul-gate c = omega arith
+mul-raise-row : tie.Need-mul-raise-row Inv-loop μ-loop
+mul-raise-row c = omega (arith, c .before .before .before .before .before .before .before .before .before .before .pre .valid .count)
 
-array-copy-out-gate : tie.Need-array-copy-out-gate Inv-loop μ-loop
-array-copy-out-gate c = omega arith
+add-raise-row : tie.Need-add-raise-row Inv-loop μ-loop
+add-raise-row c = omega (arith, c .before .before .before .before .before .before .before .before .before .before .pre .valid .count)
 
 raise-row-requires : tie.Need-raise-row-requires Inv-loop μ-loop
 raise-row-requires c κs =
-    let start = c .before .before .before .before .before .before .before .before .before .before .before in
-    let loop = c .before .before .before .before .before .before .before .before .before .loop in
-    (gate-own (start .pre .costed (loop .i) (omega arith)), omega (arith, loop .inv .1 .same))
+    let start = c .before .before .before .before .before .before .before .before .before .before in
+    let loop = c .before .before .before .before .before .before .before .before .loop in
+    (omega (arith, start .pre .valid .count), omega (arith, loop .inv .1 .same))
 
 add-i : tie.Need-add-i Inv-loop μ-loop
 add-i c = omega arith
@@ -75,11 +74,10 @@ loop-again c =
       omega arith,
       rw add-one (⊎-elim
           (λ w.
-          let gate : GateCosts = getD (a .t5) (loop .i) noCosts in
-          let costed : GateCostsOf (bufferDriver b) (a .t4 .limit .0) gate = start .pre .costed (loop .i) (omega arith) in
-          let raise : Filled (raised (loop .scratch) (a .to) (w .2 .result) (gate .driver) (gate .limit)) (a .to) rowWords (loop .scratch) (w .5 .last .0) = w .5 .ensures in
+          let raise : Filled (raised (loop .scratch) (a .to) (w .2 .result) (a .costs .now) (buffersAt (loop .i))) (a .to) rowWords (loop .scratch) (w .4 .last .0) = w .4 .ensures in
           let top = loop .inv .1 .low (a .cell * 64 + bufferLoad b) (omega arith) in
-          rw (w .8) (filled-as (filled-twice (loop .inv .1) _ _ (rw load at (rw (w .2 .ensures, costed .driver, costed .limit) at raise))) _ (λ k h. buffered-more (a .scratch .now) (a .cell) (a .to) (a .t4) (loop .i) k (loop .scratch) (loop .inv .1 .done k h) top (omega (arith, load, w .0 .taken)))))
+          let known = c .before .before .before .before .before .before .slice-known .given (a .cell * 64 + bufferLoad b) in
+          rw (w .7) (filled-as (filled-twice (loop .inv .1) _ _ (rw load at (rw (w .2 .ensures) at raise))) _ (λ k h. raised-driven (loop .scratch) (a .to) (getD (loop .scratch) (a .cell * 64 + bufferLoad b) 0) (a .costs .now) (buffersAt (loop .i)) (bufferDriver b) (a .t4 .limit .0) (start .pre .costed (loop .i) (omega arith)) (omega (arith, top, known)) k h ∙ buffered-more (a .scratch .now) (a .cell) (a .to) (a .t4) (loop .i) k (loop .scratch) (loop .inv .1 .done k h) top (omega (arith, load, w .0 .taken)))))
           (λ w. rw (w .1) (filled-as (loop .inv .1) _ (λ k h. buffered-past (a .scratch .now) (a .cell) (a .to) (a .t4) (loop .i) k (omega (arith, load, w .0 .left)))))
           (c .if1 .came)),
     )
@@ -105,8 +103,8 @@ raise-buffers-spec =
     load-requires
     cast-load
     view-requires
-    mul-gate
-    array-copy-out-gate
+    mul-raise-row
+    add-raise-row
     raise-row-requires
     add-i
     loop-less

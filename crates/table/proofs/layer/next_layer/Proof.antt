@@ -17,7 +17,7 @@ clear-flags-requires c κs =
 spread-all-requires : tie.Need-spread-all-requires
 spread-all-requires c κs =
     let s = c .before .before .before .before .before .before .before in
-    cleared-asks _ _ _ _ _ _ (s .pre .0) (s .pre .1 .0) (s .pre .1 .1 .1 .0) (s .pre .1 .1 .0) (s .pre .1 .1 .1 .1) (c .before .before .before .clear-flags .ensures)
+    cleared-asks _ _ _ _ _ _ _ (s .pre .0) (s .pre .1 .0) (s .pre .1 .1 .1 .0) (s .pre .1 .1 .0) (s .pre .1 .1 .1 .1 .0) (s .pre .1 .1 .1 .1 .1) (c .before .before .before .clear-flags .ensures)
 
 take-list-requires : tie.Need-take-list-requires
 take-list-requires c κs =

@@ -12,7 +12,7 @@ use Rattle.table.proofs.pushes.offer.Tie as tie
 returns : tie.Need-returns
 returns c =
     let a = c .before .before .args in
-    offer-none (a .n) (a .to) (a .costs .wire) (a .costs .limit) (a .next) _ (c .before .before .pre .0) (c .if1 .taken)
+    offer-none (a .n) (a .to) (a .costs .now) (a .base) (a .step) (a .next) _ (c .before .before .pre) (c .if1 .taken)
 
 mul-from : tie.Need-mul-from
 mul-from c = search needs
@@ -23,7 +23,7 @@ mul-grows c = search needs
 grows-requires : tie.Need-grows-requires
 grows-requires c κs =
     let a = c .before .before .before .pre in
-    (a .0 .wireFits, (a .1, (omega (arith, c .before .if1 .left, a .0 .toIn), omega (arith, c .before .if1 .left, a .0 .toIn, a .0 .room))))
+    (a .costed, (omega (arith, c .before .if1 .left, a .toIn), omega (arith, c .before .if1 .left, a .toIn, a .room)))
 
 same-length : tie.Need-same-length
 same-length c = search needs
@@ -32,12 +32,12 @@ returns-2 : tie.Need-returns-2
 returns-2 c =
     let s = c .before .before .before .before .before in
     let a = s .args in
-    offer-quiet (a .n) (a .to) (a .costs .wire) (a .costs .limit) (a .next) _ (s .pre .0) (omega arith) (c .before .grows .ensures .none (not-true _ (c .if2 .taken)))
+    offer-quiet (a .n) (a .to) (a .costs .now) (a .base) (a .step) (a .next) _ (s .pre) (omega arith) (c .before .grows .ensures .none (not-true _ (c .if2 .taken)))
 
 note-requires : tie.Need-note-requires
 note-requires c κs =
     let s = c .before .before .before .before .before .before in
-    let a = s .pre .0 in
+    let a = s .pre in
     (record { sound = a .sound; few = a .few; room = a .room }, omega (arith, c .before .before .before .before .if1 .left, a .toIn))
 
 mul-push-row : tie.Need-mul-push-row
@@ -48,7 +48,7 @@ push-row-requires c κs =
     let n = c .before .before .before in
     let e = n .before .before .before .before .before in
     let a = e .before .before .pre in
-    (a .0 .wireFits, (a .1, (omega (arith, e .if1 .left, a .0 .toIn), omega (arith, e .if1 .left, a .0 .toIn, a .0 .room, n .note .ensures .same))))
+    (a .costed, (omega (arith, e .if1 .left, a .toIn), omega (arith, e .if1 .left, a .toIn, a .room, n .note .ensures .same)))
 
 mul-enlist : tie.Need-mul-enlist
 mul-enlist c = search needs
@@ -59,9 +59,9 @@ enlist-requires c κs =
     let n = p .before .before .before .before in
     let e = n .before .before .before .before .before in
     let s = e .before .before in
-    let a = s .pre .0 in
+    let a = s .pre in
     let f = p .push-row .ensures in
-    let listed = noted-listed-kept (s .args .n) (s .args .to) (s .args .costs .wire) (s .args .costs .limit) (s .args .next) _ a _ _ (n .note .ensures) in
+    let listed = noted-listed-kept (s .args .n) (s .args .to) (s .args .costs .now) (s .args .base) (s .args .step) (s .args .next) _ a _ _ (n .note .ensures) in
     let few = listed-count listed in
     let inPlan : s .args .to < s .args .n = omega (arith, e .if1 .left, a .toIn) in (
       listed-kept listed _ (λ k h. f .high (s .args .n * 134 + k) (omega arith)) (λ i h. f .high (s .args .n * 133 + i) (omega arith)),
@@ -81,7 +81,7 @@ returns-3 c =
     let e = g .before .before .before in
     let s = e .before .before in
     let a = s .args in
-    offer-grew (a .n) (a .to) (a .costs .wire) (a .costs .limit) (a .next) _ (s .pre .0) _ _ (n .note .ensures) _ (omega (arith, e .if1 .left, s .pre .0 .toIn)) (p .push-row .ensures) _ _
+    offer-grew (a .n) (a .to) (a .costs .now) (a .base) (a .step) (a .next) _ (s .pre) _ _ (n .note .ensures) _ (omega (arith, e .if1 .left, s .pre .toIn)) (p .push-row .ensures) _ _
     (g .before .grows .ensures .some (not-false _ (g .if2 .left))) (c .before .before .enlist .ensures)
 
 pub offer-spec : {M : Type 1} → statement M

@@ -10,14 +10,14 @@ use Rattle.table.proofs.pushes.spread_all.Statement.{statement}
 use Rattle.table.proofs.pushes.spread_all.Tie as tie
 
 abbrev Inv-loop : tie.InvT-loop
-Inv-loop plan scratch₀ p active n next₀ i₀ scratch next i =
+Inv-loop plan scratch₀ p costs active n next₀ i₀ scratch next i =
     (i ≤ active) × SpreadAll (rulesFor p plan) (length plan) i (next₀ .trail) scratch₀ scratch next
 
 abbrev μ-loop : tie.MeasureT-loop
-μ-loop plan scratch₀ p active n next₀ i₀ scratch next i = active - i
+μ-loop plan scratch₀ p costs active n next₀ i₀ scratch next i = active - i
 
 loop-holds : tie.Need-loop-holds Inv-loop μ-loop
-loop-holds c = (omega arith, spread-none _ _ _ _ _ (c .before .before .pre))
+loop-holds c = (omega arith, spread-none _ _ _ _ _ _ (c .before .before .pre))
 
 mul-cell : tie.Need-mul-cell Inv-loop μ-loop
 mul-cell c = omega (arith, few-cells _ _ (c .before .before .before .before .pre .ready))
@@ -35,7 +35,7 @@ cast-cell : tie.Need-cast-cell Inv-loop μ-loop
 cast-cell c = omega (arith, c .slice-known2 .given (length (c .before .before .before .before .before .args .plan .now) * 132 + c .before .before .loop .i))
 
 spread-requires : tie.Need-spread-requires Inv-loop μ-loop
-spread-requires c κs = spread-next-asks _ _ _ _ _ (c .before .before .before .before .before .before .pre) _ _ _ (c .before .before .loop-test .taken) (c .before .before .before .loop .inv .1)
+spread-requires c κs = spread-next-asks _ _ _ _ _ _ (c .before .before .before .before .before .before .pre) _ _ _ (c .before .before .loop-test .taken) (c .before .before .before .loop .inv .1)
 
 add-i : tie.Need-add-i Inv-loop μ-loop
 add-i c = omega (arith, few-cells _ _ (c .before .before .before .before .before .before .before .before .before .pre .ready), c .before .before .before .before .before .before .before .before .before .pre .short, c .before .before .before .before .before .loop-test .taken)
@@ -44,7 +44,7 @@ loop-less : tie.Need-loop-less Inv-loop μ-loop
 loop-less c = omega arith
 
 loop-again : tie.Need-loop-again Inv-loop μ-loop
-loop-again c = (omega arith, spread-more _ _ _ _ _ (c .before .before .before .before .before .before .before .before .before .pre) _ _ _ (c .before .before .before .before .before .loop-test .taken) (c .before .before .before .before .before .before .loop .inv .1) _ _ (c .before .before .spread .ensures))
+loop-again c = (omega arith, spread-more _ _ _ _ _ _ (c .before .before .before .before .before .before .before .before .before .pre) _ _ _ (c .before .before .before .before .before .loop-test .taken) (c .before .before .before .before .before .before .loop .inv .1) _ _ (c .before .before .spread .ensures))
 
 same-length : tie.Need-same-length Inv-loop μ-loop
 same-length c = c .before .loop .inv .1 .raised .same

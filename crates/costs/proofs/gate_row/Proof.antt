@@ -8,8 +8,8 @@ use borrow.Author.Tests.{le-leb, lt-leb}
 use Rattle.timing.proofs.Bounds.{gate-delay-max}
 use Rattle.costs.specs.Costs.{rowWords, gateCost}
 use Rattle.costs.proofs.Written.{Written, written-none, written-more, written-row}
-use Rattle.costs.proofs.gate_costs.Statement.{statement}
-use Rattle.costs.proofs.gate_costs.Tie as tie
+use Rattle.costs.proofs.gate_row.Statement.{statement}
+use Rattle.costs.proofs.gate_row.Tie as tie
 
 abbrev Inv-loop : tie.InvT-loop
 Inv-loop driver limit row₀ l₀ row l = Written (gateCost driver limit) l row
@@ -55,10 +55,10 @@ loop-again c =
     (c .if1 .came))
 
 returns : tie.Need-returns Inv-loop μ-loop
-returns c = record { driver = refl; limit = refl; row = written-row (c .before .loop .inv) (omega arith) }
+returns c = written-row (c .before .loop .inv) (omega arith)
 
-pub gate-costs-spec : {M : Type 1} → statement M
-gate-costs-spec =
+pub gate-row-spec : {M : Type 1} → statement M
+gate-row-spec =
     tie.close
     (tie.spec
     Inv-loop

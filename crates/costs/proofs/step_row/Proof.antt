@@ -8,8 +8,8 @@ use borrow.Author.Tests.{le-leb, lt-leb}
 use Rattle.timing.proofs.Bounds.{wire-delay-max}
 use Rattle.costs.specs.Costs.{rowWords, stepCost}
 use Rattle.costs.proofs.Written.{Written, written-none, written-more, written-row}
-use Rattle.costs.proofs.step_costs.Statement.{statement}
-use Rattle.costs.proofs.step_costs.Tie as tie
+use Rattle.costs.proofs.step_row.Statement.{statement}
+use Rattle.costs.proofs.step_row.Tie as tie
 
 abbrev Inv-loop : tie.InvT-loop
 Inv-loop wire limit step row₀ l₀ row l = Written (stepCost wire limit) l row
@@ -66,10 +66,10 @@ loop-again c =
     (c .if1 .came)))
 
 returns : tie.Need-returns Inv-loop μ-loop
-returns c = record { wire = refl; limit = refl; row = written-row (c .before .loop .inv) (omega arith) }
+returns c = written-row (c .before .loop .inv) (omega arith)
 
-pub step-costs-spec : {M : Type 1} → statement M
-step-costs-spec =
+pub step-row-spec : {M : Type 1} → statement M
+step-row-spec =
     tie.close
     (tie.spec
     Inv-loop

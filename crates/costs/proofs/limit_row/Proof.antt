@@ -6,8 +6,8 @@ use native.Mathlib.Omega.{arith}
 use borrow.Author.Tests.{le-leb, lt-leb}
 use Rattle.costs.specs.Costs.{rowWords, limitCost}
 use Rattle.costs.proofs.Written.{Written, written-none, written-more, written-row}
-use Rattle.costs.proofs.limit_costs.Statement.{statement}
-use Rattle.costs.proofs.limit_costs.Tie as tie
+use Rattle.costs.proofs.limit_row.Statement.{statement}
+use Rattle.costs.proofs.limit_row.Tie as tie
 
 abbrev Inv-loop : tie.InvT-loop
 Inv-loop limit row₀ l₀ row l = Written (limitCost limit) l row
@@ -42,10 +42,10 @@ loop-again c =
     (c .if1 .came))
 
 returns : tie.Need-returns Inv-loop μ-loop
-returns c = record { limit = refl; row = written-row (c .before .loop .inv) (omega arith) }
+returns c = written-row (c .before .loop .inv) (omega arith)
 
-pub limit-costs-spec : {M : Type 1} → statement M
-limit-costs-spec =
+pub limit-row-spec : {M : Type 1} → statement M
+limit-row-spec =
     tie.close
     (tie.spec
     Inv-loop
