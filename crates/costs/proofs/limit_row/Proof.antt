@@ -1,6 +1,5 @@
 -- The words before load l are written.
 use Prim.Native.Nat.{_-_}
-use mathlib.Core.Path.{refl}
 use mathlib.Core.Logic.{⊎-elim}
 use native.Mathlib.Omega.{arith}
 use borrow.Author.Tests.{le-leb, lt-leb}
