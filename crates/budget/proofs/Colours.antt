@@ -31,8 +31,8 @@ module _ {R : Rules} where
   linked-in-step {s} {d} c h i = record { even = λ K. omega (arith, K .differs c d h, i .even K) }
 
   -- cells that are as many steps away are not linked
-  pub same-apart : Colouring R → {s c d : ℕ} → InStep R s c → InStep R s d → T (R .linked c d) → ⊥
-  same-apart K {s} {c} {d} i j h = omega (arith, K .differs c d h, i .even K, j .even K)
+  pub same-unlinked : Colouring R → {s c d : ℕ} → InStep R s c → InStep R s d → T (R .linked c d) → ⊥
+  same-unlinked K {s} {c} {d} i j h = omega (arith, K .differs c d h, i .even K, j .even K)
 
   pub ending-in-step : {c i : ℕ} {st : Stage} {vs : Route} → Ending R c i st vs → InStep R (length vs) c
   ending-in-step {c} (Ending.ends {v = v} h) =

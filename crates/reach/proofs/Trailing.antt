@@ -11,7 +11,6 @@ use Rattle.rules.specs.Rules.{Rules}
 use Rattle.plan.specs.Apart.{apartBy}
 use Rattle.plan.proofs.Truth.{fst, snd}
 use Rattle.plan.proofs.Apart.{apart-self}
-use Rattle.budget.specs.Table.{Table}
 use Rattle.budget.specs.Cone.{RepresentsIn, Lipschitz, inCone}
 use Rattle.budget.specs.Emission.{Reaches}
 use Rattle.budget.proofs.Cone.{cone-in, cone-of}
@@ -19,9 +18,8 @@ use Rattle.budget.proofs.Layer.{row-of, same-row}
 use Rattle.budget.proofs.Reaches.{reaches-start}
 use Rattle.costs.specs.Costs.{rowWords}
 use Rattle.rows.specs.Words.{Kept}
-use Rattle.rows.specs.Rows.{viewOf}
 use Rattle.trail.specs.declared.Trail.{Trail}
-use Rattle.trail.specs.Trail.{stamped, newTrail, TrailKept, followed, Rewound}
+use Rattle.trail.specs.Trail.{Sound, stamped, newTrail, TrailKept, followed, Rewound}
 use Rattle.trail.proofs.History.{sound-none, sound-kept, sound-stamped, history-start, history-kept, history-stamped, history-followed, followed-before, followed-all}
 use Rattle.table.specs.declared.pushes.Grown.{Grown}
 use Rattle.table.specs.Problem.{budgetOf}
@@ -139,7 +137,7 @@ module _ (R : Rules) (n k : ℕ) (P : ℕ → ℕ → Bool) (old : List ℕ) whe
     pub trail-drop : {Q : ℕ → Bool} {active : ℕ} (new : List ℕ) → Dropped n Q words new active → Trailing R n k P old new u t
     trail-drop new d = trail-kept new (λ i lo hi. d .low i (omega arith)) (record { near = λ i lo hi. d .low i (omega arith); far = λ i lo hi. d .high i (omega arith) })
 
-    pub trail-sound : Rattle.trail.specs.Trail.Sound n words (stamped t (u + 1))
+    pub trail-sound : Sound n words (stamped t (u + 1))
     trail-sound = sound-stamped n words t (u + 1) (omega (arith, r .stamp)) (r .past .sound)
 
 -- The end of a span's run, at a cell: in the layer of s steps, the rows next to a cell that is near enough are in the cone.

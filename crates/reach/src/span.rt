@@ -17,15 +17,18 @@ fn first_with(scratch: &[u16], n: usize, count: usize, registers: u16) -> usize
     requires { ⌜ Ordered n (now scratch) count × ((n ≤ 1024) × (n * 136 ≤ length (now scratch))) ⌝ }
     ensures { λ r. ⌜ FirstWith n (now (scratch .entry)) count registers r ⌝ }
 {
-    let mut i = 0;
-    while i < count {
-        let cell = scratch[n * 131 + i] as usize;
+    let mut low = 0;
+    let mut high = count;
+    while low < high {
+        let mid = (low + high) / 2;
+        let cell = scratch[n * 131 + mid] as usize;
         if registers < scratch[n * 128 + cell] {
-            return i;
+            high = mid;
+        } else {
+            low = mid + 1;
         }
-        i += 1;
     }
-    i
+    low
 }
 
 // The steps of the next label that waits, at most `steps`.

@@ -16,7 +16,7 @@ use Rattle.trail.specs.Trail.{Sound}
 use Rattle.trail.proofs.History.{sound-kept}
 use Rattle.table.specs.declared.problem.Problem.{Problem}
 use Rattle.table.specs.Problem.{rulesFor, Ready}
-use Rattle.table.specs.Colours.{Apart}
+use Rattle.table.specs.Colours.{Unlinked}
 use Rattle.table.specs.Layer.{FlagsCleared, SpreadAllAsks}
 
 -- the flags of the first i cells of the list are cleared
@@ -102,8 +102,8 @@ module _ (n active i : ℕ) (old now : List ℕ) (listed : Listed n old (n * 132
       flags c (inr e) (inr z) = inr (flag-other c e ∙ z)
 
 -- the pushes may begin
-pub cleared-asks : (p : Problem) (marks costs : List ℕ) (active : ℕ) (t : Trail) (old mid : List ℕ) → Ready p marks → length marks * 256 ≤ length old → Sound (length marks) old t → Listed (length marks) old (length marks * 132) active → Apart (rulesFor p marks) (length marks) old → CostsOf (p .elements) costs → FlagsCleared (length marks) old mid → SpreadAllAsks p marks costs active t mid
-cleared-asks p marks costs active t old mid ready room sound listed apart costed f =
+pub cleared-asks : (p : Problem) (marks costs : List ℕ) (active : ℕ) (t : Trail) (old mid : List ℕ) → Ready p marks → length marks * 256 ≤ length old → Sound (length marks) old t → Listed (length marks) old (length marks * 132) active → Unlinked (rulesFor p marks) (length marks) old → CostsOf (p .elements) costs → FlagsCleared (length marks) old mid → SpreadAllAsks p marks costs active t mid
+cleared-asks p marks costs active t old mid ready room sound listed unlinked costed f =
     record {
       ready = ready;
       costed = costed;
@@ -112,7 +112,7 @@ cleared-asks p marks costs active t old mid ready room sound listed apart costed
       unflagged = f .cleared;
       short = listed-count listed;
       cells = λ i h. omega (arith, same i h, listed .cells i h);
-      apart = λ i j h k. rw (same i h, same j k) (apart _ _ (listed .cells i h) (listed .cells j k) (listed .flagged i h) (listed .flagged j k));
+      unlinked = λ i j h k. rw (same i h, same j k) (unlinked _ _ (listed .cells i h) (listed .cells j k) (listed .flagged i h) (listed .flagged j k));
     }
   where
     same : (i : ℕ) → i < active → getD mid (length marks * 132 + i) 0 ≡ getD old (length marks * 132 + i) 0

@@ -9,7 +9,7 @@ use Rattle.budget.specs.Table.{maxBelow, given}
 use Rattle.budget.specs.Colours.{Colouring}
 use Rattle.budget.proofs.Max.{Above, below-max, only-test}
 use Rattle.budget.proofs.Active.{max-at}
-use Rattle.budget.proofs.Colours.{rules-colouring, linked-in-step, same-apart}
+use Rattle.budget.proofs.Colours.{rules-colouring, linked-in-step, same-unlinked}
 use Rattle.lists.specs.Lists.{flagOf, Listed}
 use Rattle.lists.proofs.Lists.{empty-flags}
 use Rattle.trail.specs.declared.Trail.{Trail}
@@ -17,15 +17,15 @@ use Rattle.table.specs.declared.problem.Problem.{Problem}
 use Rattle.table.specs.declared.pushes.Grown.{Grown}
 use Rattle.table.specs.Problem.{planFor, rulesFor, budgetOf}
 use Rattle.table.specs.Layer.{arrivals, SpreadAll, Layered}
-use Rattle.table.specs.Colours.{Giver, Coloured, Apart}
+use Rattle.table.specs.Colours.{Giver, Coloured, Unlinked}
 
 -- the rules of a problem have a colouring
 pub problem-colouring : (p : Problem) (marks : List ℕ) → Colouring (rulesFor p marks)
 unfolding rulesFor
 problem-colouring p marks = rules-colouring (planFor p marks) (p .elements) (p .source) (p .sink)
 
-pub coloured-apart : {R : Rules} {n s : ℕ} {words : List ℕ} → Colouring R → Coloured R n s words → Apart R n words
-coloured-apart K k c d h i f g = same-apart K (k .inStep c h f) (k .inStep d i g)
+pub coloured-unlinked : {R : Rules} {n s : ℕ} {words : List ℕ} → Colouring R → Coloured R n s words → Unlinked R n words
+coloured-unlinked K k c d h i f g = same-unlinked K (k .inStep c h f) (k .inStep d i g)
 
 -- with no active cell there is nothing to show
 pub coloured-none : (R : Rules) {n : ℕ} (s : ℕ) {words : List ℕ} {base count : ℕ} → Listed n words base count → count ≡ 0 → Coloured R n s words

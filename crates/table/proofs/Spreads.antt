@@ -225,7 +225,7 @@ module _ (p : Problem) (marks costs : List ℕ) (active : ℕ) (t : Trail) (word
   -- no cell of the list gives to another
   gives-none : (B : Table) (i j l : ℕ) → i < active → j < active → given Q B (giver j) (giver i) l ≡ 0
   unfolding given
-  gives-none B i j l h k = only-false (Q .linked (giver i) (giver j)) _ (asks .apart i j h k)
+  gives-none B i j l h k = only-false (Q .linked (giver i) (giver j)) _ (asks .unlinked i j h k)
 
   module _ (now : List ℕ) (i : ℕ) (next : Grown) (short : i < active) (before : SpreadAll Q m i t words now next) where
     same-cell : getD now (m * 132 + i) 0 ≡ giver i

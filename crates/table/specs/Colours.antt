@@ -19,5 +19,5 @@ pub record Coloured (R : Rules) (n s : ℕ) (words : List ℕ) : Type 0 where
   pub inStep : (c : ℕ) → c < n → flagOf n words c ≡ 1 → InStep R s c
 
 -- no wire joins two active cells
-abbrev pub Apart : Rules → ℕ → List ℕ → Type 0
-Apart R n words = (c d : ℕ) → c < n → d < n → flagOf n words c ≡ 1 → flagOf n words d ≡ 1 → T (R .linked c d) → ⊥
+abbrev pub Unlinked : Rules → ℕ → List ℕ → Type 0
+Unlinked R n words = (c d : ℕ) → c < n → d < n → flagOf n words c ≡ 1 → flagOf n words d ≡ 1 → T (R .linked c d) → ⊥

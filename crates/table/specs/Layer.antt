@@ -131,7 +131,7 @@ pub record SpreadAllAsks (p : Problem) (marks costs : List ℕ) (active : ℕ) (
   pub unflagged : (c : ℕ) → c < length marks → flagOf (length marks) words c ≡ 0
   pub short : active ≤ length marks
   pub cells : (i : ℕ) → i < active → getD words (length marks * 132 + i) 0 < length marks
-  pub apart : (i j : ℕ) → i < active → j < active → T (rulesFor p marks .linked (getD words (length marks * 132 + i) 0) (getD words (length marks * 132 + j) 0)) → ⊥
+  pub unlinked : (i j : ℕ) → i < active → j < active → T (rulesFor p marks .linked (getD words (length marks * 132 + i) 0) (getD words (length marks * 132 + j) 0)) → ⊥
 
 -- After `spread_all`: each neighbour of a cell on the active list has what that cell gives, and nothing else was added.
 pub record SpreadAll (R : Rules) (n active : ℕ) (t : Trail) (old new : List ℕ) (next : Grown) : Type 0 where

@@ -6,7 +6,7 @@ ghost use Rattle.costs.specs.Costs.{CostsOf};
 ghost use Rattle.lists.specs.Lists.{Listed};
 ghost use Rattle.trail.specs.Trail.{Sound};
 ghost use Rattle.table.specs.Problem.{Ready, Room, rulesFor};
-ghost use Rattle.table.specs.Colours.{Apart};
+ghost use Rattle.table.specs.Colours.{Unlinked};
 ghost use Rattle.table.specs.Layer.{FlagsCleared, Layered};
 use crate::problem::Problem;
 use crate::pushes::Grown;
@@ -38,7 +38,7 @@ pub fn next_layer(
     active: usize,
     trail: Trail,
 ) -> Grown
-    requires { ⌜ Ready p (now plan) × (Room (length (now plan)) (now scratch) × (Listed (length (now plan)) (now scratch) (length (now plan) * 132) active × (Sound (length (now plan)) (now scratch) trail × (Apart (rulesFor p (now plan)) (length (now plan)) (now scratch) × CostsOf (p .elements) (now costs))))) ⌝ }
+    requires { ⌜ Ready p (now plan) × (Room (length (now plan)) (now scratch) × (Listed (length (now plan)) (now scratch) (length (now plan) * 132) active × (Sound (length (now plan)) (now scratch) trail × (Unlinked (rulesFor p (now plan)) (length (now plan)) (now scratch) × CostsOf (p .elements) (now costs))))) ⌝ }
     ensures { λ r. ⌜ Layered (rulesFor p (now (plan .entry))) (length (now (plan .entry))) trail (now (scratch .entry)) (now (scratch .exit)) r ⌝ }
 {
     let n = plan.len();

@@ -1,5 +1,4 @@
 -- `reach::layers::held_by`: the four tests of `heldBy`.
-use mathlib.Core.Path.{_≡_}
 use borrow.Author.Needs.{needs}
 use borrow.Author.Tests.{le-leb, lt-leb}
 use lib.Dec.{eqb}

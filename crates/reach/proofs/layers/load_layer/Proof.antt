@@ -1,6 +1,5 @@
 -- `reach::layers::load_layer`: back on the trail, or the span again.
 use mathlib.Core.Path.{sym, _∙_}
-use borrow.Author.Needs.{needs}
 use Rattle.plan.proofs.Truth.{of-true}
 use Rattle.table.proofs.Spreads.{few-cells}
 use Rattle.reach.proofs.Trailing.{held-parts, back-loaded}

@@ -15,7 +15,7 @@ use Rattle.trail.specs.declared.Trail.{Trail}
 use Rattle.table.specs.declared.problem.Problem.{Problem}
 use Rattle.table.specs.Problem.{planFor, rulesFor}
 use Rattle.table.proofs.Spreads.{few-cells}
-use Rattle.table.proofs.Colours.{problem-colouring, coloured-apart}
+use Rattle.table.proofs.Colours.{problem-colouring, coloured-unlinked}
 use Rattle.labels.proofs.Labels.{ordered-count}
 use Rattle.reach.specs.Reach.{Reaching, Started, Current, Trailing}
 use Rattle.search.proofs.Ready.{rules-apart, ready-lawful, ready-cells}
@@ -127,7 +127,7 @@ next-layer-requires : tie.Need-next-layer-requires Inv-loop μ-loop
 next-layer-requires c κs =
     let a = c .before .before .before .before in
     let f = head a .0 .reaching in
-    (start a .pre .ready, (omega (arith, f .same, start a .pre .room), (f .list .listed, (rw (c .stamped .ensures) (trail-sound (R a) _ _ _ _ _ _ _ (head a .1)), (coloured-apart (problem-colouring (start a .args .p) (start a .args .plan .now)) (f .coloured), start a .pre .costed)))))
+    (start a .pre .ready, (omega (arith, f .same, start a .pre .room), (f .list .listed, (rw (c .stamped .ensures) (trail-sound (R a) _ _ _ _ _ _ _ (head a .1)), (coloured-unlinked (problem-colouring (start a .args .p) (start a .args .plan .now)) (f .coloured), start a .pre .costed)))))
 
 add-u : tie.Need-add-u Inv-loop μ-loop
 add-u c =

@@ -1,10 +1,9 @@
 -- `reach::span::clear_table`: on the trail, or word by word.
-use Prim.Native.Nat.{ℕ, _+_, _-_, _*_, _≤_, _<_}
+use Prim.Native.Nat.{ℕ, _+_, _-_, _*_}
 use mathlib.Core.Path.{_≡_}
 use mathlib.Core.List.{List}
 use native.Mathlib.Omega.{arith}
 use borrow.Author.Needs.{needs}
-use lib.ListN.{getD}
 use Rattle.rows.specs.Words.{Filled}
 use Rattle.reach.specs.Reach.{TableCleared}
 use Rattle.reach.proofs.Trailing.{back-empty}

@@ -9,7 +9,7 @@ use Rattle.trail.specs.Trail.{noTrail}
 use Rattle.trail.proofs.History.{sound-none}
 use Rattle.table.specs.Problem.{rulesFor, budgetOf}
 use Rattle.table.specs.Layer.{Layered}
-use Rattle.table.proofs.Colours.{problem-colouring, coloured-apart}
+use Rattle.table.proofs.Colours.{problem-colouring, coloured-unlinked}
 use Rattle.table.proofs.Spreads.{few-cells}
 use Rattle.labels.proofs.Labels.{ordered-count, ordered-kept}
 use Rattle.search.proofs.Total.{total-fits}
@@ -25,7 +25,7 @@ no-trail-requires c κs = search needs
 next-layer-requires : tie.Need-next-layer-requires
 next-layer-requires c κs =
     let s = c .before .before .before .before in
-    (s .pre .0, (s .pre .1 .0, (s .pre .1 .1 .0 .waiting .list .listed, (rw (c .no-trail .ensures) (sound-none _ _ noTrail refl refl (omega arith) (omega arith)), (coloured-apart (problem-colouring (s .args .p) (s .args .plan .now)) (s .pre .1 .1 .0 .waiting .coloured), s .pre .1 .1 .1)))))
+    (s .pre .0, (s .pre .1 .0, (s .pre .1 .1 .0 .waiting .list .listed, (rw (c .no-trail .ensures) (sound-none _ _ noTrail refl refl (omega arith) (omega arith)), (coloured-unlinked (problem-colouring (s .args .p) (s .args .plan .now)) (s .pre .1 .1 .0 .waiting .coloured), s .pre .1 .1 .1)))))
 
 -- the layer, made without a trail
 made : (c : tie.After-next-layer) → let s = c .before .before .before .before .before in Layered (rulesFor (s .args .p) (s .args .plan .now)) (length (s .args .plan .now)) noTrail (s .args .scratch .now) (c .next-layer .last .1 .0) (c .next-layer .result)
