@@ -1,5 +1,5 @@
--- The laws of `pushed`: what the costs leave of the word that is read, and what the largest growth says of the row.
-use Prim.Native.Nat.{ℕ, _+_, _-_, _≤_, _<_, max}
+-- The laws of `pushed`: what the costs leave of the word that is read, and what the largest growth says of the row. One row written leaves the others.
+use Prim.Native.Nat.{ℕ, _+_, _-_, _*_, _≤_, _<_, max}
 use mathlib.Core.Path.{_≡_}
 use mathlib.Core.Logic.{_⊎_, inl, inr}
 use mathlib.Core.List.{List}
@@ -11,7 +11,8 @@ use Rattle.plan.proofs.Truth.{split}
 use Rattle.budget.specs.Table.{only, maxBelow}
 use Rattle.budget.proofs.Max.{below-max, max-none}
 use Rattle.costs.specs.Costs.{rowWords, wordMost}
-use Rattle.rows.specs.Rows.{wordOf, pushed, StepRow, RowGrows}
+use Rattle.rows.specs.Words.{Filled}
+use Rattle.rows.specs.Rows.{viewOf, wordOf, pushed, StepRow, RowGrows}
 
 module _ (words : List ℕ) (from to : ℕ) (costs : List ℕ) (base step : ℕ) where
   -- the word at load l, with the word that is read
@@ -40,3 +41,11 @@ module _ (words : List ℕ) (from to : ℕ) (costs : List ℕ) (base step : ℕ)
   pub row-stays : maxBelow rowWords growth ≡ 0 → (l : ℕ) → l < rowWords → pushed words from to costs base step l ≡ getD words (to + l) 0
   unfolding growth pushed
   row-stays e l h = omega (arith, max-none rowWords growth e l h)
+
+-- one cell's row is filled: another cell's lies before or after it
+pub row-elsewhere : {F : ℕ → ℕ} {cell : ℕ} {old new : List ℕ} → Filled F (cell * 64) rowWords old new → (c l : ℕ) → l < rowWords → (c ≡ cell → ⊥) → viewOf new c l ≡ viewOf old c l
+row-elsewhere {cell = cell} {old} {new} f c l k q = go (split cell c)
+  where
+    go : (cell ≤ c) ⊎ (c < cell) → viewOf new c l ≡ viewOf old c l
+    go (inl h) = f .high (c * 64 + l) (omega arith)
+    go (inr h) = f .low (c * 64 + l) (omega arith)

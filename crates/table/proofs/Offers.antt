@@ -15,6 +15,7 @@ use Rattle.costs.specs.Costs.{rowWords}
 use Rattle.rows.specs.Words.{Filled, Kept, KeptFrom}
 use Rattle.rows.specs.Rows.{pushed, RowGrows}
 use Rattle.rows.proofs.Words.{filled-none, filled-longer}
+use Rattle.rows.proofs.Rows.{row-elsewhere}
 use Rattle.lists.specs.Lists.{flagOf, Listed, Enlisted}
 use Rattle.lists.proofs.Lists.{listed-kept, listed-count}
 use Rattle.trail.specs.declared.Trail.{Trail}
@@ -60,18 +61,6 @@ module _ (n to : ℕ) (costs : List ℕ) (base step : ℕ) (next : Grown) (old :
   gift-is l = refl
 
   module _ (new : List ℕ) (inPlan : to < n) (push : Filled (pushed old (n * 64) (to * 64) costs base step) (to * 64) rowWords old new) where
-    outside : (k : ℕ) → (k < to * 64) ⊎ (to * 64 + rowWords ≤ k) → getD new k 0 ≡ getD old k 0
-    outside k (inl h) = push .low k h
-    outside k (inr h) = push .high k h
-
-    -- another cell's row lies before or after
-    other : (c l : ℕ) → l < rowWords → (c ≡ to → ⊥) → (c * 64 + l < to * 64) ⊎ (to * 64 + rowWords ≤ c * 64 + l)
-    other c l k f = go (split to c)
-      where
-        go : (to ≤ c) ⊎ (c < to) → (c * 64 + l < to * 64) ⊎ (to * 64 + rowWords ≤ c * 64 + l)
-        go (inl g) = inr (omega arith)
-        go (inr g) = inl (omega arith)
-
     push-table : (c l : ℕ) → budgetOf n new c l ≡ max (budgetOf n old c l) (only (isSide n to c) (rowGift n old costs base step l))
     push-table c l = go (inside n c l) (equal c to)
       where
@@ -89,10 +78,10 @@ module _ (n to : ℕ) (costs : List ℕ) (base step : ℕ) (next : Grown) (old :
             let a : getD new (c * 64 + l) 0 ≡ max (getD old (c * 64 + l) 0) (rowGift n old costs base step l) = rw e (push .done l (h .1) ∙ gift-is l) in
             omega (arith, budget-at n new c l (h .0) (h .1), budget-at n old c l (h .0) (h .1), one-side n to c (rowGift n old costs base step l) inPlan e)
         go (inl h) (inr f) =
-            omega (arith, budget-at n new c l (h .0) (h .1), budget-at n old c l (h .0) (h .1), outside (c * 64 + l) (other c l (h .1) f), no-side n to c (rowGift n old costs base step l) (λ g q. f q))
+            omega (arith, budget-at n new c l (h .0) (h .1), budget-at n old c l (h .0) (h .1), row-elsewhere push c l (h .1) f, no-side n to c (rowGift n old costs base step l) (λ g q. f q))
 
     push-flag : (c : ℕ) → flagOf n new c ≡ flagOf n old c
-    push-flag c = outside (n * 134 + c) (inr (omega arith))
+    push-flag c = push .high (n * 134 + c) (omega arith)
 
     push-row-same : (c : ℕ) → (c ≡ to → ⊥) → SameRow n old new c
     push-row-same c f l = omega (arith, push-table c l, no-side n to c (rowGift n old costs base step l) (λ g q. f q))
@@ -109,16 +98,16 @@ module _ (n to : ℕ) (costs : List ℕ) (base step : ℕ) (next : Grown) (old :
       listed-flag c h f = list .others c h f ∙ push-flag c
 
       pub listed-row : (c : ℕ) → c < n → (c ≡ to → ⊥) → SameView old last c
-      listed-row c h f l k = list .low (c * 64 + l) (omega arith) ∙ outside (c * 64 + l) (other c l k f)
+      listed-row c h f l k = list .low (c * 64 + l) (omega arith) ∙ row-elsewhere push c l k f
 
       pub listed-high : KeptFrom (n * 136) old last
-      listed-high k h = list .high k (omega arith) ∙ outside k (inr (omega arith))
+      listed-high k h = list .high k (omega arith) ∙ push .high k (omega arith)
 
       pub listed-near : Kept (n * 64 + 64) (n * 128) old last
-      listed-near k lo hi = list .low k (omega arith) ∙ outside k (inr (omega arith))
+      listed-near k lo hi = list .low k (omega arith) ∙ push .high k (omega arith)
 
       pub listed-arrival : (l : ℕ) → arrivalOf n last l ≡ arrivalOf n old l
-      listed-arrival = arrival-kept n old last (λ k lo hi. list .low k (omega arith) ∙ outside k (inr (omega arith)))
+      listed-arrival = arrival-kept n old last (λ k lo hi. list .low k (omega arith) ∙ push .high k (omega arith))
 
       pub listed-raised : RowGrows (n * 64) (to * 64) costs base step old → Raised n old last count
       listed-raised g =
@@ -127,8 +116,8 @@ module _ (n to : ℕ) (costs : List ℕ) (base step : ℕ) (next : Grown) (old :
             listed = list .listed;
             flags = λ c h. flags c h (equal c to);
             quiet = λ c h z. quiet c h z (equal c to);
-            kept = λ k lo hi. list .low k (omega arith) ∙ outside k (inr (omega arith));
-            seeds = λ k lo hi. list .high k lo ∙ outside k (inr (omega arith));
+            kept = λ k lo hi. list .low k (omega arith) ∙ push .high k (omega arith);
+            seeds = λ k lo hi. list .high k lo ∙ push .high k (omega arith);
           }
         where
           grown : Grew n old last to

@@ -1,14 +1,13 @@
 -- `trail::restore`: the newest entry's row goes back to its cell; the trail's words and the other rows stay.
 use Prim.Native.Nat.{ℕ, _+_, _*_, _-_, _≤_, _<_}
 use mathlib.Core.Path.{_≡_, refl, ap, _∙_}
-use mathlib.Core.Logic.{_⊎_, inl, inr}
+use mathlib.Core.Logic.{inr}
 use mathlib.Core.List.{List}
 use native.Mathlib.Omega.{arith}
 use borrow.Author.Needs.{needs}
 use lib.ListN.{getD}
-use Rattle.plan.proofs.Truth.{split}
 use Rattle.rows.specs.Words.{Filled}
-use Rattle.rows.specs.Rows.{viewOf}
+use Rattle.rows.proofs.Rows.{row-elsewhere}
 use Rattle.costs.specs.Costs.{rowWords}
 use Rattle.trail.specs.declared.Trail.{Trail}
 use Rattle.trail.specs.Trail.{placeOf, cellAt, TrailAsks, Restored}
@@ -17,27 +16,15 @@ use Rattle.trail.proofs.Changes.{restored}
 use Rattle.trail.proofs.restore.Statement.{statement}
 use Rattle.trail.proofs.restore.Tie as tie
 
--- another cell's row lies before or after
-other-row : (c cell l : ℕ) → l < rowWords → (c ≡ cell → ⊥) → (c * 64 + l < cell * 64) ⊎ (cell * 64 + rowWords ≤ c * 64 + l)
-other-row c cell l k f = go (split cell c)
-  where
-    go : (cell ≤ c) ⊎ (c < cell) → (c * 64 + l < cell * 64) ⊎ (cell * 64 + rowWords ≤ c * 64 + l)
-    go (inl h) = inr (omega arith)
-    go (inr h) = inl (omega arith)
-
 module _ (n : ℕ) (old : List ℕ) (t : Trail) (new : List ℕ) (r : Trail) (asks : TrailAsks n old t) (at cell : ℕ) where
   pub put-back : r .room ≡ t .room → r .start ≡ t .start → t .count ≡ r .count + 1 → r .low ≡ t .low → r .stamp ≡ t .stamp → at ≡ placeOf n t (r .count) → cell ≡ cellAt n old t (r .count) → Filled (λ k. getD old (at + k) 0) (cell * 64) rowWords old new → Restored n old t new r
   put-back a b c d e atIs cellIs f =
       restored n old t new r (asks .sound) a b c d e (f .same) (λ k h. f .high k (omega (arith, inPlan)))
       (λ l k. rw (← cellIs) (f .done l k ∙ ap (λ (x : ℕ). getD old (x + l) 0) atIs))
-      (λ x l h k q. elsewhere x l (other-row x cell l k (λ z. q (z ∙ cellIs))))
+      (λ x l h k q. row-elsewhere f x l k (λ z. q (z ∙ cellIs)))
     where
       inPlan : cell < n
       inPlan = omega (arith, asks .sound .cells (r .count) (omega arith))
-
-      elsewhere : (x l : ℕ) → (x * 64 + l < cell * 64) ⊎ (cell * 64 + rowWords ≤ x * 64 + l) → viewOf new x l ≡ viewOf old x l
-      elsewhere x l (inl h) = f .low (x * 64 + l) h
-      elsewhere x l (inr h) = f .high (x * 64 + l) h
 
 -- the entry's place is in the words
 inside : (c : tie.After-place) → c .place .result + 67 ≤ c .before .before .before .args .n * 256
