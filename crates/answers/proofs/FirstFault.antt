@@ -20,7 +20,7 @@ use Rattle.answers.specs.declared.answer.Fault.{Fault}
 use Rattle.answers.specs.declared.tables.ElementFault.{ElementFault}
 use Rattle.answers.specs.declared.tables.ElementFault.the-variants.{Nothing, At}
 use Rattle.answers.specs.Lists.{noBuffer}
-use Rattle.answers.specs.Tables.{require, periodInRange, wireOk, registerOk, bufferOk, bufferFault, buffersFault, tablesFault, wireFrom, registerFrom, bufferFrom, bufferAt, sixPlaces, elementsOf, buffersAnswer, checkedBuffers, refusedTables, tablesAnswer, checkedTables}
+use Rattle.answers.specs.Tables.{require, periodInRange, wireOk, registerOk, bufferOk, bufferFault, buffersFault, tablesFault, wireFrom, registerFrom, bufferFrom, listedBuffer, sixPlaces, elementsOf, buffersAnswer, checkedBuffers, refusedTables, tablesAnswer, checkedTables}
 use Rattle.answers.proofs.Scan.{six-at, six-length}
 
 -- the first buffer out of range among `left` from index i on
@@ -114,12 +114,12 @@ zero-in : BufferInRange (bufferOf 0 0 0)
 unfolding bufferInRange
 zero-in = buffer-in 0 0 0 refl
 
-buffer-at : (list : BufferList) (k : ℕ) → k < list .n → bufferAt list k ≡ bufferFrom (getD (list .items) k noBuffer)
-unfolding bufferAt
+buffer-at : (list : BufferList) (k : ℕ) → k < list .n → listedBuffer list k ≡ bufferFrom (getD (list .items) k noBuffer)
+unfolding listedBuffer
 buffer-at list k h = simp (lt-ltb _ _ h)
 
-at-in : (list : BufferList) (k : ℕ) → (k < list .n → BufferInRange (bufferFrom (getD (list .items) k noBuffer))) → BufferInRange (bufferAt list k)
-unfolding bufferAt
+at-in : (list : BufferList) (k : ℕ) → (k < list .n → BufferInRange (bufferFrom (getD (list .items) k noBuffer))) → BufferInRange (listedBuffer list k)
+unfolding listedBuffer
 at-in list k h = go (ltb k (list .n)) refl where
   go : (b : Bool) → ltb k (list .n) ≡ b → BufferInRange (cond b (bufferFrom (getD (list .items) k noBuffer)) (bufferOf 0 0 0))
   go true e = h (ltb-true _ _ e)
@@ -143,9 +143,9 @@ tables-valid t list e =
       vertical = wire-in _ _ (a .0 .0 .0 .1);
       register = register-in _ _ _ _ (a .0 .0 .1);
       count = m;
-      places = six-length (bufferAt list);
+      places = six-length (listedBuffer list);
       buffers = λ k h.
-          rw (six-at (bufferAt list) k h) (at-in list k (λ g. buffer-in _ _ _ (a .1 k g)));
+          rw (six-at (listedBuffer list) k h) (at-in list k (λ g. buffer-in _ _ _ (a .1 k g)));
     }
 
 pub valid-tables : (t : Tables) (list : BufferList) → Valid (elementsOf t list) → tablesFault t list ≡ Nothing
@@ -155,7 +155,7 @@ valid-tables t list v =
     (buffers
     ((((((simp (le-leb _ _ (v .least), le-leb _ _ (v .most))), le-leb _ _ (v .limit)), in-wire _ _ (v .horizontal)), in-wire _ _ (v .vertical)), in-register _ _ _ _ (v .register)), le-leb _ _ (v .count))
     (clean (λ k g h.
-    in-buffer _ _ _ (rw (buffer-at list k (omega arith)) at (rw (six-at (bufferAt list) k (omega (arith, v .count))) at (v .buffers k (omega (arith, v .count))))))))
+    in-buffer _ _ _ (rw (buffer-at list k (omega arith)) at (rw (six-at (listedBuffer list) k (omega (arith, v .count))) at (v .buffers k (omega (arith, v .count))))))))
 
 -- What the checks answer, by the first fault.
 pub buffers-first : (list : BufferList) (f : ElementFault) → buffersFault list ≡ f → FirstBuffer (list .items) 0 (list .n) f
@@ -169,7 +169,7 @@ buffers-fault list = go (buffersFault list) where
   go Nothing = refl
   go (At f) = refl
 
-pub buffers-clean : (list : BufferList) → buffersFault list ≡ Nothing → checkedBuffers list .buffers ≡ sixPlaces (bufferAt list)
+pub buffers-clean : (list : BufferList) → buffersFault list ≡ Nothing → checkedBuffers list .buffers ≡ sixPlaces (listedBuffer list)
 unfolding checkedBuffers buffersAnswer
 buffers-clean list e = simp e
 

@@ -16,7 +16,7 @@ use Rattle.answers.specs.declared.records.BufferList.{BufferList}
 use Rattle.answers.specs.declared.answer.Fault.{Fault}
 use Rattle.answers.specs.declared.tables.ElementFault.{ElementFault}
 use Rattle.answers.specs.Lists.{noBuffer}
-use Rattle.answers.specs.Tables.{bufferOk, bufferFault, buffersFault, bufferFrom, bufferAt, sixPlaces, noBuffers}
+use Rattle.answers.specs.Tables.{bufferOk, bufferFault, buffersFault, bufferFrom, listedBuffer, sixPlaces, noBuffers}
 
 -- six places, read one by one
 pub six-at : (f : ℕ → Buffer) (i : ℕ) → i < buffersMax → getD (sixPlaces f) i (bufferOf 0 0 0) ≡ f i
@@ -76,15 +76,15 @@ pub scanned-clean : (list : BufferList) (i : ℕ) (buffers : List Buffer) → Sc
 unfolding bufferFault
 scanned-clean list i buffers s h = let e : list .n - i ≡ 0 = omega arith in s .rest ∙ simp e
 
-pub scanned-all : (list : BufferList) (i : ℕ) (buffers : List Buffer) → Scanned list i buffers → list .n ≡ i → buffers ≡ sixPlaces (bufferAt list)
-unfolding bufferAt
+pub scanned-all : (list : BufferList) (i : ℕ) (buffers : List Buffer) → Scanned list i buffers → list .n ≡ i → buffers ≡ sixPlaces (listedBuffer list)
+unfolding listedBuffer
 scanned-all list i buffers s e =
-    ext-getD (bufferOf 0 0 0) buffers (sixPlaces (bufferAt list)) (s .six ∙ sym (six-length (bufferAt list))) (λ k h.
+    ext-getD (bufferOf 0 0 0) buffers (sixPlaces (listedBuffer list)) (s .six ∙ sym (six-length (listedBuffer list))) (λ k h.
     let g : k < buffersMax = omega (arith, s .six) in
-    at k g ∙ sym (six-at (bufferAt list) k g))
+    at k g ∙ sym (six-at (listedBuffer list) k g))
   where
-    at : (k : ℕ) → k < buffersMax → getD buffers k (bufferOf 0 0 0) ≡ bufferAt list k
+    at : (k : ℕ) → k < buffersMax → getD buffers k (bufferOf 0 0 0) ≡ listedBuffer list k
     at k g = go (ltb k i) refl where
-      go : (b : Bool) → ltb k i ≡ b → getD buffers k (bufferOf 0 0 0) ≡ bufferAt list k
+      go : (b : Bool) → ltb k i ≡ b → getD buffers k (bufferOf 0 0 0) ≡ listedBuffer list k
       go true q = s .done k (ltb-true _ _ q) ∙ simp (e, q)
       go false q = s .free k (ltb-false _ _ q) g ∙ simp (e, q)

@@ -68,8 +68,8 @@ unfoldable pub bufferFrom : BufferRecord → Buffer
 bufferFrom b = bufferOf (b .resistance) (b .delay) (b .load)
 
 -- the buffer at index i: of zeros at and past the count
-unfoldable pub bufferAt : BufferList → ℕ → Buffer
-bufferAt list i = cond (ltb i (list .n)) (bufferFrom (getD (list .items) i noBuffer)) (bufferOf 0 0 0)
+unfoldable pub listedBuffer : BufferList → ℕ → Buffer
+listedBuffer list i = cond (ltb i (list .n)) (bufferFrom (getD (list .items) i noBuffer)) (bufferOf 0 0 0)
 
 unfoldable pub sixPlaces : (ℕ → Buffer) → List Buffer
 sixPlaces f = f 0 ∷ f 1 ∷ f 2 ∷ f 3 ∷ f 4 ∷ f 5 ∷ []
@@ -83,7 +83,7 @@ elementsOf t list =
       vertical = wireFrom (t .vertical);
       register = registerFrom (t .register);
       count = list .n;
-      buffers = sixPlaces (bufferAt list);
+      buffers = sixPlaces (listedBuffer list);
     }
 
 unfoldable pub noBuffers : List Buffer
@@ -103,7 +103,7 @@ noElements =
 
 -- What the checks answer: the elements, or the first fault and zeros.
 unfoldable pub buffersAnswer : ElementFault → BufferList → BuffersCheck
-buffersAnswer Nothing list = record { fault = Nothing; buffers = sixPlaces (bufferAt list) }
+buffersAnswer Nothing list = record { fault = Nothing; buffers = sixPlaces (listedBuffer list) }
 buffersAnswer (At f) list = record { fault = At f; buffers = noBuffers }
 
 unfoldable pub checkedBuffers : BufferList → BuffersCheck

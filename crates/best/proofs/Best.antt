@@ -17,7 +17,7 @@ use Rattle.budget.proofs.Best.{best-registers, best-steps}
 use Rattle.budget.proofs.Best.{best-none as no-ending}
 use Rattle.budget.proofs.Emit.{emit-first, emit-best}
 use Rattle.best.specs.Rows.{tableOf, Bounded}
-use Rattle.best.specs.Labels.{labelsOf}
+use Rattle.best.specs.Labels.{labelsListed}
 use Rattle.best.specs.Search.{Found, mostSteps}
 use Rattle.best.specs.Best.{reachRows, routeOf, Outcome, found, none, outcome, best}
 use Rattle.best.proofs.Rows.{Inside, empty-zero, layer-rows, layer-rows-inside}
@@ -68,8 +68,8 @@ module _ (R : Rules) (law : Lawful R) (bounded : Bounded R) where
     where
       go : {x : Found} → Right R x → Answers R (outcome R x)
       go (least {k = k} {s = s} {q = q} {list = list} labels fewest most few) =
-          isBest (route-best k s q (labelsOf list) labels fewest) (omega (arith, route-steps k s q (labelsOf list) labels fewest))
-          (omega (arith, route-registers k s q (labelsOf list) labels fewest))
+          isBest (route-best k s q (labelsListed list) labels fewest) (omega (arith, route-steps k s q (labelsListed list) labels fewest))
+          (omega (arith, route-registers k s q (labelsListed list) labels fewest))
       go (never f) = noneLegal (no-ending R f)
 
   -- it is r if and only if r is the best route

@@ -14,11 +14,11 @@ use Rattle.plan.proofs.Truth.{both, fst, snd, parts, is-true, of-true, eq→eqb
 use Rattle.budget.specs.Table.{Table}
 use Rattle.budget.specs.Done.{Labels}
 use Rattle.budget.specs.Search.{Relabelled}
-use Rattle.best.specs.Labels.{Label, unknown, known, isKnown, registersOf, stepsOf, labelsOf, relabelAt, relabel, least, leastBelow, isPending, isOfWave}
+use Rattle.best.specs.Labels.{Label, unknown, known, isKnown, registersOf, stepsOf, labelsListed, relabelAt, relabel, least, leastBelow, isPending, isOfWave}
 use Rattle.best.proofs.Rows.{Inside, list-at, list-past}
 
-pub none-known : (c : ℕ) → T (labelsOf [] .known c) → ⊥
-unfolding labelsOf isKnown
+pub none-known : (c : ℕ) → T (labelsListed [] .known c) → ⊥
+unfolding labelsListed isKnown
 none-known c h = h
 
 -- one label
@@ -48,21 +48,21 @@ module _ (R : Rules) (k s : ℕ) (A : Table) (c : ℕ) where
 
 -- all labels: those in hand are of cells in the plan
 
-module _ (R : Rules) (k s : ℕ) (A : Table) (list : List Label) (inside : Inside R A) (inPlan : (c : ℕ) → T (labelsOf list .known c) → c < R .cellCount) where
+module _ (R : Rules) (k s : ℕ) (A : Table) (list : List Label) (inside : Inside R A) (inPlan : (c : ℕ) → T (labelsListed list .known c) → c < R .cellCount) where
   label-at : (c : ℕ) → c < R .cellCount → getD (relabel R k s A list) c unknown ≡ relabelAt R k s A c (getD list c unknown)
   unfolding relabel
   label-at c h = list-at (λ c. relabelAt R k s A c (getD list c unknown)) (R .cellCount) c unknown h
 
-  new-in-plan : (c : ℕ) → T (labelsOf (relabel R k s A list) .known c) → c < R .cellCount
-  unfolding labelsOf relabel isKnown
+  new-in-plan : (c : ℕ) → T (labelsListed (relabel R k s A list) .known c) → c < R .cellCount
+  unfolding labelsListed relabel isKnown
   new-in-plan c h = go (split (R .cellCount) c)
     where
       go : (R .cellCount ≤ c) ⊎ (c < R .cellCount) → c < R .cellCount
       go (inl q) = absurd (rw (list-past (λ c. relabelAt R k s A c (getD list c unknown)) (R .cellCount) 0 c unknown q) at h)
       go (inr q) = q
 
-  pub relabelled : Relabelled R k s A (labelsOf list) (labelsOf (relabel R k s A list))
-  unfolding labelsOf
+  pub relabelled : Relabelled R k s A (labelsListed list) (labelsListed (relabel R k s A list))
+  unfolding labelsListed
   relabelled = record { kept = kept; added = added; every = every }
     where
       old : ℕ → Label

@@ -19,7 +19,7 @@ use Rattle.budget.proofs.Search.{Arrived, next-table}
 use Rattle.budget.proofs.Turns.{search-start, layer-found, layer-turn, pending-turn, wave-turn, none-turn}
 use Rattle.budget.proofs.Done.{not-after-trans}
 use Rattle.best.specs.Rows.{Rows, tableOf, layerRows, total, Bounded}
-use Rattle.best.specs.Labels.{Label, labelsOf, relabel, isPending, isOfWave, nextPending, firstOfWave}
+use Rattle.best.specs.Labels.{Label, labelsListed, relabel, isPending, isOfWave, nextPending, firstOfWave}
 use Rattle.best.specs.Search.{Found, figures, nothing, Turn, ends, goesOn, layerTurn, quietTurn, turn, searchFrom, mostSteps, mostTurns, search}
 use Rattle.best.proofs.Sums.{total-same}
 use Rattle.best.proofs.Rows.{Inside, empty-zero, layer-inside, layer-rows, layer-rows-inside}
@@ -28,20 +28,20 @@ use Rattle.best.proofs.Bounds.{done-in-plan, budgets-most, seeds, seeds
 
 -- what the search answers is right
 pub data Right (R : Rules) : Found → Type 0 where
-  least : {k s q : ℕ} {list : List Label} → Labelled R k q (labelsOf list) → Least R k s (R .sink) (R .start .load) (R .start .delay) → s ≤ mostSteps R → k ≤ R .cellCount → Right R (figures k s list)
+  least : {k s q : ℕ} {list : List Label} → Labelled R k q (labelsListed list) → Least R k s (R .sink) (R .start .load) (R .start .delay) → s ≤ mostSteps R → k ≤ R .cellCount → Right R (figures k s list)
   never : ((p q : ℕ) → FromSink R p q → ⊥) → Right R nothing
 
 -- between two turns
 record Ready (R : Rules) (k s : ℕ) (rows : Rows) (list : List Label) : Type 0 where
-  pub now : Searching R k s (tableOf rows) (labelsOf list)
+  pub now : Searching R k s (tableOf rows) (labelsListed list)
   pub inside : Inside R (tableOf rows)
   pub steps : s ≤ total R (tableOf rows)
-  pub stamps : (c : ℕ) → T (labelsOf list .known c) → labelsOf list .steps c ≤ total R (tableOf rows)
-  pub waves : k ≤ fewers R (labelsOf list) k
+  pub stamps : (c : ℕ) → T (labelsListed list .known c) → labelsListed list .steps c ≤ total R (tableOf rows)
+  pub waves : k ≤ fewers R (labelsListed list) k
 
 -- what a turn adds to
 abbrev work : Rules → ℕ → ℕ → Rows → List Label → ℕ
-work R k s rows list = total R (tableOf rows) + seeds R (labelsOf list) k s
+work R k s rows list = total R (tableOf rows) + seeds R (labelsListed list) k s
 
 data Turned (R : Rules) (before : ℕ) : Turn → Type 0 where
   ended : {x : Found} → Right R x → Turned R before (ends x)
@@ -52,7 +52,7 @@ module _ (R : Rules) (law : Lawful R) (bounded : Bounded R) (k s : ℕ) (rows : 
   A = tableOf rows
 
   abbrev m : Labels
-  m = labelsOf list
+  m = labelsListed list
 
   abbrev next : Rows
   next = layerRows R (seedAt R m k s) rows
@@ -74,7 +74,7 @@ module _ (R : Rules) (law : Lawful R) (bounded : Bounded R) (k s : ℕ) (rows : 
     abbrev new : List Label
     new = relabel R k (suc s) (tableOf next) list
 
-    again : Relabelled R k (suc s) (tableOf next) m (labelsOf new)
+    again : Relabelled R k (suc s) (tableOf next) m (labelsListed new)
     again = relabelled R k (suc s) (tableOf next) list (layer-rows-inside R bounded (seedAt R m k s) rows) label-in-plan
 
     reached : R .start .delay < tableOf next (R .sink) (R .start .load) → Right R (figures k (suc s) list)
@@ -83,15 +83,15 @@ module _ (R : Rules) (law : Lawful R) (bounded : Bounded R) (k s : ℕ) (rows : 
         (omega (arith, ready .steps, budgets-most R law (next-table R law k s m (ready .now .labels) A (tableOf next) (ready .now .table) is-next)))
         (omega (arith, ready .waves, fewers-most R m k))
 
-    stay : (c : ℕ) → Arrived m k s c → Arrived (labelsOf new) k (suc s) c
+    stay : (c : ℕ) → Arrived m k s c → Arrived (labelsListed new) k (suc s) c
     stay c a =
         let q = again .kept c (a .known) in
         record { known = q .0; early = rw (q .1 .0, q .1 .1) (not-after-trans (a .early) (inr (refl, omega arith))) }
 
-    stamps : (c : ℕ) → T (labelsOf new .known c) → labelsOf new .steps c ≤ total R (tableOf next)
+    stamps : (c : ℕ) → T (labelsListed new .known c) → labelsListed new .steps c ≤ total R (tableOf next)
     stamps c h = go (decided (m .known c))
       where
-        go : T (m .known c) ⊎ T (not (m .known c)) → labelsOf new .steps c ≤ total R (tableOf next)
+        go : T (m .known c) ⊎ T (not (m .known c)) → labelsListed new .steps c ≤ total R (tableOf next)
         go (inl q) = omega (arith, ready .stamps c q, again .kept c q .1 .1)
         go (inr q) = omega (arith, ready .steps, again .added c h (T-not (m .known c) q) .1 .1 .1)
 
@@ -102,7 +102,7 @@ module _ (R : Rules) (law : Lawful R) (bounded : Bounded R) (k s : ℕ) (rows : 
           inside = layer-rows-inside R bounded (seedAt R m k s) rows;
           steps = omega (arith, ready .steps);
           stamps = stamps;
-          waves = omega (arith, ready .waves, fewers-more R m (labelsOf new) k (λ c h. (again .kept c h .0, again .kept c h .1 .0)));
+          waves = omega (arith, ready .waves, fewers-more R m (labelsListed new) k (λ c h. (again .kept c h .0, again .kept c h .1 .0)));
         }
 
     layer-turned : Turned R before (layerTurn R k s next list)
@@ -201,7 +201,7 @@ module _ (R : Rules) (law : Lawful R) (bounded : Bounded R) (k s : ℕ) (rows : 
 search-from : (R : Rules) (law : Lawful R) (bounded : Bounded R) (fuel k s : ℕ) (rows : Rows) (list : List Label) → Ready R k s rows list → mostTurns R < fuel + work R k s rows list → Right R (searchFrom R fuel k s rows list)
 unfolding searchFrom mostTurns
 search-from R law bounded zero k s rows list ready enough =
-    absurd (omega (arith, budgets-most R law (ready .now .table), seeds-most R (labelsOf list) k s))
+    absurd (omega (arith, budgets-most R law (ready .now .table), seeds-most R (labelsListed list) k s))
 search-from R law bounded (suc fuel) k s rows list ready enough = go (turned R law bounded k s rows list ready) (search-from R law bounded fuel)
   where
     go : {x : Turn} → Turned R (work R k s rows list) x → ((k s : ℕ) (rows : Rows) (list : List Label) → Ready R k s rows list → mostTurns R < fuel + work R k s rows list → Right R (searchFrom R fuel k s rows list)) → Right R (elim x [ ends y ↦ y | goesOn j t next more ↦ searchFrom R fuel j t next more ])
@@ -215,7 +215,7 @@ search-right R law bounded = search-from R law bounded _ 0 0 [] [] start (omega 
     start : Ready R 0 0 [] []
     start =
         record {
-          now = search-start R (tableOf []) (labelsOf []) empty-zero none-known;
+          now = search-start R (tableOf []) (labelsListed []) empty-zero none-known;
           inside = λ c l f. empty-zero c l;
           steps = omega arith;
           stamps = λ c h. absurd (none-known c h);

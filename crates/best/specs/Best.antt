@@ -6,7 +6,7 @@ use Rattle.rules.specs.Legal.{Route}
 use Rattle.budget.specs.Done.{Labels}
 use Rattle.budget.specs.Emission.{exactSeed, visit, emit}
 use Rattle.best.specs.Rows.{Rows, tableOf, layerRows}
-use Rattle.best.specs.Labels.{labelsOf}
+use Rattle.best.specs.Labels.{labelsListed}
 use Rattle.best.specs.Search.{Found, figures, nothing, search}
 
 -- the tables of the emission
@@ -24,7 +24,7 @@ pub data Outcome : Type 0 where
   none : Outcome
 
 unfoldable pub outcome : Rules → Found → Outcome
-outcome R (figures k s list) = found (routeOf R k s (labelsOf list))
+outcome R (figures k s list) = found (routeOf R k s (labelsListed list))
 outcome R nothing = none
 
 unfoldable pub best : Rules → Outcome

@@ -28,8 +28,8 @@ unfoldable pub stepsOf : Label → ℕ
 stepsOf unknown = 0
 stepsOf (known r t) = t
 
-unfoldable pub labelsOf : List Label → Labels
-labelsOf list =
+unfoldable pub labelsListed : List Label → Labels
+labelsListed list =
     record {
       known = λ c. isKnown (getD list c unknown);
       registers = λ c. registersOf (getD list c unknown);

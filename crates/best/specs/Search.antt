@@ -7,7 +7,7 @@ use lib.Dec.{ltb}
 use Rattle.rules.specs.Rules.{Rules}
 use Rattle.budget.specs.Done.{seedAt}
 use Rattle.best.specs.Rows.{Rows, tableOf, layerRows, total}
-use Rattle.best.specs.Labels.{Label, labelsOf, relabel, nextPending, firstOfWave}
+use Rattle.best.specs.Labels.{Label, labelsListed, relabel, nextPending, firstOfWave}
 
 -- the least registers and steps from the sink, with the labels so far; or that no ending exists
 pub data Found : Type 0 where
@@ -33,9 +33,9 @@ quietTurn k rows list none none = ends nothing
 
 unfoldable pub turn : Rules → ℕ → ℕ → Rows → List Label → Turn
 turn R k s rows list =
-    let next : Rows = layerRows R (seedAt R (labelsOf list) k s) rows in
+    let next : Rows = layerRows R (seedAt R (labelsListed list) k s) rows in
     cond (ltb (total R (tableOf rows)) (total R (tableOf next))) (layerTurn R k s next list)
-    (quietTurn k rows list (nextPending R (labelsOf list) k s) (firstOfWave R (labelsOf list) k))
+    (quietTurn k rows list (nextPending R (labelsListed list) k s) (firstOfWave R (labelsListed list) k))
 
 -- `fuel` turns; it is more than there are
 unfoldable pub searchFrom : Rules → ℕ → ℕ → ℕ → Rows → List Label → Found

@@ -3,12 +3,12 @@ use Prim.Native.Nat.{ℕ}
 use mathlib.Core.Path.{_≡_, refl}
 use mathlib.Core.List.{List, [], _∷_}
 use Rattle.plan.specs.Plan.{cells, row, column, marksAt, blocked, tap, cutRight, cutBelow}
-use Rattle.plan.specs.Joined.{wireRight, wireBelow, bothIn, horizontal, vertical, joined}
+use Rattle.plan.specs.Joined.{joinsRight, joinsBelow, bothIn, horizontal, vertical, joined}
 use Rattle.timing.specs.Formulas.{wireDelay, gateDelay, wireLoad, bufferDriver, bufferLoad, registerDriver, registerLoad, setupDelay}
 use Rattle.timing.specs.Elements.{wireOf, driverOf, bufferOf, registerOf}
 use Rattle.timing.specs.Valid.{Valid}
 use Rattle.rules.specs.Rules.{rulesOf, siteOf}
-use Rattle.rules.specs.Rules.{wireOf as stepOf}
+use Rattle.rules.specs.Rules.{wireBetween}
 use Rattle.rules.specs.Legal.{mayStand, isEnd, arrive, leave, closing}
 use Rattle.rules.specs.Ranking.{codeSevens, registers, steps, latency}
 use Rattle.rules.specs.Beginning.{nextPlace, placeFrom, startPlace, placeAfter}
@@ -17,7 +17,7 @@ use Rattle.budget.specs.Done.{seedAt}
 use Rattle.budget.specs.Emission.{exactSeed, goesOn, afterLoad, afterDelay, afterRegisters, visit, firstFrom, nextCode, nextCell, emit}
 use Rattle.lists.specs.Lists.{sumBelow}
 use Rattle.best.specs.Rows.{listFrom, tableOf, rowsOf, layerRows, total}
-use Rattle.best.specs.Labels.{isKnown, registersOf, stepsOf, labelsOf, relabelAt, relabel, least, leastBelow, isPending, isOfWave, nextPending, firstOfWave}
+use Rattle.best.specs.Labels.{isKnown, registersOf, stepsOf, labelsListed, relabelAt, relabel, least, leastBelow, isPending, isOfWave, nextPending, firstOfWave}
 use Rattle.best.specs.Search.{layerTurn, quietTurn, turn, searchFrom, mostSteps, mostTurns, search}
 use Rattle.best.specs.Best.{Outcome, found, none, reachRows, routeOf, outcome, best}
 use Rattle.best.proofs.Document01.{rules-best, rules-none}
@@ -31,7 +31,7 @@ Agrees x period (route k s t r) = (x ≡ found r) × (registers r ≡ k) × (ste
 Agrees x period noRoute = x ≡ none
 
 computed : Each (λ c. Agrees (best (rulesIn c)) (c .elements .period) (c .expected)) cases
-unfolding cells row column marksAt blocked tap cutRight cutBelow wireRight wireBelow bothIn horizontal vertical joined wireOf bufferOf registerOf driverOf wireDelay gateDelay wireLoad bufferDriver bufferLoad registerDriver registerLoad setupDelay rulesOf siteOf stepOf mayStand isEnd loadAt delayAt bufferCost loadOf closeCost only maxBelow viaBuffer arrival given seedAt exactSeed goesOn afterLoad afterDelay afterRegisters firstFrom nextCode nextCell emit listFrom sumBelow tableOf rowsOf layerRows total isKnown registersOf stepsOf labelsOf relabelAt relabel least leastBelow isPending isOfWave nextPending firstOfWave layerTurn quietTurn turn searchFrom mostSteps mostTurns search reachRows routeOf outcome best tables strip straight codeSevens registers steps latency case1 case2 case3 case4 case5 case6 case7 case8 case9 case10 case11 case12 case13
+unfolding cells row column marksAt blocked tap cutRight cutBelow joinsRight joinsBelow bothIn horizontal vertical joined wireOf bufferOf registerOf driverOf wireDelay gateDelay wireLoad bufferDriver bufferLoad registerDriver registerLoad setupDelay rulesOf siteOf wireBetween mayStand isEnd loadAt delayAt bufferCost loadOf closeCost only maxBelow viaBuffer arrival given seedAt exactSeed goesOn afterLoad afterDelay afterRegisters firstFrom nextCode nextCell emit listFrom sumBelow tableOf rowsOf layerRows total isKnown registersOf stepsOf labelsListed relabelAt relabel least leastBelow isPending isOfWave nextPending firstOfWave layerTurn quietTurn turn searchFrom mostSteps mostTurns search reachRows routeOf outcome best tables strip straight codeSevens registers steps latency case1 case2 case3 case4 case5 case6 case7 case8 case9 case10 case11 case12 case13
 computed =
     more case1 (refl, refl, refl, refl)
     (more case2 (refl, refl, refl, refl)
@@ -66,5 +66,5 @@ worked-routes = together right valid computed
 
 -- R1 closes at 52 half-ticks, which is 2T.
 pub first-close : closesAt (rulesIn case1) (visit 2 7) (visit 1 0 ∷ []) 0 ≡ close1
-unfolding closesAt placeAfter placeFrom startPlace nextPlace arrive leave closing case1 strip tables wireOf registerOf driverOf wireDelay wireLoad gateDelay registerDriver registerLoad setupDelay rulesOf stepOf cells row column marksAt cutRight cutBelow wireRight wireBelow bothIn horizontal
+unfolding closesAt placeAfter placeFrom startPlace nextPlace arrive leave closing case1 strip tables wireOf registerOf driverOf wireDelay wireLoad gateDelay registerDriver registerLoad setupDelay rulesOf wireBetween cells row column marksAt cutRight cutBelow joinsRight joinsBelow bothIn horizontal
 first-close = refl

@@ -13,7 +13,7 @@ use Rattle.plan.proofs.Sides.{Ascending, IsNeighbour, ascending, joined-neighbo
 use Rattle.timing.specs.declared.elements.Wire.{Wire}
 use Rattle.timing.specs.declared.elements.Elements.{Elements}
 use Rattle.timing.specs.Elements.{WireInRange}
-use Rattle.rules.specs.Rules.{Rules, rulesOf, wireOf, registerCode}
+use Rattle.rules.specs.Rules.{Rules, rulesOf, wireBetween, registerCode}
 use Rattle.plan.proofs.Truth.{is-true, is-false}
 use Rattle.budget.specs.Table.{Table}
 use Rattle.budget.specs.Done.{Labels}
@@ -67,12 +67,12 @@ module _ (p : Problem) (marks words : List ℕ) (from : State) (asks : ChooseAsk
   linked c s h = neighbour-joined P (asks .ready .sized) (from .cell) inside c (omega (arith, cells-are p marks (asks .ready))) s
 
   across : (c : ℕ) → (c ≡ near .left) ⊎ (c ≡ near .right) → c < n → R .wire (from .cell) c ≡ e .horizontal
-  unfolding rulesFor rulesOf wireOf
+  unfolding rulesFor rulesOf wireBetween
   across c s h =
       rw (is-true (horizontal P (from .cell) c) (neighbour-horizontal P (asks .ready .sized) (from .cell) inside c (omega (arith, cells-are p marks (asks .ready))) s))
 
   along : (c : ℕ) → (c ≡ near .up) ⊎ (c ≡ near .down) → c < n → R .wire (from .cell) c ≡ e .vertical
-  unfolding rulesFor rulesOf wireOf
+  unfolding rulesFor rulesOf wireBetween
   along c s h =
       rw (is-false (horizontal P (from .cell) c) (not-T (horizontal P (from .cell) c) (λ t. go s (horizontal-neighbour P (asks .ready .sized) (from .cell) inside c t))))
     where

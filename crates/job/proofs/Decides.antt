@@ -14,7 +14,7 @@ use Rattle.timing.specs.Ranges.{buffersMax}
 use Rattle.router.specs.Route.{Question}
 use Rattle.numbers.specs.Numbers.{Read, numberMax, number}
 use Rattle.numbers.specs.Runs.{Run, jobFault, run}
-use Rattle.job.specs.Job.{Reading, refuses, sizeFault, cellsMax, marksMax, markFault, gridNumber, countFault, withNumber, withRun, askedOf, questionFrom, ended, buffersFrom, countFrom, tablesFrom, marksFrom, sized, readJob}
+use Rattle.job.specs.Job.{Reading, refuses, sizeFault, cellsMax, marksMax, markNumber, gridNumber, countNumber, withNumber, withRun, askedOf, questionFrom, ended, buffersFrom, countFrom, tablesFrom, marksFrom, sized, readJob}
 use Rattle.job.specs.declared.read.Asked.{Asked}
 use Rattle.job.proofs.Stages.{grid-sides}
 use Rattle.numbers.proofs.Cut.{size, size-small, size-most, Cut, both-fault, both-value, number-cut, RunCut, both-refused, both-values, bytesOf, bytes-are, run-cut}
@@ -37,9 +37,9 @@ with-run next (both-values vs rest k most) same = same vs rest k most
 numbers-cut : (n m : ℕ) (bytes : List ℕ) → n * 3 ≤ m → RunCut m (bytesOf n 3) (run n numberMax jobFault (take m bytes)) (run n numberMax jobFault bytes)
 numbers-cut n m bytes h = run-cut numberMax jobFault 3 0 (λ v most. size-most v) (omega arith) n m bytes (omega (arith, bytes-are n 3))
 
-marks-run : (n m : ℕ) (bytes : List ℕ) → n + 2 ≤ m → RunCut m (bytesOf n 1) (run n marksMax markFault (take m bytes)) (run n marksMax markFault bytes)
+marks-run : (n m : ℕ) (bytes : List ℕ) → n + 2 ≤ m → RunCut m (bytesOf n 1) (run n marksMax markNumber (take m bytes)) (run n marksMax markNumber bytes)
 marks-run n m bytes h =
-    run-cut marksMax markFault 1 2 (λ v most. omega (arith, size-small v (omega arith))) (omega arith) n m bytes (omega (arith, bytes-are n 1))
+    run-cut marksMax markNumber 1 2 (λ v most. omega (arith, size-small v (omega arith))) (omega arith) n m bytes (omega (arith, bytes-are n 1))
 
 ended-cut : (q : Question) (k : ℕ) (rest : List ℕ) → 1 ≤ k → ended q (take k rest) ≡ ended q rest
 unfolding ended
@@ -61,8 +61,8 @@ buffers-cut marks a n m bytes few h =
 count-cut : (marks : List ℕ) (a : Asked) (m : ℕ) (bytes : List ℕ) → 56 ≤ m → countFrom marks a (take m bytes) ≡ countFrom marks a bytes
 unfolding countFrom
 count-cut marks a m bytes h =
-    with-number m bytes (λ n rest. cond (ltb buffersMax n) (refuses countFault) (buffersFrom marks a n rest)) (omega arith)
-    (λ n rest k most. unless (ltb buffersMax n) countFault (buffersFrom marks a n (take k rest)) (buffersFrom marks a n rest) (λ e.
+    with-number m bytes (λ n rest. cond (ltb buffersMax n) (refuses countNumber) (buffersFrom marks a n rest)) (omega arith)
+    (λ n rest k most. unless (ltb buffersMax n) countNumber (buffersFrom marks a n (take k rest)) (buffersFrom marks a n rest) (λ e.
     let few : n ≤ buffersMax = ltb-false buffersMax n e in
     buffers-cut marks a n k rest few (omega (arith, size-small n (omega arith)))))
 

@@ -6,14 +6,14 @@ use native.Mathlib.Numerals.{add-one}
 use native.Mathlib.Omega.{arith}
 use lib.ListN.{length, getD, take, set, length-take, List·getD-eq-default}
 use lib.Seq.{getD-take, take-suc, take-suc-set}
-use Rattle.job.specs.Fields.{bufferOf}
+use Rattle.job.specs.Fields.{bufferRecordAt}
 
 module _ (words : List ℕ) (count i : ℕ) where
   past : (k : ℕ) → count ≤ i → 3 * i ≤ k → getD (take (3 * count) words) k 0 ≡ 0
   past k h g = List·getD-eq-default (take (3 * count) words) 0 (omega (arith, length-take (3 * count) words))
 
-  pub buffer-past : count ≤ i → record { resistance = 0; delay = 0; load = 0 } ≡ bufferOf (take (3 * count) words) i
-  unfolding bufferOf
+  pub buffer-past : count ≤ i → record { resistance = 0; delay = 0; load = 0 } ≡ bufferRecordAt (take (3 * count) words) i
+  unfolding bufferRecordAt
   buffer-past h =
       λ j. record {
         resistance = sym (past (3 * i) h (omega arith)) j;
@@ -21,8 +21,8 @@ module _ (words : List ℕ) (count i : ℕ) where
         load = sym (past (3 * i + 2) h (omega arith)) j;
       }
 
-  pub buffer-within : i < count → record { resistance = getD words (3 * i) 0; delay = getD words (3 * i + 1) 0; load = getD words (3 * i + 2) 0 } ≡ bufferOf (take (3 * count) words) i
-  unfolding bufferOf
+  pub buffer-within : i < count → record { resistance = getD words (3 * i) 0; delay = getD words (3 * i + 1) 0; load = getD words (3 * i + 2) 0 } ≡ bufferRecordAt (take (3 * count) words) i
+  unfolding bufferRecordAt
   buffer-within h =
       λ j. record {
         resistance = sym (getD-take (3 * count) words (3 * i) 0 (omega arith)) j;

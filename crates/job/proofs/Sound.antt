@@ -10,8 +10,8 @@ use Rattle.timing.specs.Ranges.{buffersMax}
 use Rattle.router.specs.Route.{Question}
 use Rattle.numbers.specs.Numbers.{Read, value, fault, numberMax, number}
 use Rattle.numbers.specs.Runs.{Run, values, refused, jobFault, run}
-use Rattle.job.specs.Fields.{buffersOf}
-use Rattle.job.specs.Job.{Reading, asks, refuses, sizeFault, cellsMax, marksMax, markFault, gridNumber, countFault, withNumber, withRun, askedOf, questionFrom, ended, buffersFrom, countFrom, tablesFrom, marksFrom, sized, readJob}
+use Rattle.job.specs.Fields.{bufferListOf}
+use Rattle.job.specs.Job.{Reading, asks, refuses, sizeFault, cellsMax, marksMax, markNumber, gridNumber, countNumber, withNumber, withRun, askedOf, questionFrom, ended, buffersFrom, countFrom, tablesFrom, marksFrom, sized, readJob}
 use Rattle.job.specs.declared.read.Asked.{Asked}
 
 pub record Small (q : Question) : Type 0 where
@@ -45,7 +45,7 @@ ended-small q [] h = h
 ended-small q (byte ∷ rest) h = tt
 
 buffers-small : (marks : List ℕ) (a : Asked) (n : ℕ) (bytes : List ℕ) → a .width * a .height ≤ cellsMax → n ≤ buffersMax → Sound Small (buffersFrom marks a n bytes)
-unfolding buffersFrom questionFrom buffersOf
+unfolding buffersFrom questionFrom bufferListOf
 buffers-small marks a n bytes c b =
     with-run (run (3 * n) numberMax jobFault bytes) (λ vs rest. ended (questionFrom marks a n vs) rest)
     (λ vs rest. ended-small (questionFrom marks a n vs) rest (record { cells = c; buffers = b }))
@@ -53,8 +53,8 @@ buffers-small marks a n bytes c b =
 count-small : (marks : List ℕ) (a : Asked) (bytes : List ℕ) → a .width * a .height ≤ cellsMax → Sound Small (countFrom marks a bytes)
 unfolding countFrom
 count-small marks a bytes c =
-    with-number (number bytes) (λ n rest. cond (ltb buffersMax n) (refuses countFault) (buffersFrom marks a n rest))
-    (λ n rest. unless (ltb buffersMax n) countFault (buffersFrom marks a n rest) (λ e. buffers-small marks a n rest c (ltb-false buffersMax n e)))
+    with-number (number bytes) (λ n rest. cond (ltb buffersMax n) (refuses countNumber) (buffersFrom marks a n rest))
+    (λ n rest. unless (ltb buffersMax n) countNumber (buffersFrom marks a n rest) (λ e. buffers-small marks a n rest c (ltb-false buffersMax n e)))
 
 tables-small : (w h : ℕ) (marks bytes : List ℕ) → w * h ≤ cellsMax → Sound Small (tablesFrom w h marks bytes)
 unfolding tablesFrom askedOf
@@ -65,7 +65,7 @@ tables-small w h marks bytes c =
 marks-small : (w h : ℕ) (bytes : List ℕ) → w * h ≤ cellsMax → Sound Small (marksFrom w h bytes)
 unfolding marksFrom
 marks-small w h bytes c =
-    with-run (run (w * h) marksMax markFault bytes) (λ marks rest. tablesFrom w h marks rest)
+    with-run (run (w * h) marksMax markNumber bytes) (λ marks rest. tablesFrom w h marks rest)
     (λ marks rest. tables-small w h marks rest c)
 
 sized-small : (w h : ℕ) (bytes : List ℕ) → Sound Small (sized w h bytes)

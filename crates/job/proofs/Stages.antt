@@ -16,7 +16,7 @@ use Rattle.answers.specs.declared.records.Tables.{Tables}
 use Rattle.numbers.specs.Numbers.{value, fault, numberMax, number, readOf}
 use Rattle.numbers.specs.Runs.{Run, values, refused, jobFault, run, runOf}
 use Rattle.job.specs.Fields.{tablesOf}
-use Rattle.job.specs.Job.{sizeFault, cellsMax, marksMax, markFault, gridNumber, countFault, withNumber, withRun, askedOf, ended, buffersFrom, countFrom, tablesFrom, marksFrom, sized, readJob, marksOf, readingOf}
+use Rattle.job.specs.Job.{sizeFault, cellsMax, marksMax, markNumber, gridNumber, countNumber, withNumber, withRun, askedOf, ended, buffersFrom, countFrom, tablesFrom, marksFrom, sized, readJob, marksOf, readingOf}
 use Rattle.numbers.specs.declared.number.Number.{Number}
 use Rattle.numbers.specs.declared.series.Series.{Series}
 use Rattle.job.specs.declared.read.Asked.{Asked}
@@ -65,7 +65,7 @@ module _ (plan words : List ℕ) (marks : List ℕ) (a : Asked) (bytes : List �
   unfolding readingOf countFrom withNumber
   count-bad e = rw (e, withNumber)
 
-  pub count-above : (n : ℕ) (rest : List ℕ) → number bytes ≡ value n rest → buffersMax < n → readingOf plan words (Job.Refused countFault) ≡ countFrom marks a bytes
+  pub count-above : (n : ℕ) (rest : List ℕ) → number bytes ≡ value n rest → buffersMax < n → readingOf plan words (Job.Refused countNumber) ≡ countFrom marks a bytes
   unfolding readingOf countFrom withNumber
   count-above n rest e h = rw (e, withNumber, lt-ltb buffersMax n h)
 
@@ -82,11 +82,11 @@ module _ (w h : ℕ) (marks bytes : List ℕ) where
   unfolding tablesFrom withRun
   tables-more vs rest e = rw (e, withRun)
 
-  pub marks-refused : (plan words : List ℕ) (k : ℕ) → run (w * h) marksMax markFault bytes ≡ refused k → readingOf plan words (Job.Refused k) ≡ marksFrom w h bytes
+  pub marks-refused : (plan words : List ℕ) (k : ℕ) → run (w * h) marksMax markNumber bytes ≡ refused k → readingOf plan words (Job.Refused k) ≡ marksFrom w h bytes
   unfolding readingOf marksFrom withRun
   marks-refused plan words k e = rw (e, withRun)
 
-  pub marks-more : (vs rest : List ℕ) → marks ≡ vs → run (w * h) marksMax markFault bytes ≡ values vs rest → tablesFrom w h marks rest ≡ marksFrom w h bytes
+  pub marks-more : (vs rest : List ℕ) → marks ≡ vs → run (w * h) marksMax markNumber bytes ≡ values vs rest → tablesFrom w h marks rest ≡ marksFrom w h bytes
   unfolding marksFrom withRun
   marks-more vs rest same e = rw (e, withRun, same)
 

@@ -22,12 +22,12 @@ abbrev pub tableNumbers : ℕ
 tableNumbers = 10
 
 -- the buffer at index i: R K C; zeros past the end
-unfoldable pub bufferOf : List ℕ → ℕ → BufferRecord
-bufferOf vs i = record { resistance = getD vs (3 * i) 0; delay = getD vs (3 * i + 1) 0; load = getD vs (3 * i + 2) 0 }
+unfoldable pub bufferRecordAt : List ℕ → ℕ → BufferRecord
+bufferRecordAt vs i = record { resistance = getD vs (3 * i) 0; delay = getD vs (3 * i + 1) 0; load = getD vs (3 * i + 2) 0 }
 
-unfoldable pub buffersOf : ℕ → List ℕ → BufferList
-buffersOf n vs =
+unfoldable pub bufferListOf : ℕ → List ℕ → BufferList
+bufferListOf n vs =
     record {
       n = n;
-      items = bufferOf vs 0 ∷ bufferOf vs 1 ∷ bufferOf vs 2 ∷ bufferOf vs 3 ∷ bufferOf vs 4 ∷ bufferOf vs 5 ∷ [];
+      items = bufferRecordAt vs 0 ∷ bufferRecordAt vs 1 ∷ bufferRecordAt vs 2 ∷ bufferRecordAt vs 3 ∷ bufferRecordAt vs 4 ∷ bufferRecordAt vs 5 ∷ [];
     }

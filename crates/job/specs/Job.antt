@@ -13,7 +13,7 @@ use Rattle.answers.specs.declared.answer.Fault.{Fault}
 use Rattle.router.specs.Route.{Question, questionOf}
 use Rattle.numbers.specs.Numbers.{Read, value, fault, numberMax, number}
 use Rattle.numbers.specs.Runs.{Run, values, refused, jobFault, run}
-use Rattle.job.specs.Fields.{tablesOf, tableNumbers, buffersOf}
+use Rattle.job.specs.Fields.{tablesOf, tableNumbers, bufferListOf}
 use Rattle.job.specs.declared.read.Asked.{Asked}
 use Rattle.job.specs.declared.read.Job.{Job}
 use Rattle.job.specs.declared.read.Job.the-variants.{Asks, Refused}
@@ -34,14 +34,14 @@ cellsMax = 128
 abbrev pub marksMax : ℕ
 marksMax = 15
 
-abbrev pub markFault : ℕ
-markFault = refusalNumber Refusal.Mark
+abbrev pub markNumber : ℕ
+markNumber = refusalNumber Refusal.Mark
 
 abbrev pub gridNumber : ℕ
 gridNumber = refusalNumber Refusal.Grid
 
-abbrev pub countFault : ℕ
-countFault = refusalNumber (Refusal.Element Fault.Count)
+abbrev pub countNumber : ℕ
+countNumber = refusalNumber (Refusal.Element Fault.Count)
 
 -- the rest of the reading, or the fault met
 unfoldable pub withNumber : Read → (ℕ → List ℕ → Reading) → Reading
@@ -57,7 +57,7 @@ unfoldable pub askedOf : ℕ → ℕ → List ℕ → Asked
 askedOf w h vs = record { width = w; height = h; tables = tablesOf vs; source = getD vs tableNumbers 0; sink = getD vs (tableNumbers + 1) 0 }
 
 unfoldable pub questionFrom : List ℕ → Asked → ℕ → List ℕ → Question
-questionFrom marks a n vs = questionOf marks (a .width) (a .height) (a .tables) (buffersOf n vs) (a .source) (a .sink)
+questionFrom marks a n vs = questionOf marks (a .width) (a .height) (a .tables) (bufferListOf n vs) (a .source) (a .sink)
 
 -- no byte may be left over
 unfoldable pub ended : Question → List ℕ → Reading
@@ -68,13 +68,13 @@ unfoldable pub buffersFrom : List ℕ → Asked → ℕ → List ℕ → Reading
 buffersFrom marks a n bytes = withRun (run (3 * n) numberMax jobFault bytes) (λ vs rest. ended (questionFrom marks a n vs) rest)
 
 unfoldable pub countFrom : List ℕ → Asked → List ℕ → Reading
-countFrom marks a bytes = withNumber (number bytes) (λ n rest. cond (ltb buffersMax n) (refuses countFault) (buffersFrom marks a n rest))
+countFrom marks a bytes = withNumber (number bytes) (λ n rest. cond (ltb buffersMax n) (refuses countNumber) (buffersFrom marks a n rest))
 
 unfoldable pub tablesFrom : ℕ → ℕ → List ℕ → List ℕ → Reading
 tablesFrom w h marks bytes = withRun (run (tableNumbers + 2) numberMax jobFault bytes) (λ vs rest. countFrom marks (askedOf w h vs) rest)
 
 unfoldable pub marksFrom : ℕ → ℕ → List ℕ → Reading
-marksFrom w h bytes = withRun (run (w * h) marksMax markFault bytes) (λ marks rest. tablesFrom w h marks rest)
+marksFrom w h bytes = withRun (run (w * h) marksMax markNumber bytes) (λ marks rest. tablesFrom w h marks rest)
 
 -- 1, then 16, then the marks
 unfoldable pub sized : ℕ → ℕ → List ℕ → Reading

@@ -3,7 +3,7 @@ ghost use mathlib.Core.Path.{_≡_};
 ghost use Prim.Native.Nat.{ℕ, _*_, _<_, _≤_};
 ghost use lib.ListN.{length, getD, take};
 ghost use Rattle.timing.specs.Ranges.{buffersMax};
-ghost use Rattle.job.specs.Fields.{tableNumbers, tablesOf, bufferOf, buffersOf};
+ghost use Rattle.job.specs.Fields.{tableNumbers, tablesOf, bufferRecordAt, bufferListOf};
 use answers::BufferList;
 use answers::BufferRecord;
 use answers::RegisterRecord;
@@ -38,7 +38,7 @@ pub fn tables_of(words: &[u16]) -> Tables
 // The buffer at index i of `count`, from three words each; zeros past the count.
 fn buffer_of(words: &[u16], count: usize, i: usize) -> BufferRecord
     requires { ⌜ (count ≤ buffersMax) × (3 * count ≤ length (now words)) ⌝ }
-    ensures { λ r. ⌜ r ≡ bufferOf (take (3 * count) (now (words .entry))) i ⌝ }
+    ensures { λ r. ⌜ r ≡ bufferRecordAt (take (3 * count) (now (words .entry))) i ⌝ }
 {
     if count <= i {
         return BufferRecord {
@@ -57,7 +57,7 @@ fn buffer_of(words: &[u16], count: usize, i: usize) -> BufferRecord
 // The list of `count` buffers, from three words each.
 pub fn buffers_of(words: &[u16], count: usize) -> BufferList
     requires { ⌜ (count ≤ buffersMax) × (3 * count ≤ length (now words)) ⌝ }
-    ensures { λ r. ⌜ r ≡ buffersOf count (take (3 * count) (now (words .entry))) ⌝ }
+    ensures { λ r. ⌜ r ≡ bufferListOf count (take (3 * count) (now (words .entry))) ⌝ }
 {
     BufferList {
         n: count,

@@ -8,7 +8,7 @@ use native.Mathlib.Omega.{arith}
 use borrow.Author.Tests.{eq-eqb}
 use lib.Dec.{T, eqb, ltb, eqb→eq, ltb→lt}
 use Rattle.plan.specs.Plan.{Plan, cells, row, column, marksAt, cutRight, cutBelow}
-use Rattle.plan.specs.Joined.{wireRight, wireBelow, bothIn, horizontal, vertical, joined}
+use Rattle.plan.specs.Joined.{joinsRight, joinsBelow, bothIn, horizontal, vertical, joined}
 use Rattle.plan.proofs.Truth.{fst, snd, parts, or-cases, or-comm, is-false}
 use Rattle.plan.proofs.Division.{right-row, right-column, right-is, down-row, down-column, down-is}
 
@@ -20,11 +20,11 @@ swapped false false c d = refl
 
 pub horizontal-symmetric : (p : Plan) (a b : ℕ) → horizontal p a b ≡ horizontal p b a
 unfolding horizontal bothIn
-horizontal-symmetric p a b = swapped (ltb a (cells p)) (ltb b (cells p)) (wireRight p a b) (wireRight p b a)
+horizontal-symmetric p a b = swapped (ltb a (cells p)) (ltb b (cells p)) (joinsRight p a b) (joinsRight p b a)
 
 pub vertical-symmetric : (p : Plan) (a b : ℕ) → vertical p a b ≡ vertical p b a
 unfolding vertical bothIn
-vertical-symmetric p a b = swapped (ltb a (cells p)) (ltb b (cells p)) (wireBelow p a b) (wireBelow p b a)
+vertical-symmetric p a b = swapped (ltb a (cells p)) (ltb b (cells p)) (joinsBelow p a b) (joinsBelow p b a)
 
 pub joined-symmetric : (p : Plan) (a b : ℕ) → joined p a b ≡ joined p b a
 unfolding joined
@@ -37,11 +37,11 @@ both-in p a b t =
 
 pub horizontal-in : (p : Plan) (a b : ℕ) → T (horizontal p a b) → (a < cells p) × (b < cells p)
 unfolding horizontal
-horizontal-in p a b t = both-in p a b (fst (bothIn p a b) (wireRight p a b || wireRight p b a) t)
+horizontal-in p a b t = both-in p a b (fst (bothIn p a b) (joinsRight p a b || joinsRight p b a) t)
 
 pub vertical-in : (p : Plan) (a b : ℕ) → T (vertical p a b) → (a < cells p) × (b < cells p)
 unfolding vertical
-vertical-in p a b t = both-in p a b (fst (bothIn p a b) (wireBelow p a b || wireBelow p b a) t)
+vertical-in p a b t = both-in p a b (fst (bothIn p a b) (joinsBelow p a b || joinsBelow p b a) t)
 
 pub joined-in : (p : Plan) (a b : ℕ) → T (joined p a b) → (a < cells p) × (b < cells p)
 unfolding joined
@@ -55,12 +55,12 @@ pub data Near (p : Plan) (a b : ℕ) : Type 0 where
   downward : column p b ≡ column p a → row p b ≡ row p a + 1 → Near p a b
   upward : column p b ≡ column p a → row p a ≡ row p b + 1 → Near p a b
 
-right-ends : (p : Plan) (a b : ℕ) → T (wireRight p a b) → (row p b ≡ row p a) × (column p b ≡ column p a + 1)
-unfolding wireRight
+right-ends : (p : Plan) (a b : ℕ) → T (joinsRight p a b) → (row p b ≡ row p a) × (column p b ≡ column p a + 1)
+unfolding joinsRight
 right-ends p a b t = (eqb→eq (row p b) (row p a) (search parts), eqb→eq (column p b) (column p a + 1) (search parts))
 
-below-ends : (p : Plan) (a b : ℕ) → T (wireBelow p a b) → (column p b ≡ column p a) × (row p b ≡ row p a + 1)
-unfolding wireBelow
+below-ends : (p : Plan) (a b : ℕ) → T (joinsBelow p a b) → (column p b ≡ column p a) × (row p b ≡ row p a + 1)
+unfolding joinsBelow
 below-ends p a b t = (eqb→eq (column p b) (column p a) (search parts), eqb→eq (row p b) (row p a + 1) (search parts))
 
 pub joined-near : (p : Plan) (a b : ℕ) → T (joined p a b) → Near p a b
@@ -69,10 +69,10 @@ joined-near p a b t =
     ⊎-elim
     (λ h.
     ⊎-elim (λ w. let e = right-ends p a b w in Near.rightward (e .0) (e .1)) (λ w. let e = right-ends p b a w in Near.leftward (sym (e .0)) (e .1))
-    (or-cases (wireRight p a b) (wireRight p b a) (snd (bothIn p a b) (wireRight p a b || wireRight p b a) h)))
+    (or-cases (joinsRight p a b) (joinsRight p b a) (snd (bothIn p a b) (joinsRight p a b || joinsRight p b a) h)))
     (λ v.
     ⊎-elim (λ w. let e = below-ends p a b w in Near.downward (e .0) (e .1)) (λ w. let e = below-ends p b a w in Near.upward (sym (e .0)) (e .1))
-    (or-cases (wireBelow p a b) (wireBelow p b a) (snd (bothIn p a b) (wireBelow p a b || wireBelow p b a) v)))
+    (or-cases (joinsBelow p a b) (joinsBelow p b a) (snd (bothIn p a b) (joinsBelow p a b || joinsBelow p b a) v)))
     (or-cases (horizontal p a b) (vertical p a b) t)
 
 -- The chessboard: the number of a cell's diagonal is odd or even, by the cell's colour. A step changes it by one.
@@ -101,8 +101,8 @@ pub record Below (p : Plan) (a b : ℕ) : Type 0 where
 
 -- the tests of specs/Joined say the same, both ways
 module _ (p : Plan) (wide : 0 < p .width) where
-  pub right-of : (a b : ℕ) → T (wireRight p a b) → Right p a b
-  unfolding wireRight row column
+  pub right-of : (a b : ℕ) → T (joinsRight p a b) → Right p a b
+  unfolding joinsRight row column
   right-of a b t =
       let r = eqb (row p b) (row p a) in
       let c = eqb (column p b) (column p a + 1) in
@@ -114,15 +114,15 @@ module _ (p : Plan) (wide : 0 < p .width) where
         uncut = is-false (cutRight (marksAt p a)) (snd (r && c) u t);
       }
 
-  pub of-right : (a b : ℕ) → Right p a b → T (wireRight p a b)
-  unfolding wireRight row column
+  pub of-right : (a b : ℕ) → Right p a b → T (joinsRight p a b)
+  unfolding joinsRight row column
   of-right a b h =
       let r : b / p .width ≡ a / p .width = rw (h .next) (right-row (p .width) wide a (h .inside)) in
       let c : b % p .width ≡ a % p .width + 1 = rw (h .next) (right-column (p .width) wide a (h .inside)) in
       simp (eq-eqb _ _ r, eq-eqb _ _ c, h .uncut) tt
 
-  pub below-of : (a b : ℕ) → T (wireBelow p a b) → Below p a b
-  unfolding wireBelow row column
+  pub below-of : (a b : ℕ) → T (joinsBelow p a b) → Below p a b
+  unfolding joinsBelow row column
   below-of a b t =
       let c = eqb (column p b) (column p a) in
       let r = eqb (row p b) (row p a + 1) in
@@ -132,8 +132,8 @@ module _ (p : Plan) (wide : 0 < p .width) where
         uncut = is-false (cutBelow (marksAt p a)) (snd (c && r) u t);
       }
 
-  pub of-below : (a b : ℕ) → Below p a b → T (wireBelow p a b)
-  unfolding wireBelow row column
+  pub of-below : (a b : ℕ) → Below p a b → T (joinsBelow p a b)
+  unfolding joinsBelow row column
   of-below a b h =
       let r : b / p .width ≡ a / p .width + 1 = rw (h .next) (down-row (p .width) wide a) in
       let c : b % p .width ≡ a % p .width = rw (h .next) (down-column (p .width) wide a) in

@@ -9,7 +9,7 @@ use borrow.Author.Tests.{lt-ltb, le-leb}
 use lib.Dec.{T, leb, ltb, leb→le, ltb→lt, lt→ltb}
 use Rattle.plan.specs.declared.Neighbours.{Neighbours}
 use Rattle.plan.specs.Plan.{Plan, Sized, cells, column, marksAt, cutRight, cutBelow}
-use Rattle.plan.specs.Joined.{wireRight, wireBelow, bothIn, horizontal, vertical, joined, neighboursOf}
+use Rattle.plan.specs.Joined.{joinsRight, joinsBelow, bothIn, horizontal, vertical, joined, neighboursOf}
 use Rattle.plan.proofs.Truth.{both, fst, snd, or-cases, or-left, or-right, is-false}
 use Rattle.plan.proofs.Division.{left-column, right-column, right-in}
 use Rattle.plan.proofs.Joined.{Right, Below, right-of, of-right, below-of, of-below, vertical-in}
@@ -116,7 +116,7 @@ module _ (p : Plan) (s : Sized p) (c : ℕ) (h : c < cells p) where
       ⊎-elim
       (λ w. inr (wire-down b (vertical-in p c b t .1) (below-of p (s .wide) c b w)))
       (λ w. inl (wire-up b (below-of p (s .wide) b c w)))
-      (or-cases (wireBelow p c b) (wireBelow p b c) (snd (bothIn p c b) (wireBelow p c b || wireBelow p b c) t))
+      (or-cases (joinsBelow p c b) (joinsBelow p b c) (snd (bothIn p c b) (joinsBelow p c b || joinsBelow p b c) t))
 
   -- horizontal wires: left and right
   pub horizontal-neighbour : (b : ℕ) → T (horizontal p c b) → (b ≡ neighboursOf p c .left) ⊎ (b ≡ neighboursOf p c .right)
@@ -125,7 +125,7 @@ module _ (p : Plan) (s : Sized p) (c : ℕ) (h : c < cells p) where
       ⊎-elim
       (λ w. inr (wire-right b (right-of p (s .wide) c b w)))
       (λ w. inl (wire-left b (right-of p (s .wide) b c w)))
-      (or-cases (wireRight p c b) (wireRight p b c) (snd (bothIn p c b) (wireRight p c b || wireRight p b c) t))
+      (or-cases (joinsRight p c b) (joinsRight p b c) (snd (bothIn p c b) (joinsRight p c b || joinsRight p b c) t))
 
   in-both : (b : ℕ) → b < cells p → T (bothIn p c b)
   unfolding bothIn
@@ -134,29 +134,29 @@ module _ (p : Plan) (s : Sized p) (c : ℕ) (h : c < cells p) where
   up-vertical : (b : ℕ) → b < cells p → b ≡ neighboursOf p c .up → T (vertical p c b)
   unfolding vertical
   up-vertical b i e =
-      both (bothIn p c b) (wireBelow p c b || wireBelow p b c) (in-both b i)
-      (or-right (wireBelow p c b) (wireBelow p b c)
+      both (bothIn p c b) (joinsBelow p c b || joinsBelow p b c) (in-both b i)
+      (or-right (joinsBelow p c b) (joinsBelow p b c)
       (⊎-elim (λ n. absurd (omega arith)) (λ w. of-below p (s .wide) b c (rw e w)) up-wire))
 
   down-vertical : (b : ℕ) → b < cells p → b ≡ neighboursOf p c .down → T (vertical p c b)
   unfolding vertical
   down-vertical b i e =
-      both (bothIn p c b) (wireBelow p c b || wireBelow p b c) (in-both b i)
-      (or-left (wireBelow p c b) (wireBelow p b c)
+      both (bothIn p c b) (joinsBelow p c b || joinsBelow p b c) (in-both b i)
+      (or-left (joinsBelow p c b) (joinsBelow p b c)
       (⊎-elim (λ n. absurd (omega arith)) (λ w. of-below p (s .wide) c b (rw e (w .0))) down-wire))
 
   left-horizontal : (b : ℕ) → b < cells p → b ≡ neighboursOf p c .left → T (horizontal p c b)
   unfolding horizontal
   left-horizontal b i e =
-      both (bothIn p c b) (wireRight p c b || wireRight p b c) (in-both b i)
-      (or-right (wireRight p c b) (wireRight p b c)
+      both (bothIn p c b) (joinsRight p c b || joinsRight p b c) (in-both b i)
+      (or-right (joinsRight p c b) (joinsRight p b c)
       (⊎-elim (λ n. absurd (omega arith)) (λ w. of-right p (s .wide) b c (rw e w)) left-wire))
 
   right-horizontal : (b : ℕ) → b < cells p → b ≡ neighboursOf p c .right → T (horizontal p c b)
   unfolding horizontal
   right-horizontal b i e =
-      both (bothIn p c b) (wireRight p c b || wireRight p b c) (in-both b i)
-      (or-left (wireRight p c b) (wireRight p b c)
+      both (bothIn p c b) (joinsRight p c b || joinsRight p b c) (in-both b i)
+      (or-left (joinsRight p c b) (joinsRight p b c)
       (⊎-elim (λ n. absurd (omega arith)) (λ w. of-right p (s .wide) c b (rw e w)) right-wire))
 
   pub neighbour-vertical : (b : ℕ) → b < cells p → (b ≡ neighboursOf p c .up) ⊎ (b ≡ neighboursOf p c .down) → T (vertical p c b)

@@ -6,21 +6,21 @@ use Rattle.plan.specs.Plan.{Plan, cells, row, column, marksAt, cutRight,
 use Rattle.plan.specs.declared.Neighbours.{Neighbours}
 
 -- b is the right neighbour of a, by an uncut wire
-unfoldable pub wireRight : Plan → ℕ → ℕ → Bool
-wireRight p a b = eqb (row p b) (row p a) && eqb (column p b) (column p a + 1) && not (cutRight (marksAt p a))
+unfoldable pub joinsRight : Plan → ℕ → ℕ → Bool
+joinsRight p a b = eqb (row p b) (row p a) && eqb (column p b) (column p a + 1) && not (cutRight (marksAt p a))
 
 -- b is the neighbour below a, by an uncut wire
-unfoldable pub wireBelow : Plan → ℕ → ℕ → Bool
-wireBelow p a b = eqb (column p b) (column p a) && eqb (row p b) (row p a + 1) && not (cutBelow (marksAt p a))
+unfoldable pub joinsBelow : Plan → ℕ → ℕ → Bool
+joinsBelow p a b = eqb (column p b) (column p a) && eqb (row p b) (row p a + 1) && not (cutBelow (marksAt p a))
 
 unfoldable pub bothIn : Plan → ℕ → ℕ → Bool
 bothIn p a b = ltb a (cells p) && ltb b (cells p)
 
 unfoldable pub horizontal : Plan → ℕ → ℕ → Bool
-horizontal p a b = bothIn p a b && (wireRight p a b || wireRight p b a)
+horizontal p a b = bothIn p a b && (joinsRight p a b || joinsRight p b a)
 
 unfoldable pub vertical : Plan → ℕ → ℕ → Bool
-vertical p a b = bothIn p a b && (wireBelow p a b || wireBelow p b a)
+vertical p a b = bothIn p a b && (joinsBelow p a b || joinsBelow p b a)
 
 -- an uncut wire joins a and b
 unfoldable pub joined : Plan → ℕ → ℕ → Bool

@@ -8,7 +8,7 @@ use lib.Seq.{sets-eq, length-sets, length-take-le}
 use Rattle.answers.specs.declared.records.BufferList.{BufferList}
 use Rattle.answers.specs.declared.answer.Answer.{Answer}
 use Rattle.router.specs.Route.{Question, questionOf, answerOf, visitsOf}
-use Rattle.job.specs.Fields.{buffersOf}
+use Rattle.job.specs.Fields.{bufferListOf}
 use Rattle.job.specs.Job.{asks, questionFrom, marksOf, readJob, readingOf}
 use Rattle.job.specs.declared.read.Asked.{Asked}
 use Rattle.job.specs.declared.read.Job.{Job}
@@ -26,11 +26,11 @@ module _ (plan scratch visits : List ℕ) (a : Asked) (n : ℕ) where
   abbrev asked : BufferList → Question
   asked list = questionOf (take (a .width * a .height) plan) (a .width) (a .height) (a .tables) list (a .source) (a .sink)
 
-  pub asked-text : (list : BufferList) (r : Answer) (after : List ℕ) → list ≡ buffersOf n (take (3 * n) scratch) → length scratch ≡ scratchWords → length visits ≡ visitWords → r ≡ answerOf (asked list) scratch visits → after ≡ visitsOf (asked list) scratch visits → answerText r after ≡ readingText (asks (questionFrom (marksOf plan a) a n (take (3 * n) scratch)))
+  pub asked-text : (list : BufferList) (r : Answer) (after : List ℕ) → list ≡ bufferListOf n (take (3 * n) scratch) → length scratch ≡ scratchWords → length visits ≡ visitWords → r ≡ answerOf (asked list) scratch visits → after ≡ visitsOf (asked list) scratch visits → answerText r after ≡ readingText (asks (questionFrom (marksOf plan a) a n (take (3 * n) scratch)))
   unfolding readingText questionFrom marksOf
   asked-text list r after same s v e f =
       rw (e, f, same)
-      (same-text (asked (buffersOf n (take (3 * n) scratch))) scratch (blank scratchWords) visits (blank visitWords) (s ∙ sym (blank-length scratchWords)) (v ∙ sym (blank-length visitWords)))
+      (same-text (asked (bufferListOf n (take (3 * n) scratch))) scratch (blank scratchWords) visits (blank visitWords) (s ∙ sym (blank-length scratchWords)) (v ∙ sym (blank-length visitWords)))
 
 module _ (plan words job : List ℕ) (x : Job) (read : readingOf plan words x ≡ readJob job) where
   pub refused-text : (k : ℕ) → x ≡ Job.Refused k → refusalText k ≡ printed job
@@ -46,7 +46,7 @@ module _ (plan words job : List ℕ) (x : Job) (read : readingOf plan words x �
   asks-small a n e = asked-small job (questionFrom (marksOf plan a) a n (take (3 * n) words)) (sym (ap (readingOf plan words) e) ∙ read)
 
 pub small-count : (marks : List ℕ) (a : Asked) (n : ℕ) (vs : List ℕ) → Small (questionFrom marks a n vs) → (n ≤ 6) × (a .width * a .height ≤ 128)
-unfolding questionFrom buffersOf
+unfolding questionFrom bufferListOf
 small-count marks a n vs s = (s .buffers, s .cells)
 
 -- a text put at the start is the start, and the rest stays

@@ -13,12 +13,12 @@ use Rattle.answers.specs.declared.answer.Refusal.{Refusal}
 use Rattle.answers.specs.declared.answer.Refusal.the-variants.{Grid, Length, Mark, Element, Ends, Scratch, NoRoute}
 use Rattle.answers.specs.declared.answer.Answer.{Answer}
 use Rattle.answers.specs.declared.answer.Answer.the-variants.{Found, NoRoom, Refused}
-use Rattle.job.specs.Fields.{tablesOf, buffersOf}
+use Rattle.job.specs.Fields.{tablesOf, bufferListOf}
 use Rattle.router.specs.Route.{Question, questionOf}
 
 -- three words a buffer; one or two words left over count for none
 unfoldable pub buffersIn : List ℕ → BufferList
-buffersIn ws = buffersOf (length ws / 3) ws
+buffersIn ws = bufferListOf (length ws / 3) ws
 
 unfoldable pub asked : List ℕ → ℕ → ℕ → List ℕ → List ℕ → ℕ → ℕ → Question
 asked marks w h tables buffers a b = questionOf marks w h (tablesOf tables) (buffersIn buffers) a b

@@ -2,7 +2,7 @@
 ghost use mathlib.Core.Path.{_≡_};
 ghost use lib.ListN.{getD};
 ghost use Prim.Native.Nat.{_<_};
-ghost use Rattle.job.specs.Fields.{tablesOf, bufferOf};
+ghost use Rattle.job.specs.Fields.{tablesOf, bufferRecordAt};
 ghost use Rattle.route_c.specs.Words.{buffersIn};
 use answers::BufferList;
 use answers::BufferRecord;
@@ -46,7 +46,7 @@ pub fn read_tables(words: &[u16]) -> Tables
 // The buffer at index i, from three words each.
 fn read_buffer(words: &[u16], i: usize) -> BufferRecord
     requires { ⌜ i < 6 ⌝ }
-    ensures { λ r. ⌜ r ≡ bufferOf (now (words .entry)) i ⌝ }
+    ensures { λ r. ⌜ r ≡ bufferRecordAt (now (words .entry)) i ⌝ }
 {
     BufferRecord {
         resistance: word(words, 3 * i),

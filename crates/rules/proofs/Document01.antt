@@ -13,7 +13,7 @@ use Rattle.timing.specs.declared.elements.Elements.{Elements}
 use Rattle.timing.specs.Ranges.{buffersMax}
 use Rattle.timing.specs.Formulas.{registerDriver, registerLoad, setupDelay}
 use Rattle.timing.specs.Elements.{bufferOf}
-use Rattle.rules.specs.Rules.{Rules, noGate, registerCode, siteOf, wireOf, rulesOf}
+use Rattle.rules.specs.Rules.{Rules, noGate, registerCode, siteOf, wireBetween, rulesOf}
 use Rattle.rules.specs.Legal.{isEnd, mayStand}
 use Rattle.plan.proofs.Truth.{decided, split}
 use Rattle.rules.proofs.View.{may-stand, may-pass-end, stands-between, stands-site, not-end, not-sink, not-source}
@@ -41,7 +41,7 @@ module _ (p : Plan) (e : Elements) (from to : ℕ) where
   unfolding rulesOf
   rules-linked a b = refl
 
-  pub rules-wire : (a b : ℕ) → rulesOf p e from to .wire a b ≡ wireOf p e a b
+  pub rules-wire : (a b : ℕ) → rulesOf p e from to .wire a b ≡ wireBetween p e a b
   unfolding rulesOf
   rules-wire a b = refl
 

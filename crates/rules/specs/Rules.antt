@@ -52,8 +52,8 @@ unfoldable pub siteOf : Plan → Elements → ℕ → ℕ → Bool
 siteOf p e cell code =
     eqb code noGate || (leb 1 code && leb code (e .count) && not (blocked (marksAt p cell))) || (eqb code registerCode && tap (marksAt p cell))
 
-unfoldable pub wireOf : Plan → Elements → ℕ → ℕ → Wire
-wireOf p e a b = cond (horizontal p a b) (e .horizontal) (e .vertical)
+unfoldable pub wireBetween : Plan → Elements → ℕ → ℕ → Wire
+wireBetween p e a b = cond (horizontal p a b) (e .horizontal) (e .vertical)
 
 -- both ends are our register; every span has the same period
 unfoldable pub rulesOf : Plan → Elements → ℕ → ℕ → Rules
@@ -64,7 +64,7 @@ rulesOf p e from to =
       sink = to;
       limit = e .limit .0;
       linked = joined p;
-      wire = wireOf p e;
+      wire = wireBetween p e;
       site = siteOf p e;
       buffer = λ code. getD (e .buffers) (code - 1) (bufferOf 0 0 0);
       start = record { load = registerLoad (e .register); delay = setupDelay (e .register) };

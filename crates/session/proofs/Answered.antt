@@ -17,7 +17,7 @@ use Rattle.session.specs.declared.records.SessionAnswer.{SessionAnswer}
 use Rattle.session.specs.declared.journal.Entry.{Entry}
 use Rattle.session.specs.Numbers.{isDone}
 use Rattle.session.specs.Journal.{journalBytes, depthMax, entryAt}
-use Rattle.session.specs.Answers.{after, answerFor, planAnswer, openAnswer, sessionAnswer, moveAnswer, corrupt, newestAt, undoAnswer}
+use Rattle.session.specs.Answers.{after, checkAnswer, planAnswer, openAnswer, sessionAnswer, moveAnswer, corrupt, newestAt, undoAnswer}
 use Rattle.session.proofs.Done.{after-first, after-rest}
 
 -- a chain of tests that is answered met none of its refusals
@@ -26,7 +26,7 @@ passed true x rest f e = let z : true ≡ false = ap isDone (sym e) ∙ f in (z,
 passed false x rest f e = (refl, e)
 
 pub plan-done : (w h : ℕ) (marks : List ℕ) → planAnswer w h marks ≡ SessionAnswer.Done → checkedPlan (planOf w h marks) ≡ PlanCheck.Valid
-unfolding planAnswer answerFor
+unfolding planAnswer checkAnswer
 plan-done w h marks e = go (checkedPlan (planOf w h marks)) refl
   where
     go : (k : PlanCheck) → checkedPlan (planOf w h marks) ≡ k → checkedPlan (planOf w h marks) ≡ PlanCheck.Valid
@@ -49,7 +49,7 @@ open-done w h marks room e =
     }
 
 pub done-open : (w h : ℕ) (marks : List ℕ) (room : ℕ) → Openable w h marks room → openAnswer w h marks room ≡ SessionAnswer.Done
-unfolding openAnswer planAnswer answerFor after
+unfolding openAnswer planAnswer checkAnswer after
 done-open w h marks room o = rw (o .valid, le-ltb room journalBytes (o .space))
 
 -- nor 10

@@ -18,15 +18,15 @@ use Rattle.session.specs.Journal.{journalBytes, entryBytes, depthMax, en
 unfoldable pub after : SessionAnswer → SessionAnswer → SessionAnswer
 after first rest = cond (isDone first) rest first
 
-unfoldable pub answerFor : PlanCheck → SessionAnswer
-answerFor Valid = SessionAnswer.Done
-answerFor Grid = SessionAnswer.Grid
-answerFor Length = SessionAnswer.Length
-answerFor Mark = SessionAnswer.Mark
+unfoldable pub checkAnswer : PlanCheck → SessionAnswer
+checkAnswer Valid = SessionAnswer.Done
+checkAnswer Grid = SessionAnswer.Grid
+checkAnswer Length = SessionAnswer.Length
+checkAnswer Mark = SessionAnswer.Mark
 
 -- 1, 2, 3
 unfoldable pub planAnswer : ℕ → ℕ → List ℕ → SessionAnswer
-planAnswer w h marks = answerFor (checkedPlan (planOf w h marks))
+planAnswer w h marks = checkAnswer (checkedPlan (planOf w h marks))
 
 -- open: 1, 2, 3, 9. `room` is the journal's length.
 unfoldable pub openAnswer : ℕ → ℕ → List ℕ → ℕ → SessionAnswer

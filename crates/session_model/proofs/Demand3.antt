@@ -14,7 +14,7 @@ use Rattle.plan.specs.declared.PlanCheck.{PlanCheck}
 use Rattle.session.specs.declared.records.SessionAnswer.{SessionAnswer}
 use Rattle.session.specs.Numbers.{isDone}
 use Rattle.session.specs.Journal.{journalBytes, depthMax, cleared}
-use Rattle.session.specs.Answers.{after, answerFor, planAnswer, openAnswer, sessionAnswer, moveAnswer, undoAnswer}
+use Rattle.session.specs.Answers.{after, checkAnswer, planAnswer, openAnswer, sessionAnswer, moveAnswer, undoAnswer}
 use Rattle.session.specs.Steps.{State, stateOf, effect, noSession, opened, moved, undone}
 use Rattle.session.proofs.Done.{done-is}
 use Rattle.session.proofs.Answered.{open-done}
@@ -159,7 +159,7 @@ zeros-left p journal n = rw (not-done _ n)
 
 -- with which every check ends at 1
 zeros-grid : (marks : List ℕ) (room : ℕ) → sessionAnswer noSession marks room ≡ SessionAnswer.Grid
-unfolding sessionAnswer openAnswer planAnswer answerFor after checkedPlan gridFault
+unfolding sessionAnswer openAnswer planAnswer checkAnswer after checkedPlan gridFault
 zeros-grid marks room = refl
 
 refused-is : (p : Plan) (journal : List ℕ) → (openAnswer (p .width) (p .height) (p .marks) (length journal) ≡ SessionAnswer.Done → ⊥) → Refused p journal

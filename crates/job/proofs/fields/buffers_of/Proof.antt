@@ -1,6 +1,6 @@
 -- `job::fields::buffers_of` meets its contract: the six places.
 use borrow.Author.Needs.{needs}
-use Rattle.job.specs.Fields.{buffersOf}
+use Rattle.job.specs.Fields.{bufferListOf}
 use Rattle.job.proofs.fields.buffers_of.Statement.{statement}
 use Rattle.job.proofs.fields.buffers_of.Tie as tie
 
@@ -23,7 +23,7 @@ buffer-of-requires-6 : tie.Need-buffer-of-requires-6
 buffer-of-requires-6 c κs = search needs
 
 returns : tie.Need-returns
-unfolding buffersOf
+unfolding bufferListOf
 returns c = cc
 
 pub buffers-of-spec : {M : Type 1} → statement M

@@ -1,6 +1,6 @@
 -- Each field is its word.
 use borrow.Author.Needs.{needs}
-use Rattle.job.specs.Fields.{bufferOf}
+use Rattle.job.specs.Fields.{bufferRecordAt}
 use Rattle.route_c.proofs.words.read_buffer.Statement.{statement}
 use Rattle.route_c.proofs.words.read_buffer.Tie as tie
 
@@ -29,7 +29,7 @@ word-requires-3 : tie.Need-word-requires-3
 word-requires-3 c κs = search needs
 
 returns : tie.Need-returns
-unfolding bufferOf
+unfolding bufferRecordAt
 returns c = cc
 
 pub read-buffer-spec : {M : Type 1} → statement M

@@ -1,7 +1,7 @@
 -- The length by three, and six places.
 use mathlib.Core.Path.{refl}
 use borrow.Author.Needs.{needs}
-use Rattle.job.specs.Fields.{buffersOf}
+use Rattle.job.specs.Fields.{bufferListOf}
 use Rattle.route_c.specs.Words.{buffersIn}
 use Rattle.route_c.proofs.words.read_buffers.Statement.{statement}
 use Rattle.route_c.proofs.words.read_buffers.Tie as tie
@@ -25,7 +25,7 @@ read-buffer-requires-6 : tie.Need-read-buffer-requires-6
 read-buffer-requires-6 c κs = search needs
 
 returns : tie.Need-returns
-unfolding buffersIn buffersOf
+unfolding buffersIn bufferListOf
 returns c =
     simp
     (c .before .before .before .before .before .read-buffer .ensures, c .before .before .before .before .read-buffer2 .ensures, c .before .before .before .read-buffer3 .ensures, c .before .before .read-buffer4 .ensures, c .before .read-buffer5 .ensures, c .read-buffer6 .ensures)
