@@ -20,7 +20,7 @@ use Rattle.answers.specs.declared.answer.Fault.{Fault}
 use Rattle.answers.specs.declared.tables.ElementFault.{ElementFault}
 use Rattle.answers.specs.declared.tables.ElementFault.the-variants.{Nothing, At}
 use Rattle.answers.specs.Lists.{noBuffer}
-use Rattle.answers.specs.Tables.{require, periodInRange, wireOk, registerOk, bufferOk, bufferFault, buffersFault, tablesFault, wireFrom, registerFrom, bufferFrom, listedBuffer, sixPlaces, elementsOf, buffersAnswer, checkedBuffers, refusedTables, tablesAnswer, checkedTables}
+use Rattle.answers.specs.Tables.{require, periodInRange, wireOk, registerOk, bufferOk, bufferFault, buffersFault, tablesFault, wireFrom, registerFrom, bufferFrom, listedBuffer, sixPlaces, elementsOf, listFault, refusedBuffers, readAs, readOf, refusedTables, tablesAnswer, checkedTables}
 use Rattle.answers.proofs.Scan.{six-at, six-length}
 
 -- the first buffer out of range among `left` from index i on
@@ -84,7 +84,7 @@ buffer-is items i (suc left) (bad k g h all out) =
 
 -- The answer is the first fault, and the only one.
 pub first-fault : (t : Tables) (list : BufferList) → FirstFault t list (tablesFault t list)
-unfolding tablesFault buffersFault
+unfolding tablesFault listFault buffersFault
 first-fault t list = go _ _ _ _ _ _ refl refl refl refl refl refl where
   go : (p l h v r n : Bool) → periodInRange (t .period) ≡ p → leb (t .limit) loadMax ≡ l → wireOk (t .horizontal) ≡ h → wireOk (t .vertical) ≡ v → registerOk (t .register) ≡ r → leb (list .n) buffersMax ≡ n → FirstFault t list (require p Fault.Period (require l Fault.Limit (require h Fault.Horizontal (require v Fault.Vertical (require r Fault.Register (require n Fault.Count (bufferFault (list .items) 0 (list .n))))))))
   go false l h v r n p' l' h' v' r' n' = period p'
@@ -96,7 +96,7 @@ first-fault t list = go _ _ _ _ _ _ refl refl refl refl refl refl where
   go true true true true true true p' l' h' v' r' n' = buffers (((((p', l'), h'), v'), r'), n') (first-buffer (list .items) 0 (list .n))
 
 pub fault-is : (t : Tables) (list : BufferList) {f : ElementFault} → FirstFault t list f → tablesFault t list ≡ f
-unfolding tablesFault buffersFault
+unfolding tablesFault listFault buffersFault
 fault-is t list (period p) = simp p
 fault-is t list (limit p l) = simp (p, l)
 fault-is t list (horizontal (p, l) h) = simp (p, l, h)
@@ -158,20 +158,22 @@ valid-tables t list v =
     in-buffer _ _ _ (rw (buffer-at list k (omega arith)) at (rw (six-at (listedBuffer list) k (omega (arith, v .count))) at (v .buffers k (omega (arith, v .count))))))))
 
 -- What the checks answer, by the first fault.
-pub buffers-first : (list : BufferList) (f : ElementFault) → buffersFault list ≡ f → FirstBuffer (list .items) 0 (list .n) f
-unfolding buffersFault
-buffers-first list f e = rw e at (first-buffer (list .items) 0 (list .n))
 
-pub buffers-fault : (list : BufferList) → checkedBuffers list .fault ≡ buffersFault list
-unfolding checkedBuffers buffersAnswer
-buffers-fault list = go (buffersFault list) where
-  go : (f : ElementFault) → buffersAnswer f list .fault ≡ f
+-- the list's own fault, where the tests before it pass
+pub list-first : (t : Tables) (list : BufferList) (f : ElementFault) → UpToRegister t → listFault list ≡ f → FirstFault t list f
+unfolding tablesFault
+list-first t list f ((((p, l), h), v), r) e = rw e at (simp (p, l, h, v, r) at (first-fault t list))
+
+pub read-fault : (list : BufferList) → readOf list .fault ≡ listFault list
+unfolding readOf readAs refusedBuffers
+read-fault list = go (listFault list) where
+  go : (f : ElementFault) → readAs f list .fault ≡ f
   go Nothing = refl
   go (At f) = refl
 
-pub buffers-clean : (list : BufferList) → buffersFault list ≡ Nothing → checkedBuffers list .buffers ≡ sixPlaces (listedBuffer list)
-unfolding checkedBuffers buffersAnswer
-buffers-clean list e = simp e
+pub read-clean : (list : BufferList) → listFault list ≡ Nothing → readOf list .buffers ≡ sixPlaces (listedBuffer list)
+unfolding readOf readAs
+read-clean list e = simp e
 
 pub tables-refused : (t : Tables) (list : BufferList) (f : Fault) → FirstFault t list (At f) → refusedTables f ≡ checkedTables t list
 unfolding checkedTables tablesAnswer

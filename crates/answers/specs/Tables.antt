@@ -20,7 +20,7 @@ use Rattle.answers.specs.declared.records.BufferList.{BufferList}
 use Rattle.answers.specs.declared.answer.Fault.{Fault}
 use Rattle.answers.specs.declared.tables.ElementFault.{ElementFault}
 use Rattle.answers.specs.declared.tables.ElementFault.the-variants.{Nothing, At}
-use Rattle.answers.specs.declared.tables.BuffersCheck.{BuffersCheck}
+use Rattle.answers.specs.declared.tables.BuffersRead.{BuffersRead}
 use Rattle.answers.specs.declared.tables.TablesCheck.{TablesCheck}
 
 -- a test of a chain: the fault where it fails, the rest of the chain where it passes
@@ -47,6 +47,10 @@ bufferFault items i (suc left) = require (bufferOk (getD items i noBuffer)) (Fau
 unfoldable pub buffersFault : BufferList → ElementFault
 buffersFault list = bufferFault (list .items) 0 (list .n)
 
+-- the count, then the first buffer out of range
+unfoldable pub listFault : BufferList → ElementFault
+listFault list = require (leb (list .n) buffersMax) Fault.Count (buffersFault list)
+
 unfoldable pub tablesFault : Tables → BufferList → ElementFault
 tablesFault t list =
     require (periodInRange (t .period)) Fault.Period
@@ -54,8 +58,7 @@ tablesFault t list =
     (require (wireOk (t .horizontal)) Fault.Horizontal
     (require (wireOk (t .vertical)) Fault.Vertical
     (require (registerOk (t .register)) Fault.Register
-    (require (leb (list .n) buffersMax) Fault.Count
-    (buffersFault list))))))
+    (listFault list)))))
 
 -- the elements of given records
 unfoldable pub wireFrom : WireRecord → Wire
@@ -102,12 +105,16 @@ noElements =
     }
 
 -- What the checks answer: the elements, or the first fault and zeros.
-unfoldable pub buffersAnswer : ElementFault → BufferList → BuffersCheck
-buffersAnswer Nothing list = record { fault = Nothing; buffers = sixPlaces (listedBuffer list) }
-buffersAnswer (At f) list = record { fault = At f; buffers = noBuffers }
+unfoldable pub refusedBuffers : Fault → BufferList → BuffersRead
+refusedBuffers f list = record { list = list; fault = At f; buffers = noBuffers }
 
-unfoldable pub checkedBuffers : BufferList → BuffersCheck
-checkedBuffers list = buffersAnswer (buffersFault list) list
+unfoldable pub readAs : ElementFault → BufferList → BuffersRead
+readAs Nothing list = record { list = list; fault = Nothing; buffers = sixPlaces (listedBuffer list) }
+readAs (At f) list = refusedBuffers f list
+
+-- a list and its check
+unfoldable pub readOf : BufferList → BuffersRead
+readOf list = readAs (listFault list) list
 
 unfoldable pub refusedTables : Fault → TablesCheck
 refusedTables f = record { fault = At f; elements = noElements }

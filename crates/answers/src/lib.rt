@@ -15,6 +15,8 @@ pub use records::BufferRecord;
 pub use records::RegisterRecord;
 pub use records::Tables;
 pub use records::WireRecord;
+pub use tables::BuffersRead;
 pub use tables::ElementFault;
 pub use tables::TablesCheck;
 pub use tables::check_tables;
+pub use tables::read_list;

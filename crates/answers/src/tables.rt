@@ -1,8 +1,6 @@
 // Refusal 4. Each element is made by its own checking constructor; nothing tests its numbers again.
 ghost use mathlib.Core.Path.{_≡_};
-ghost use Prim.Native.Nat.{_≤_};
-ghost use Rattle.timing.specs.Ranges.{buffersMax};
-ghost use Rattle.answers.specs.Tables.{checkedBuffers, checkedTables, refusedTables, noElements};
+ghost use Rattle.answers.specs.Tables.{readOf, refusedBuffers, checkedTables, refusedTables, noElements};
 use crate::answer::Fault;
 use crate::records::BufferList;
 use crate::records::Tables;
@@ -26,14 +24,18 @@ pub struct TablesCheck {
     pub elements: Elements,
 }
 
-struct BuffersCheck {
-    fault: ElementFault,
-    buffers: [Buffer; Elements::BUFFERS_MAX],
+// A list of buffers and its check: the first fault, or the six places, each buffer made by its constructor, then buffers of zeros.
+// The places are all zero where there is a fault.
+pub struct BuffersRead {
+    pub list: BufferList,
+    pub fault: ElementFault,
+    pub buffers: [Buffer; Elements::BUFFERS_MAX],
 }
 
-// The first fault of the tables and of a lent list of buffers, or their elements.
-pub fn check_tables(t: Tables, list: BufferList) -> TablesCheck
-    ensures { λ r. ⌜ r ≡ checkedTables t list ⌝ }
+// The first fault of the tables and of a list of buffers as it was read, or their elements.
+pub fn check_tables(t: Tables, read: BuffersRead) -> TablesCheck
+    requires { ⌜ read ≡ readOf (read .list) ⌝ }
+    ensures { λ r. ⌜ r ≡ checkedTables t (read .list) ⌝ }
 {
     if t.period < Elements::PERIOD_MIN {
         return refused(Fault::Period);
@@ -59,15 +61,11 @@ pub fn check_tables(t: Tables, list: BufferList) -> TablesCheck
     ) else {
         return refused(Fault::Register);
     };
-    if Elements::BUFFERS_MAX < list.n {
-        return refused(Fault::Count);
-    }
-    let checked = check_buffers(list);
-    let fault = checked.fault;
+    let fault = read.fault;
     if let ElementFault::At(f) = fault {
         return refused(f);
     }
-    let buffers = checked.buffers;
+    let buffers = read.buffers;
     TablesCheck {
         fault: ElementFault::Nothing,
         elements: Elements {
@@ -76,17 +74,19 @@ pub fn check_tables(t: Tables, list: BufferList) -> TablesCheck
             horizontal: horizontal,
             vertical: vertical,
             register: register,
-            count: list.n,
+            count: read.list.n,
             buffers: buffers,
         },
     }
 }
 
-// The first buffer out of range, or the six places: the buffers, then buffers of zeros.
-fn check_buffers(list: BufferList) -> BuffersCheck
-    requires { ⌜ list .n ≤ buffersMax ⌝ }
-    ensures { λ r. ⌜ r ≡ checkedBuffers list ⌝ }
+// The check of a list: its count, then each of its buffers.
+pub fn read_list(list: BufferList) -> BuffersRead
+    ensures { λ r. ⌜ r ≡ readOf list ⌝ }
 {
+    if Elements::BUFFERS_MAX < list.n {
+        return no_buffers(list, Fault::Count);
+    }
     let zero = Buffer::zero();
     let mut buffers = [zero; Elements::BUFFERS_MAX];
     let mut i = 0;
@@ -94,17 +94,25 @@ fn check_buffers(list: BufferList) -> BuffersCheck
         let item = list.items[i];
         let BufferCheck::Valid(buffer) = Buffer::checked(item.resistance, item.delay, item.load)
         else {
-            return BuffersCheck {
-                fault: ElementFault::At(Fault::Buffer((i + 1) as u16)),
-                buffers: [zero; Elements::BUFFERS_MAX],
-            };
+            return no_buffers(list, Fault::Buffer((i + 1) as u16));
         };
         buffers[i] = buffer;
         i += 1;
     }
-    BuffersCheck {
+    BuffersRead {
+        list: list,
         fault: ElementFault::Nothing,
         buffers: buffers,
+    }
+}
+
+fn no_buffers(list: BufferList, fault: Fault) -> BuffersRead
+    ensures { λ r. ⌜ r ≡ refusedBuffers fault list ⌝ }
+{
+    BuffersRead {
+        list: list,
+        fault: ElementFault::At(fault),
+        buffers: [Buffer::zero(); Elements::BUFFERS_MAX],
     }
 }
 

@@ -4,9 +4,9 @@ use borrow.Author.Needs.{needs}
 use borrow.Author.Tests.{le-leb, lt-leb}
 use Rattle.timing.proofs.Checked.{wire-valid, wire-out, register-valid, register-out}
 use Rattle.answers.specs.declared.tables.ElementFault.the-variants.{Nothing}
-use Rattle.answers.specs.declared.tables.BuffersCheck.{BuffersCheck}
-use Rattle.answers.specs.Tables.{periodInRange, wireOk, registerOk, wireFrom, registerFrom, buffersFault, elementsOf}
-use Rattle.answers.proofs.FirstFault.{UpToPeriod, UpToLimit, UpToHorizontal, UpToVertical, UpToRegister, UpToCount, period, limit, horizontal, vertical, register, count, buffers, buffers-first, buffers-fault, buffers-clean, tables-refused, tables-clean, fault-is}
+use Rattle.answers.specs.declared.tables.BuffersRead.{BuffersRead}
+use Rattle.answers.specs.Tables.{periodInRange, wireOk, registerOk, wireFrom, registerFrom, listFault, elementsOf}
+use Rattle.answers.proofs.FirstFault.{UpToPeriod, UpToLimit, UpToHorizontal, UpToVertical, UpToRegister, period, limit, horizontal, vertical, register, list-first, read-fault, read-clean, tables-refused, tables-clean, fault-is}
 use Rattle.answers.proofs.tables.check_tables.Statement.{statement}
 use Rattle.answers.proofs.tables.check_tables.Tie as tie
 
@@ -22,9 +22,6 @@ start-vertical c = start-horizontal (c .before .before .before .before)
 
 abbrev start-register : tie.After-known-told3 → tie.Start
 start-register c = start-vertical (c .before .before .before .before)
-
-abbrev start-buffers : tie.After-check-buffers → tie.Start
-start-buffers c = start-register (c .before .before .before)
 
 -- the tests passed there, and the elements made
 period-in : (c : tie.Else2) → UpToPeriod (c .before .before .before .before .args .t)
@@ -52,11 +49,9 @@ register-in c =
     let v = register-valid _ _ _ _ _ (sym (c .before .before .before .checked3 .ensures) ∙ c .before .register .given .1) in
     ((vertical-in (c .before .before .before .before) .0, v .0), v .1)
 
-count-in : (c : tie.After-check-buffers) → UpToCount (start-buffers c .args .t) (start-buffers c .args .list)
-count-in c = (register-in (c .before .before .before) .0, le-leb _ _ (c .before .if4 .left))
-
-fault-in : (c : tie.After-check-buffers) → c .check-buffers .result .fault ≡ buffersFault (start-buffers c .args .list)
-fault-in c = ap (λ (r : BuffersCheck). r .fault) (c .check-buffers .ensures) ∙ buffers-fault _
+-- what was read of the list is its check
+fault-in : (c : tie.Start) → c .args .read .fault ≡ listFault (c .args .read .list)
+fault-in c = ap (λ (r : BuffersRead). r .fault) (c .pre) ∙ read-fault _
 
 refused-requires : tie.Need-refused-requires
 refused-requires c κs = search needs
@@ -134,40 +129,30 @@ returns-6 c =
     let a = c .before .before .before in
     c .refused6 .ensures ∙ tables-refused _ _ _ (register (vertical-in (a .before) .0) (register-out _ _ _ _ (sym (a .checked3 .ensures) ∙ c .before .enum-told3 .given .1)))
 
+enum-known-fault : tie.Need-enum-known-fault
+enum-known-fault c = search needs
+
 refused-requires-7 : tie.Need-refused-requires-7
 refused-requires-7 c κs = search needs
 
 returns-7 : tie.Need-returns-7
 returns-7 c =
-    c .refused7 .ensures ∙ tables-refused _ _ _ (count (register-in (c .before .before .before) .0) (lt-leb _ _ (c .before .if4 .taken)))
-
-check-buffers-requires : tie.Need-check-buffers-requires
-check-buffers-requires c κs = search needs
-
-enum-known-fault : tie.Need-enum-known-fault
-enum-known-fault c = search needs
-
-refused-requires-8 : tie.Need-refused-requires-8
-refused-requires-8 c κs = search needs
-
-returns-8 : tie.Need-returns-8
-returns-8 c =
-    let a = c .before .before .before .before in
-    c .refused8 .ensures ∙ tables-refused _ _ _ (buffers (count-in a) (buffers-first _ _ (sym (fault-in a) ∙ c .before .before .fault .given .1)))
+    let r = c .before .before .before .before in
+    c .refused7 .ensures ∙ tables-refused _ _ _ (list-first _ _ _ (register-in r .0) (sym (fault-in (start-register r)) ∙ c .before .before .fault .given .1))
 
 enum-told-4 : tie.Need-enum-told-4
 enum-told-4 c = search needs
 
-returns-9 : tie.Need-returns-9
+returns-8 : tie.Need-returns-8
 unfolding elementsOf
-returns-9 c =
-    let a = c .before .before .before in
-    let e : buffersFault (start-buffers a .args .list) ≡ Nothing = sym (fault-in a) ∙ c .before .enum-told4 .given .1 in
-    let r = a .before .before .before in
+returns-8 c =
+    let r = c .before .before .before in
+    let start = start-register r in
+    let e : listFault (start .args .read .list) ≡ Nothing = sym (fault-in start) ∙ c .before .enum-told4 .given .1 in
     let v = r .before .before .before .before in
     let h = v .before .before .before .before in
-    simp (horizontal-in h .1, vertical-in v .1, register-in r .1, ap (λ (b : BuffersCheck). b .buffers) (a .check-buffers .ensures), buffers-clean _ e)
-    (sym (tables-clean _ _ (fault-is _ _ (buffers (count-in a) (buffers-first _ _ e)))))
+    simp (horizontal-in h .1, vertical-in v .1, register-in r .1, ap (λ (b : BuffersRead). b .buffers) (start .pre), read-clean _ e)
+    (sym (tables-clean _ _ (fault-is _ _ (list-first _ _ _ (register-in r .0) e))))
 
 pub check-tables-spec : {M : Type 1} → statement M
 check-tables-spec =
@@ -194,11 +179,8 @@ check-tables-spec =
     enum-told-3
     refused-requires-6
     returns-6
+    enum-known-fault
     refused-requires-7
     returns-7
-    check-buffers-requires
-    enum-known-fault
-    refused-requires-8
-    returns-8
     enum-told-4
-    returns-9)
+    returns-8)
