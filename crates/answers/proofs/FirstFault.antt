@@ -1,6 +1,6 @@
 -- Refusal 4 exactly in its case: each answer of `tablesFault` is given where the tests before it pass and its own fails, and nothing is at fault exactly where the elements are valid.
 use Prim.Native.Nat.{ℕ, zero, suc, _+_, _<_, _≤_}
-use mathlib.Core.Path.{_≡_, refl}
+use mathlib.Core.Path.{_≡_, refl, sym, ap, _∙_}
 use mathlib.Core.Bool.{Bool, true, false, _&&_, cond}
 use mathlib.Core.List.{List}
 use mathlib.Core.Logic.{⊎-elim}
@@ -19,8 +19,9 @@ use Rattle.answers.specs.declared.records.Tables.{Tables}
 use Rattle.answers.specs.declared.answer.Fault.{Fault}
 use Rattle.answers.specs.declared.tables.ElementFault.{ElementFault}
 use Rattle.answers.specs.declared.tables.ElementFault.the-variants.{Nothing, At}
+use Rattle.answers.specs.declared.tables.BuffersRead.{BuffersRead}
 use Rattle.answers.specs.Lists.{noBuffer}
-use Rattle.answers.specs.Tables.{require, periodInRange, wireOk, registerOk, bufferOk, bufferFault, buffersFault, tablesFault, wireFrom, registerFrom, bufferFrom, listedBuffer, sixPlaces, elementsOf, listFault, refusedBuffers, readAs, readOf, refusedTables, tablesAnswer, checkedTables}
+use Rattle.answers.specs.Tables.{require, periodInRange, wireOk, registerOk, bufferOk, bufferFault, buffersFault, tablesFault, wireFrom, registerFrom, bufferFrom, listedBuffer, sixPlaces, elementsOf, listFault, placesFor, readOf, refusedTables, tablesAnswer, checkedTables}
 use Rattle.answers.proofs.Scan.{six-at, six-length}
 
 -- the first buffer out of range among `left` from index i on
@@ -164,16 +165,14 @@ pub list-first : (t : Tables) (list : BufferList) (f : ElementFault) → UpToReg
 unfolding tablesFault
 list-first t list f ((((p, l), h), v), r) e = rw e at (simp (p, l, h, v, r) at (first-fault t list))
 
-pub read-fault : (list : BufferList) → readOf list .fault ≡ listFault list
-unfolding readOf readAs refusedBuffers
-read-fault list = go (listFault list) where
-  go : (f : ElementFault) → readAs f list .fault ≡ f
-  go Nothing = refl
-  go (At f) = refl
-
 pub read-clean : (list : BufferList) → listFault list ≡ Nothing → readOf list .buffers ≡ sixPlaces (listedBuffer list)
-unfolding readOf readAs
+unfolding readOf placesFor
 read-clean list e = simp e
+
+-- what was read of some list is what is read of its own
+pub read-own : (read : BuffersRead) (list : BufferList) → read ≡ readOf list → read ≡ readOf (read .list)
+unfolding readOf
+read-own read list e = e ∙ ap readOf (ap (λ (r : BuffersRead). r .list) (sym e))
 
 pub tables-refused : (t : Tables) (list : BufferList) (f : Fault) → FirstFault t list (At f) → refusedTables f ≡ checkedTables t list
 unfolding checkedTables tablesAnswer

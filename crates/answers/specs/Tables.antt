@@ -105,16 +105,13 @@ noElements =
     }
 
 -- What the checks answer: the elements, or the first fault and zeros.
-unfoldable pub refusedBuffers : Fault → BufferList → BuffersRead
-refusedBuffers f list = record { list = list; fault = At f; buffers = noBuffers }
-
-unfoldable pub readAs : ElementFault → BufferList → BuffersRead
-readAs Nothing list = record { list = list; fault = Nothing; buffers = sixPlaces (listedBuffer list) }
-readAs (At f) list = refusedBuffers f list
+unfoldable pub placesFor : ElementFault → BufferList → List Buffer
+placesFor Nothing list = sixPlaces (listedBuffer list)
+placesFor (At f) list = noBuffers
 
 -- a list and its check
 unfoldable pub readOf : BufferList → BuffersRead
-readOf list = readAs (listFault list) list
+readOf list = record { list = list; fault = listFault list; buffers = placesFor (listFault list) list }
 
 unfoldable pub refusedTables : Fault → TablesCheck
 refusedTables f = record { fault = At f; elements = noElements }

@@ -1,6 +1,7 @@
 // Refusal 4. Each element is made by its own checking constructor; nothing tests its numbers again.
 ghost use mathlib.Core.Path.{_≡_};
-ghost use Rattle.answers.specs.Tables.{readOf, refusedBuffers, checkedTables, refusedTables, noElements};
+ghost use Rattle.answers.specs.declared.tables.ElementFault.{ElementFault};
+ghost use Rattle.answers.specs.Tables.{readOf, noBuffers, checkedTables, refusedTables, noElements};
 use crate::answer::Fault;
 use crate::records::BufferList;
 use crate::records::Tables;
@@ -107,7 +108,7 @@ pub fn read_list(list: BufferList) -> BuffersRead
 }
 
 fn no_buffers(list: BufferList, fault: Fault) -> BuffersRead
-    ensures { λ r. ⌜ r ≡ refusedBuffers fault list ⌝ }
+    ensures { λ r. ⌜ r ≡ record { list = list; fault = ElementFault.At fault; buffers = noBuffers } ⌝ }
 {
     BuffersRead {
         list: list,

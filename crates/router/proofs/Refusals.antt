@@ -21,19 +21,14 @@ use Rattle.answers.proofs.FirstFault.{tables-valid}
 use Rattle.table.specs.declared.problem.Problem.{Problem}
 use Rattle.table.specs.Problem.{planFor, rulesFor, Ready}
 use Rattle.table.proofs.Spreads.{cells-product}
-use Rattle.router.specs.Route.{Question, rulesAsked, cellsAsked, cellWords, passes, fails, afterPlan, afterTables, checks, answerAfter, answerOf, scratchAfter, scratchOf, visitsAfter, visitsOf}
+use Rattle.router.specs.Route.{Question, rulesAsked, cellsAsked, cellWords, passes, fails, afterPlan, afterTables, checks, answerAfter, answerOf, scratchAfter, scratchOf, visitsAfter, visitsOf, Routed}
 use Rattle.router.specs.Ready.{RouteDone}
-
--- the three parts of the effect
-abbrev pub Effect : Question → List ℕ → List ℕ → List ℕ → List ℕ → Answer → Type 0
-Effect q scratch scratch′ visits visits′ r =
-    (r ≡ answerOf q scratch visits) × ((scratch′ ≡ scratchOf q scratch) × (visits′ ≡ visitsOf q scratch visits))
 
 module _ (q : Question) (scratch visits : List ℕ) where
   -- a refusal leaves everything as it is
-  pub refused : (r : Refusal) → checks q (length scratch) ≡ fails r → Effect q scratch scratch visits visits (Answer.Refused r)
+  pub refused : (r : Refusal) → checks q (length scratch) ≡ fails r → Routed q scratch scratch visits visits (Answer.Refused r)
   unfolding answerOf scratchOf visitsOf answerAfter scratchAfter visitsAfter
-  refused r e = (rw e, (rw e, rw e))
+  refused r e = record { answer = rw e; scratchLeft = rw e; visitsLeft = rw e }
 
   checked : PlanCheck
   checked = checkedPlan (planOf (q .width) (q .height) (q .marks))
@@ -92,8 +87,8 @@ module _ (q : Question) (scratch visits : List ℕ) where
         passed-room h = omega (arith, cells-are)
 
         -- the checks have passed, and the problem is routed
-        pub routed : cellsAsked q * cellWords ≤ length scratch → (scratch′ visits′ : List ℕ) (r : Answer) → RouteDone problem (q .marks) scratch scratch′ visits visits′ r → Effect q scratch scratch′ visits visits′ r
+        pub routed : cellsAsked q * cellWords ≤ length scratch → (scratch′ visits′ : List ℕ) (r : Answer) → RouteDone problem (q .marks) scratch scratch′ visits visits′ r → Routed q scratch scratch′ visits visits′ r
         unfolding answerOf scratchOf visitsOf answerAfter scratchAfter visitsAfter rulesFor planFor rulesAsked elementsOf
         routed h scratch′ visits′ r d =
             let e = passed h in
-            (rw (e, answerAfter) (d .answer), (rw (e, scratchAfter) (rw cells-are at (d .zero-words)), rw (e, visitsAfter) (d .filled)))
+            record { answer = rw (e, answerAfter) (d .answer); scratchLeft = rw (e, scratchAfter) (rw cells-are at (d .zero-words)); visitsLeft = rw (e, visitsAfter) (d .filled) }

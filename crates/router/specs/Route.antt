@@ -3,6 +3,7 @@
 use Prim.Native.Nat.{ℕ, _+_, _*_}
 use mathlib.Core.Bool.{cond}
 use mathlib.Core.List.{List, _++_}
+use mathlib.Core.Path.{_≡_}
 use lib.Dec.{leb, ltb}
 use lib.ListN.{length, drop, replicate}
 use Rattle.plan.specs.Plan.{planOf}
@@ -115,3 +116,9 @@ visitsAfter (fails r) q visits = visits
 
 unfoldable pub visitsOf : Question → List ℕ → List ℕ → List ℕ
 visitsOf q scratch visits = visitsAfter (checks q (length scratch)) q visits
+
+-- All three: what a call answers, and what it leaves in the words lent.
+pub record Routed (q : Question) (scratch scratch′ visits visits′ : List ℕ) (r : Answer) : Type 0 where
+  pub answer : r ≡ answerOf q scratch visits
+  pub scratchLeft : scratch′ ≡ scratchOf q scratch
+  pub visitsLeft : visits′ ≡ visitsOf q scratch visits

@@ -1,17 +1,20 @@
-// The route call on a buffer list by value: refusals 1 to 6 in their order, then the route.
+// The route call: refusals 1 to 6 in their order, then the route.
 ghost use mathlib.Core.Path.{_≡_};
 ghost use Rattle.plan.specs.Plan.{planOf};
 ghost use Rattle.plan.specs.Check.{checkedPlan};
 ghost use Rattle.plan.specs.declared.PlanCheck.{PlanCheck};
-ghost use Rattle.router.specs.Route.{questionOf, answerOf, scratchOf, visitsOf};
+ghost use Rattle.answers.specs.Tables.{readOf};
+ghost use Rattle.router.specs.Route.{questionOf, Routed};
 use crate::ready::route_ready;
 use answers::Answer;
 use answers::BufferList;
+use answers::BuffersRead;
 use answers::ElementFault;
 use answers::Refusal;
 use answers::Tables;
 use answers::check_tables;
 use answers::ends_fault;
+use answers::read_list;
 use costs::costs_of;
 use plan::PlanCheck;
 use plan::check_plan;
@@ -23,16 +26,16 @@ fn after_plan(
     width: u16,
     height: u16,
     tables: Tables,
-    list: BufferList,
+    read: BuffersRead,
     source: u16,
     sink: u16,
     scratch: &mut [u16],
     visits: &mut [u16],
 ) -> Answer
-    requires { ⌜ checkedPlan (planOf width height (now plan)) ≡ PlanCheck.Valid ⌝ }
-    ensures { λ r. ⌜ (r ≡ answerOf (questionOf (now (plan .entry)) width height tables list source sink) (now (scratch .entry)) (now (visits .entry))) × ((now (scratch .exit) ≡ scratchOf (questionOf (now (plan .entry)) width height tables list source sink) (now (scratch .entry))) × (now (visits .exit) ≡ visitsOf (questionOf (now (plan .entry)) width height tables list source sink) (now (scratch .entry)) (now (visits .entry)))) ⌝ }
+    requires { ⌜ (checkedPlan (planOf width height (now plan)) ≡ PlanCheck.Valid) × (read ≡ readOf (read .list)) ⌝ }
+    ensures { λ r. ⌜ Routed (questionOf (now (plan .entry)) width height tables (read .list) source sink) (now (scratch .entry)) (now (scratch .exit)) (now (visits .entry)) (now (visits .exit)) r ⌝ }
 {
-    let checked = check_tables(tables, list);
+    let checked = check_tables(tables, read);
     let fault = checked.fault;
     match fault {
         ElementFault::At(f) => {
@@ -60,19 +63,20 @@ fn after_plan(
     }
 }
 
-// The route call. Its whole effect, refused or not, is specs/Route.antt.
-pub fn route_with(
+// The route call on a list of buffers that was read and checked. Its whole effect, refused or not, is specs/Route.antt.
+pub fn route_read(
     plan: &[u8],
     width: u16,
     height: u16,
     tables: Tables,
-    list: BufferList,
+    read: BuffersRead,
     source: u16,
     sink: u16,
     scratch: &mut [u16],
     visits: &mut [u16],
 ) -> Answer
-    ensures { λ r. ⌜ (r ≡ answerOf (questionOf (now (plan .entry)) width height tables list source sink) (now (scratch .entry)) (now (visits .entry))) × ((now (scratch .exit) ≡ scratchOf (questionOf (now (plan .entry)) width height tables list source sink) (now (scratch .entry))) × (now (visits .exit) ≡ visitsOf (questionOf (now (plan .entry)) width height tables list source sink) (now (scratch .entry)) (now (visits .entry)))) ⌝ }
+    requires { ⌜ read ≡ readOf (read .list) ⌝ }
+    ensures { λ r. ⌜ Routed (questionOf (now (plan .entry)) width height tables (read .list) source sink) (now (scratch .entry)) (now (scratch .exit)) (now (visits .entry)) (now (visits .exit)) r ⌝ }
 {
     let grid = check_plan(plan, width, height);
     match grid {
@@ -91,7 +95,7 @@ pub fn route_with(
                 width,
                 height,
                 tables,
-                list,
+                read,
                 source,
                 sink,
                 scratch,
@@ -99,4 +103,32 @@ pub fn route_with(
             );
         }
     }
+}
+
+// The route call on a list of buffers by value.
+pub fn route_with(
+    plan: &[u8],
+    width: u16,
+    height: u16,
+    tables: Tables,
+    list: BufferList,
+    source: u16,
+    sink: u16,
+    scratch: &mut [u16],
+    visits: &mut [u16],
+) -> Answer
+    ensures { λ r. ⌜ Routed (questionOf (now (plan .entry)) width height tables list source sink) (now (scratch .entry)) (now (scratch .exit)) (now (visits .entry)) (now (visits .exit)) r ⌝ }
+{
+    let read = read_list(list);
+    route_read(
+        plan,
+        width,
+        height,
+        tables,
+        read,
+        source,
+        sink,
+        scratch,
+        visits,
+    )
 }

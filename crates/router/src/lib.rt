@@ -2,4 +2,5 @@
 mod checks;
 mod ready;
 
+pub use checks::route_read;
 pub use checks::route_with;

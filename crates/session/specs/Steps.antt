@@ -2,9 +2,11 @@
 use Prim.Native.Nat.{ℕ, _+_, _*_, _-_}
 use mathlib.Core.Bool.{cond}
 use mathlib.Core.List.{List}
+use mathlib.Core.Path.{_≡_}
 use lib.ListN.{length, getD, set}
 use Rattle.session.specs.declared.records.Session.{Session}
 use Rattle.session.specs.declared.records.SessionAnswer.{SessionAnswer}
+use Rattle.session.specs.declared.records.SessionStep.{SessionStep}
 use Rattle.session.specs.declared.journal.Entry.{Entry}
 use Rattle.session.specs.Numbers.{isDone}
 use Rattle.session.specs.Journal.{entryBytes, cleared, entryAt, writtenEntry}
@@ -67,3 +69,20 @@ undone s =
     effect (undoAnswer (s .session) (s .marks) (s .journal))
     (withUndo (s .session) (s .marks) (s .journal) (entryAt (s .journal) (newestAt (s .session))))
     s
+
+-- What a call has done: its answer, and the session after it, are the effect's.
+pub record Leaves (e : Effect) (after : State) (r : SessionAnswer) : Type 0 where
+  pub answer : r ≡ e .answer
+  pub session : after .session ≡ e .state .session
+  pub marks : after .marks ≡ e .state .marks
+  pub journal : after .journal ≡ e .state .journal
+
+-- `journal` as lent, `journal′` as left
+abbrev pub Opened : ℕ → ℕ → List ℕ → List ℕ → List ℕ → SessionStep → Type 0
+Opened w h marks journal journal′ r = Leaves (opened w h marks journal) (stateOf (r .session) marks journal′) (r .answer)
+
+abbrev pub Moved : State → ℕ → ℕ → State → SessionAnswer → Type 0
+Moved before cell m after r = Leaves (moved before cell m) after r
+
+abbrev pub Undone : State → State → SessionAnswer → Type 0
+Undone before after r = Leaves (undone before) after r

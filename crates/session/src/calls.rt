@@ -1,6 +1,5 @@
 // The session's calls, with the record by value. Their whole effect, refused or not, is specs/Steps.antt.
-ghost use mathlib.Core.Path.{_≡_};
-ghost use Rattle.session.specs.Steps.{stateOf, opened, moved, undone};
+ghost use Rattle.session.specs.Steps.{stateOf, Opened, Moved, Undone};
 use crate::checks::move_answer;
 use crate::checks::open_answer;
 use crate::checks::undo_answer;
@@ -14,7 +13,7 @@ use crate::records::SessionStep;
 
 // Opens a session on a plan: the journal's used bytes become zero, depth 0. A refused opening gives a record of zeros.
 pub fn open_at(plan: &[u8], width: u16, height: u16, journal: &mut [u8]) -> SessionStep
-    ensures { λ r. ⌜ (r .answer ≡ opened width height (now (plan .entry)) (now (journal .entry)) .answer) × ((r .session ≡ opened width height (now (plan .entry)) (now (journal .entry)) .state .session) × (now (journal .exit) ≡ opened width height (now (plan .entry)) (now (journal .entry)) .state .journal)) ⌝ }
+    ensures { λ r. ⌜ Opened width height (now (plan .entry)) (now (journal .entry)) (now (journal .exit)) r ⌝ }
 {
     let answer = open_answer(plan, width, height, journal.len());
     if answer.is_done() {
@@ -46,7 +45,7 @@ pub fn set_marks_at(
     cell: u16,
     marks: u8,
 ) -> SessionStep
-    ensures { λ r. ⌜ (r .answer ≡ moved (stateOf s (now (plan .entry)) (now (journal .entry))) cell marks .answer) × ((r .session ≡ moved (stateOf s (now (plan .entry)) (now (journal .entry))) cell marks .state .session) × ((now (plan .exit) ≡ moved (stateOf s (now (plan .entry)) (now (journal .entry))) cell marks .state .marks) × (now (journal .exit) ≡ moved (stateOf s (now (plan .entry)) (now (journal .entry))) cell marks .state .journal))) ⌝ }
+    ensures { λ r. ⌜ Moved (stateOf s (now (plan .entry)) (now (journal .entry))) cell marks (stateOf (r .session) (now (plan .exit)) (now (journal .exit))) (r .answer) ⌝ }
 {
     let answer = move_answer(s, plan, journal.len(), cell, marks);
     if answer.is_done() {
@@ -74,7 +73,7 @@ pub fn set_marks_at(
 
 // Takes the newest move back: its old marks, its entry zero, 1 off the depth.
 pub fn undo_at(s: Session, plan: &mut [u8], journal: &mut [u8]) -> SessionStep
-    ensures { λ r. ⌜ (r .answer ≡ undone (stateOf s (now (plan .entry)) (now (journal .entry))) .answer) × ((r .session ≡ undone (stateOf s (now (plan .entry)) (now (journal .entry))) .state .session) × ((now (plan .exit) ≡ undone (stateOf s (now (plan .entry)) (now (journal .entry))) .state .marks) × (now (journal .exit) ≡ undone (stateOf s (now (plan .entry)) (now (journal .entry))) .state .journal))) ⌝ }
+    ensures { λ r. ⌜ Undone (stateOf s (now (plan .entry)) (now (journal .entry))) (stateOf (r .session) (now (plan .exit)) (now (journal .exit))) (r .answer) ⌝ }
 {
     let answer = undo_answer(s, plan, journal);
     if answer.is_done() {

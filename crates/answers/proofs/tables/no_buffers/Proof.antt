@@ -1,4 +1,5 @@
-use Rattle.answers.specs.Tables.{refusedBuffers, noBuffers, sixPlaces}
+-- The six places are zero.
+use Rattle.answers.specs.Tables.{noBuffers, sixPlaces}
 use borrow.Author.Needs.{needs}
 use Rattle.answers.proofs.tables.no_buffers.Statement.{statement}
 use Rattle.answers.proofs.tables.no_buffers.Tie as tie
@@ -7,7 +8,7 @@ zero-requires : tie.Need-zero-requires
 zero-requires c κs = search needs
 
 returns : tie.Need-returns
-unfolding refusedBuffers noBuffers sixPlaces
+unfolding noBuffers sixPlaces
 returns c = simp (c .zero .ensures)
 
 pub no-buffers-spec : {M : Type 1} → statement M

@@ -1,55 +1,26 @@
--- `router::checks::route_with` meets its contract: refusals 1, 2 and 3, or what follows them.
-use mathlib.Core.Path.{sym, _∙_}
+-- `router::checks::route_with` meets its contract: the list is read, and the route call is asked about what was read.
 use borrow.Author.Needs.{needs}
-use Rattle.router.specs.Route.{questionOf}
-use Rattle.router.proofs.Refusals.{refused, refused-grid, refused-length, refused-mark}
+use Rattle.answers.specs.Tables.{readOf}
+use Rattle.answers.proofs.FirstFault.{read-own}
 use Rattle.router.proofs.checks.route_with.Statement.{statement}
 use Rattle.router.proofs.checks.route_with.Tie as tie
 
-check-plan-requires : tie.Need-check-plan-requires
-check-plan-requires c κs = search needs
+read-list-requires : tie.Need-read-list-requires
+read-list-requires c κs = search needs
 
-enum-told : tie.Need-enum-told
-enum-told c = search needs
-
-returns : tie.Need-returns
-returns c =
-    let a = c .before .before .before .before .before .before .args in
-    let q = questionOf (a .plan .now) (a .width) (a .height) (a .tables) (a .list) (a .source) (a .sink) in
-    refused q (a .scratch .now) (a .visits .now) _ (refused-grid q (a .scratch .now) (a .visits .now) (sym (c .before .before .check-plan .ensures) ∙ c .enum-told .given .1))
-
-enum-told-2 : tie.Need-enum-told-2
-enum-told-2 c = search needs
-
-returns-2 : tie.Need-returns-2
-returns-2 c =
-    let a = c .before .before .before .before .before .before .args in
-    let q = questionOf (a .plan .now) (a .width) (a .height) (a .tables) (a .list) (a .source) (a .sink) in
-    refused q (a .scratch .now) (a .visits .now) _ (refused-length q (a .scratch .now) (a .visits .now) (sym (c .before .before .check-plan .ensures) ∙ c .enum-told2 .given .1))
-
-enum-told-3 : tie.Need-enum-told-3
-enum-told-3 c = search needs
-
-returns-3 : tie.Need-returns-3
-returns-3 c =
-    let a = c .before .before .before .before .before .before .args in
-    let q = questionOf (a .plan .now) (a .width) (a .height) (a .tables) (a .list) (a .source) (a .sink) in
-    refused q (a .scratch .now) (a .visits .now) _ (refused-mark q (a .scratch .now) (a .visits .now) (sym (c .before .before .check-plan .ensures) ∙ c .enum-told3 .given .1))
-
-enum-told-4 : tie.Need-enum-told-4
-enum-told-4 c = search needs
-
-after-plan-requires : tie.Need-after-plan-requires
-after-plan-requires c κs = sym (c .before .before .before .before .check-plan .ensures) ∙ c .before .before .enum-told4 .given .1
+route-read-requires : tie.Need-route-read-requires
+route-read-requires c κs =
+    read-own _ _ (c .before .before .read-list .ensures)
 
 same-length : tie.Need-same-length
-same-length c = c .before .before .before .before .after-plan .kept .1 .1 .1 .1 .1 .1 .1 .0
+same-length c = search needs
 
 same-length-2 : tie.Need-same-length-2
-same-length-2 c = c .before .before .before .before .after-plan .kept .1 .1 .1 .1 .1 .1 .1 .1 .0
+same-length-2 c = search needs
 
-returns-4 : tie.Need-returns-4
-returns-4 c = c .before .before .before .before .after-plan .ensures
+returns : tie.Need-returns
+unfolding readOf
+returns c = rw (c .before .before .before .before .before .before .before .read-list .ensures) at (c .before .before .before .before .route-read .ensures)
 
 pub route-with-spec : {M : Type 1} → statement M
-route-with-spec = tie.close (tie.spec check-plan-requires enum-told returns enum-told-2 returns-2 enum-told-3 returns-3 enum-told-4 after-plan-requires same-length same-length-2 returns-4)
+route-with-spec = tie.close (tie.spec read-list-requires route-read-requires same-length same-length-2 returns)

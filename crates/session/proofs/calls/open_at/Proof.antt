@@ -30,13 +30,13 @@ returns : tie.Need-returns
 unfolding opened effect
 returns c =
     let d = done (c .before .before .before .before) in
-    (c .before .before .before .before .before .before .open-answer .ensures, (rw d, rw d (c .before .before .clear-journal .ensures)))
+    record { answer = c .before .before .before .before .before .before .open-answer .ensures; session = rw d; marks = rw d; journal = rw d (c .before .before .clear-journal .ensures) }
 
 returns-2 : tie.Need-returns-2
 unfolding opened effect
 returns-2 c =
     let d = sym (ap isDone (c .before .before .open-answer .ensures)) ∙ (sym (c .before .is-done .ensures) ∙ c .if1 .left) in
-    (c .before .before .open-answer .ensures, (rw d, rw d))
+    record { answer = c .before .before .open-answer .ensures; session = rw d; marks = rw d; journal = rw d }
 
 pub open-at-spec : {M : Type 1} → statement M
 open-at-spec = tie.close (tie.spec open-answer-requires is-done-requires clear-journal-requires same-length returns returns-2)

@@ -56,7 +56,7 @@ returns : tie.Need-returns
 unfolding moved effect withMove moveEntry
 returns c =
     let d = done (c .before .before .before .before .before .before .before) in
-    (c .before .before .before .before .before .before .before .before .before .move-answer .ensures, (rw d, (rw d, rw d (c .before .before .before .write-entry .ensures))))
+    record { answer = c .before .before .before .before .before .before .before .before .before .move-answer .ensures; session = rw d; marks = rw d; journal = rw d (c .before .before .before .write-entry .ensures) }
 
 same-length-3 : tie.Need-same-length-3
 same-length-3 c = search needs
@@ -65,7 +65,7 @@ returns-2 : tie.Need-returns-2
 unfolding moved effect
 returns-2 c =
     let d = sym (ap isDone (c .before .before .move-answer .ensures)) ∙ (sym (c .before .is-done .ensures) ∙ c .if1 .left) in
-    (c .before .before .move-answer .ensures, (rw d, (rw d, rw d)))
+    record { answer = c .before .before .move-answer .ensures; session = rw d; marks = rw d; journal = rw d }
 
 pub set-marks-at-spec : {M : Type 1} → statement M
 set-marks-at-spec = tie.close (tie.spec move-answer-requires is-done-requires slice-read-t14 slice-write-plan cast-write-entry mul-write-entry write-entry-requires add-t20 same-length same-length-2 returns same-length-3 returns-2)

@@ -63,7 +63,12 @@ returns : tie.Need-returns
 unfolding undone effect withUndo newestAt
 returns c =
     let d = done (c .before .before .before .before .before .before .before .before .before) in
-    (c .before .before .before .before .before .before .before .before .before .before .before .undo-answer .ensures, (rw d, (rw (d, ← c .before .before .before .before .before .before .read-entry .ensures), rw d (c .before .before .before .write-entry .ensures))))
+    record {
+      answer = c .before .before .before .before .before .before .before .before .before .before .before .undo-answer .ensures;
+      session = rw d;
+      marks = rw (d, ← c .before .before .before .before .before .before .read-entry .ensures);
+      journal = rw d (c .before .before .before .write-entry .ensures);
+    }
 
 same-length-3 : tie.Need-same-length-3
 same-length-3 c = search needs
@@ -75,7 +80,7 @@ returns-2 : tie.Need-returns-2
 unfolding undone effect
 returns-2 c =
     let d = sym (ap isDone (c .before .before .undo-answer .ensures)) ∙ (sym (c .before .is-done .ensures) ∙ c .if1 .left) in
-    (c .before .before .undo-answer .ensures, (rw d, (rw d, rw d)))
+    record { answer = c .before .before .undo-answer .ensures; session = rw d; marks = rw d; journal = rw d }
 
 pub undo-at-spec : {M : Type 1} → statement M
 undo-at-spec = tie.close (tie.spec undo-answer-requires is-done-requires cast-at sub-at mul-at read-entry-requires cast-cell slice-write-plan write-entry-requires sub-t22 same-length same-length-2 returns same-length-3 same-length-4 returns-2)
