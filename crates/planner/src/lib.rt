@@ -1,10 +1,9 @@
 // The planner's calls for outsiders. Nothing is required of what they lend; every answer is stated for every input.
-ghost use mathlib.Core.Path.{_≡_};
 ghost use Rattle.answers.specs.Lists.{listOf};
-ghost use Rattle.router.specs.Route.{questionOf, answerOf, scratchOf, visitsOf};
-ghost use Rattle.session.specs.Steps.{stateOf, opened, moved, undone};
+ghost use Rattle.router.specs.Route.{questionOf, Routed};
+ghost use Rattle.session.specs.Steps.{stateOf, Opened, Moved, Undone};
 use crate::buffers::read_buffers;
-use router::route_with;
+use router::route_read;
 use session::open_at;
 use session::set_marks_at;
 use session::undo_at;
@@ -24,7 +23,7 @@ pub use session::SessionAnswer;
 pub use session::SessionStep;
 
 // The best route from source to sink: its figures in the answer, its visits in `visits`.
-// `answerOf`, `scratchOf` and `visitsOf` say the answer and what is left in the lent words, refusals included.
+// `Routed` says the answer and what is left in the lent words, refusals included.
 pub fn route(
     plan: &[u8],
     width: u16,
@@ -36,15 +35,15 @@ pub fn route(
     scratch: &mut [u16],
     visits: &mut [u16],
 ) -> Answer
-    ensures { λ r. ⌜ (r ≡ answerOf (questionOf (now (plan .entry)) width height tables (listOf (now (buffers .entry))) source sink) (now (scratch .entry)) (now (visits .entry))) × ((now (scratch .exit) ≡ scratchOf (questionOf (now (plan .entry)) width height tables (listOf (now (buffers .entry))) source sink) (now (scratch .entry))) × (now (visits .exit) ≡ visitsOf (questionOf (now (plan .entry)) width height tables (listOf (now (buffers .entry))) source sink) (now (scratch .entry)) (now (visits .entry)))) ⌝ }
+    ensures { λ r. ⌜ Routed (questionOf (now (plan .entry)) width height tables (listOf (now (buffers .entry))) source sink) (now (scratch .entry)) (now (scratch .exit)) (now (visits .entry)) (now (visits .exit)) r ⌝ }
 {
-    let list = read_buffers(buffers);
-    route_with(
+    let read = read_buffers(buffers);
+    route_read(
         plan,
         width,
         height,
         tables,
-        list,
+        read,
         source,
         sink,
         scratch,
@@ -53,15 +52,15 @@ pub fn route(
 }
 
 // Opens a session on a plan: the journal's first 1,024 bytes become zero, the record has depth 0. A refused opening gives a record of zeros.
-// `opened` says the answer, the record and what is left in the journal, refusals included; `sessionNumber` the answer's number.
+// `Opened` says the answer, the record and what is left in the journal, refusals included; `sessionNumber` the answer's number.
 pub fn open(plan: &[u8], width: u16, height: u16, journal: &mut [u8]) -> SessionStep
-    ensures { λ r. ⌜ (r .answer ≡ opened width height (now (plan .entry)) (now (journal .entry)) .answer) × ((r .session ≡ opened width height (now (plan .entry)) (now (journal .entry)) .state .session) × (now (journal .exit) ≡ opened width height (now (plan .entry)) (now (journal .entry)) .state .journal)) ⌝ }
+    ensures { λ r. ⌜ Opened width height (now (plan .entry)) (now (journal .entry)) (now (journal .exit)) r ⌝ }
 {
     open_at(plan, width, height, journal)
 }
 
 // A move (document 01's word; `move` is a keyword): sets one cell's marks, adds an entry to the journal, adds 1 to the depth.
-// `moved` says the answer, the record and what is left in the plan and the journal, refusals included.
+// `Moved` says the answer, the record and what is left in the plan and the journal, refusals included.
 pub fn set_marks(
     s: &mut Session,
     plan: &mut [u8],
@@ -69,7 +68,7 @@ pub fn set_marks(
     cell: u16,
     marks: u8,
 ) -> SessionAnswer
-    ensures { λ r. ⌜ (r ≡ moved (stateOf (now (s .entry)) (now (plan .entry)) (now (journal .entry))) cell marks .answer) × ((now (s .exit) ≡ moved (stateOf (now (s .entry)) (now (plan .entry)) (now (journal .entry))) cell marks .state .session) × ((now (plan .exit) ≡ moved (stateOf (now (s .entry)) (now (plan .entry)) (now (journal .entry))) cell marks .state .marks) × (now (journal .exit) ≡ moved (stateOf (now (s .entry)) (now (plan .entry)) (now (journal .entry))) cell marks .state .journal))) ⌝ }
+    ensures { λ r. ⌜ Moved (stateOf (now (s .entry)) (now (plan .entry)) (now (journal .entry))) cell marks (stateOf (now (s .exit)) (now (plan .exit)) (now (journal .exit))) r ⌝ }
 {
     let m = set_marks_at(*s, plan, journal, cell, marks);
     *s = m.session;
@@ -77,9 +76,9 @@ pub fn set_marks(
 }
 
 // Takes the newest move back: its old marks, its entry zero, 1 off the depth.
-// `undone` says the answer, the record and what is left in the plan and the journal, refusals included.
+// `Undone` says the answer, the record and what is left in the plan and the journal, refusals included.
 pub fn undo(s: &mut Session, plan: &mut [u8], journal: &mut [u8]) -> SessionAnswer
-    ensures { λ r. ⌜ (r ≡ undone (stateOf (now (s .entry)) (now (plan .entry)) (now (journal .entry))) .answer) × ((now (s .exit) ≡ undone (stateOf (now (s .entry)) (now (plan .entry)) (now (journal .entry))) .state .session) × ((now (plan .exit) ≡ undone (stateOf (now (s .entry)) (now (plan .entry)) (now (journal .entry))) .state .marks) × (now (journal .exit) ≡ undone (stateOf (now (s .entry)) (now (plan .entry)) (now (journal .entry))) .state .journal))) ⌝ }
+    ensures { λ r. ⌜ Undone (stateOf (now (s .entry)) (now (plan .entry)) (now (journal .entry))) (stateOf (now (s .exit)) (now (plan .exit)) (now (journal .exit))) r ⌝ }
 {
     let m = undo_at(*s, plan, journal);
     *s = m.session;

@@ -1,5 +1,5 @@
 -- `planner::buffers::read_buffers` meets its contract: a walk of its MIR, by hand. The slice reference is copied for each of the six calls; `list-is` puts the six records together.
-use mathlib.Core.Path.{_≡_, refl, _∙_}
+use mathlib.Core.Path.{_≡_, refl, ap, _∙_}
 use Prim.Native.Nat.{ℕ, _<_, _^_}
 use mathlib.Core.List.{List, [], _∷_}
 use lib.Dec.{lit<}
@@ -37,21 +37,22 @@ use denote.Triple.Spec.{Meets, tripleOf}
 use denote.Triple.Table.{entered, cited}
 use denote.Triple.Walked.{says, Stays, stay-dropped, walkOf, AllGo, goes-dropped, Walks, ends-at, walked, walk-meets}
 use Rattle.answers.specs.Lists.{noBuffer, listOf}
+use Rattle.answers.specs.Tables.{readOf}
 use Rattle.answers.proofs.Lists.{list-is}
 use Rattle.answers.specs.declared.records.BufferRecord.{BufferRecord}
 use Rattle.answers.proofs.records.BufferRecord as T
 use Rattle.answers.proofs.records.BufferRecord.Laws as T′
-use Rattle.answers.specs.declared.records.BufferList.{BufferList}
-use Rattle.answers.proofs.records.BufferList as L
-use Rattle.answers.proofs.records.BufferList.Laws as L′
+use Rattle.answers.specs.declared.tables.BuffersRead.{BuffersRead}
+use Rattle.answers.proofs.tables.BuffersRead as L
+use Rattle.answers.proofs.tables.BuffersRead.Laws as L′
 use Rattle.planner.proofs.buffers.pick_or as pick-or
 use Rattle.planner.proofs.buffers.pick_or.Symbol as pick-or-def
 use Rattle.planner.proofs.buffers.pick_or.Symbol.{name as #planner·pick-or}
 use Rattle.planner.proofs.buffers.pick_or.Met as pick-or-thm
-use Rattle.planner.proofs.buffers.make_list as make
-use Rattle.planner.proofs.buffers.make_list.Symbol as make-def
-use Rattle.planner.proofs.buffers.make_list.Symbol.{name as #planner·make-list}
-use Rattle.planner.proofs.buffers.make_list.Met as make-thm
+use Rattle.planner.proofs.buffers.read_six as make
+use Rattle.planner.proofs.buffers.read_six.Symbol as make-def
+use Rattle.planner.proofs.buffers.read_six.Symbol.{name as #planner·read-six}
+use Rattle.planner.proofs.buffers.read_six.Met as make-thm
 use Rattle.planner.proofs.buffers.read_buffers.Key.{name as #planner·read-buffers}
 use Rattle.planner.proofs.buffers.read_buffers as self
 use Rattle.planner.proofs.buffers.read_buffers.Statement as stated
@@ -97,7 +98,7 @@ module _ {M : Type 1} (𝓤 : URA M) (H : Heap 𝓤) (A : Atoms 𝓤) (W : Given
   said : (k : ℕ) (r : BufferRecord) → ent 𝓤 (ensured 𝓤 H A pick-or.ended (pick-or.clauses 𝓤 H A at-mem run) (κ, tt) (bs, (k, tt)) tt r) (fact 𝓤 (r ≡ getD (now bs) k noBuffer))
   said k r = exE 𝓤 _ (λ ws. snd∗ 𝓤 (sem 𝓤 H A (lasts pick-or.ended (κ, tt) (bs, (k, tt)) ws)) (fact 𝓤 (r ≡ getD (now bs) k noBuffer)))
 
-  -- the call of `make_list`
+  -- the call of `read_six`
   module _ (b0 b1 b2 b3 b4 b5 : BufferRecord) (v0 v1 v2 v3 v4 v5 : Val) where
     abbrev given : ℕ × (BufferRecord × (BufferRecord × (BufferRecord × (BufferRecord × (BufferRecord × (BufferRecord × (Unit {0})))))))
     given = (count, (b0, (b1, (b2, (b3, (b4, (b5, tt)))))))
@@ -111,19 +112,19 @@ module _ {M : Type 1} (𝓤 : URA M) (H : Heap 𝓤) (A : Atoms 𝓤) (W : Given
     goes-make : ent 𝓤 (onEntry 𝓤 H A make.signature tt tt given passed) (Make 𝓤 H A at-mem run .pre to-make)
     goes-make = qed W (‵ ftrue ∷ ‵ (owns (usize ∷ T.the-row ∷ T.the-row ∷ T.the-row ∷ T.the-row ∷ T.the-row ∷ T.the-row ∷ []) given passed) ∷ []) ∵ join ! $ frame ! $ done !
 
-    abbrev Made : BufferList → Type 0
-    Made r = r ≡ record { n = count; items = b0 ∷ b1 ∷ b2 ∷ b3 ∷ b4 ∷ b5 ∷ [] }
+    abbrev Made : BuffersRead → Type 0
+    Made r = r ≡ readOf (record { n = count; items = b0 ∷ b1 ∷ b2 ∷ b3 ∷ b4 ∷ b5 ∷ [] })
 
-    said-make : (r : BufferList) → ent 𝓤 (ensured 𝓤 H A make.ended (make.clauses 𝓤 H A at-mem run) tt given tt r) (fact 𝓤 (Made r))
+    said-make : (r : BuffersRead) → ent 𝓤 (ensured 𝓤 H A make.ended (make.clauses 𝓤 H A at-mem run) tt given tt r) (fact 𝓤 (Made r))
     said-make r = exE 𝓤 _ (λ ws. snd∗ 𝓤 (sem 𝓤 H A (lasts make.ended tt given ws)) (fact 𝓤 (Made r)))
 
-  exits : (r : BufferList) (v : Val) → r ≡ listOf (now bs) → ent 𝓤 (⋆ 𝓤 H A (‵ (L.the-row .own r (v ∷ [])) ∷ (‵ (flft κ q) ⊛ ‵ ftrue) ∷ [])) (Post v)
+  exits : (r : BuffersRead) (v : Val) → r ≡ readOf (listOf (now bs)) → ent 𝓤 (⋆ 𝓤 H A (‵ (L.the-row .own r (v ∷ [])) ∷ (‵ (flft κ q) ⊛ ‵ ftrue) ∷ [])) (Post v)
   exits r v e =
       qed W (‵ (L.the-row .own r (v ∷ [])) ∷ (‵ (flft κ q) ⊛ ‵ ftrue) ∷ []) ∵
       suffices ! _ (ends-at 𝓤 H A self.ended stayed (self.clauses 𝓤 H A at-mem run) W (((κ, tt), (q, tt), tt, (bs, tt), (sv ∷ [], tt)), tt) v r (tt, tt) (tt, tt)) $ says ! e $
       move ! (1 ∷ []) $ frame ! $ nothing ! $ nothing ! $ fjoin ! $ frame ! $ done !
 
-  module _ (C : Calls 𝓤 H) (Λ : Loops 𝓤 H) (fm : FmC 𝓤 H (W .laws) C) (known-pick : Triple 𝓤 (C #planner·pick-or) (Pick 𝓤 H A at-mem run)) (known-make : Triple 𝓤 (C #planner·make-list) (Make 𝓤 H A at-mem run)) where
+  module _ (C : Calls 𝓤 H) (Λ : Loops 𝓤 H) (fm : FmC 𝓤 H (W .laws) C) (known-pick : Triple 𝓤 (C #planner·pick-or) (Pick 𝓤 H A at-mem run)) (known-make : Triple 𝓤 (C #planner·read-six) (Make 𝓤 H A at-mem run)) where
     walk : Room T.the-row count → ent 𝓤 (onEntry 𝓤 H A self.signature (κ, tt) (q, tt) (bs, tt) (sv ∷ [], tt)) (WpFn 𝓤 H C Λ code.function (sv ∷ []) Post)
     walk gn =
         qed W ((‵ (flft κ q) ⊛ ‵ ftrue) ∷ ‵ (owns (ShrSlice (named 0) κ T.the-row ∷ []) (bs, tt) (sv ∷ [], tt)) ∷ []) ∵
@@ -169,7 +170,7 @@ module _ {M : Type 1} (𝓤 : URA M) (H : Heap 𝓤) (A : Atoms 𝓤) (W : Given
         use2 W (raw (Make 𝓤 H A at-mem run .pre (to-make b0 b1 b2 b3 b4 b5 v0 v1 v2 v3 v4 v5))) (goes-make b0 b1 b2 b3 b4 b5 v0 v1 v2 v3 v4 v5) $
         -- [what it asks; κ; the slice reference; the locals]
         calls-at ! fm (Make 𝓤 H A at-mem run) known-make (to-make b0 b1 b2 b3 b4 b5 v0 v1 v2 v3 v4 v5) (and-then ! (load ! (from ! (stop !)) (look ! 3 refl)) (and-then ! (load ! (from ! (stop !)) (look ! 15 refl)) (and-then ! (load ! (from ! (stop !)) (look ! 13 refl)) (and-then ! (load ! (from ! (stop !)) (look ! 11 refl)) (and-then ! (load ! (from ! (stop !)) (look ! 9 refl)) (and-then ! (load ! (from ! (stop !)) (look ! 7 refl)) (and-then ! (load ! (from ! (stop !)) (look ! 5 refl)) (no-more !)))))))) (λ v.
-        use1 W (later (some (λ (r : BufferList). (‵ ftrue ⊛ ‵ (L.the-row .own r (v ∷ []))) ⊛ raw (ensured 𝓤 H A make.ended (make.clauses 𝓤 H A at-mem run) tt (given b0 b1 b2 b3 b4 b5 v0 v1 v2 v3 v4 v5) tt r)))) (id⊢ 𝓤 _) $ await ! tt $ pick ! (λ r.
+        use1 W (later (some (λ (r : BuffersRead). (‵ ftrue ⊛ ‵ (L.the-row .own r (v ∷ []))) ⊛ raw (ensured 𝓤 H A make.ended (make.clauses 𝓤 H A at-mem run) tt (given b0 b1 b2 b3 b4 b5 v0 v1 v2 v3 v4 v5) tt r)))) (id⊢ 𝓤 _) $ await ! tt $ pick ! (λ r.
         split ! $ move ! (1 ∷ []) $ use1 W (raw (fact 𝓤 (Made b0 b1 b2 b3 b4 b5 v0 v1 v2 v3 v4 v5 r))) (said-make b0 b1 b2 b3 b4 b5 v0 v1 v2 v3 v4 v5 r) $ heard ! (Made b0 b1 b2 b3 b4 b5 v0 v1 v2 v3 v4 v5 r) (λ e.
         split ! $ drop ! $ peeks ! L.the-row (Is L.the-row) (shows 𝓤 H A L.the-row) r (v ∷ []) (λ r-is.
         -- [the result; κ; the slice reference; the locals]
@@ -177,10 +178,10 @@ module _ {M : Type 1} (𝓤 : URA M) (H : Heap 𝓤) (A : Atoms 𝓤) (W : Given
         land ! (from ! (stop !)) (init ! 18 refl (LL.lawful L.the-type L′.the-laws 𝓤 H A W .typed r _ r-is .0)) $
         returns ! (look ! 18 refl) $ forget ! 2 refl $ forget ! 4 refl $ forget ! 6 refl $ forget ! 8 refl $ forget ! 10 refl $ forget ! 12 refl $ forget ! 14 refl $ forget ! 16 refl $ forget ! 18 refl $
         move ! (18 ∷ 19 ∷ []) $ free1 ! $ move ! (16 ∷ 17 ∷ []) $ free1 ! $ move ! (14 ∷ 15 ∷ []) $ free1 ! $ move ! (12 ∷ 13 ∷ []) $ free1 ! $ move ! (10 ∷ 11 ∷ []) $ free1 ! $ move ! (8 ∷ 9 ∷ []) $ free1 ! $ move ! (6 ∷ 7 ∷ []) $ free1 ! $ move ! (4 ∷ 5 ∷ []) $ free1 ! $ move ! (2 ∷ 3 ∷ []) $ free1 ! $ free0 ! $
-        by ! (exits r v (e ∙ list-is (now bs) b0 b1 b2 b3 b4 b5 e0 e1 e2 e3 e4 e5)))))))))))))))))))))))))))))))))))))))
+        by ! (exits r v (e ∙ ap readOf (list-is (now bs) b0 b1 b2 b3 b4 b5 e0 e1 e2 e3 e4 e5))))))))))))))))))))))))))))))))))))))))
 
 module _ {M : Type 1} (𝓤 : URA M) (H : Heap 𝓤) (A : Atoms 𝓤) (W : Given 𝓤 H A) (at-mem : Memory → SProp 𝓤) (run : Routine → Fun 𝓤) where
-  self-walks : (C : Calls 𝓤 H) (Λ : Loops 𝓤 H) → FmC 𝓤 H (W .laws) C → Triple 𝓤 (C #planner·pick-or) (Pick 𝓤 H A at-mem run) → Triple 𝓤 (C #planner·make-list) (Make 𝓤 H A at-mem run) → Walks 𝓤 H A self.ended stayed (WpFn 𝓤 H C Λ code.function) (self.clauses 𝓤 H A at-mem run)
+  self-walks : (C : Calls 𝓤 H) (Λ : Loops 𝓤 H) → FmC 𝓤 H (W .laws) C → Triple 𝓤 (C #planner·pick-or) (Pick 𝓤 H A at-mem run) → Triple 𝓤 (C #planner·read-six) (Make 𝓤 H A at-mem run) → Walks 𝓤 H A self.ended stayed (WpFn 𝓤 H C Λ code.function) (self.clauses 𝓤 H A at-mem run)
   self-walks C Λ fm known-pick known-make = walked 𝓤 H A self.ended stayed (self.clauses 𝓤 H A at-mem run) (WpFn 𝓤 H C Λ code.function)
       (λ κs. (slice-vals, tt))
       (λ κs. (shr-slice-tells (named 0) (κs .0) T.the-row, tt))
@@ -189,7 +190,7 @@ module _ {M : Type 1} (𝓤 : URA M) (H : Heap 𝓤) (A : Atoms 𝓤) (W : Given
   goes-all : AllGo 𝓤 H A W 1 (self.signature .params) (self.ended .kept) stayed
   goes-all = (goes-dropped 𝓤 H A W 1 (shrSliceOf (0 ∷ []) tt (plain (λ _. T.the-row))) yes (λ κs x f. refl), tt)
 
-self-meets : {M : Type 1} (𝓤 : URA M) (H : Heap 𝓤) (A : Atoms 𝓤) → Given 𝓤 H A → (at-mem : Memory → SProp 𝓤) (run : Routine → Fun 𝓤) (𝓣 : Tables 𝓤 H) → Triple 𝓤 (𝓣 .C #planner·pick-or) (Pick 𝓤 H A at-mem run) → Triple 𝓤 (𝓣 .C #planner·make-list) (Make 𝓤 H A at-mem run) → Meets 𝓤 H A self.signature (WpFn 𝓤 H (𝓣 .C) (𝓣 .Λ) code.function) (self.spec 𝓤 H A at-mem run)
+self-meets : {M : Type 1} (𝓤 : URA M) (H : Heap 𝓤) (A : Atoms 𝓤) → Given 𝓤 H A → (at-mem : Memory → SProp 𝓤) (run : Routine → Fun 𝓤) (𝓣 : Tables 𝓤 H) → Triple 𝓤 (𝓣 .C #planner·pick-or) (Pick 𝓤 H A at-mem run) → Triple 𝓤 (𝓣 .C #planner·read-six) (Make 𝓤 H A at-mem run) → Meets 𝓤 H A self.signature (WpFn 𝓤 H (𝓣 .C) (𝓣 .Λ) code.function) (self.spec 𝓤 H A at-mem run)
 self-meets 𝓤 H A W at-mem run 𝓣 known-pick known-make = walk-meets 𝓤 H A self.ended stayed W (goes-all 𝓤 H A W at-mem run) (self.clauses 𝓤 H A at-mem run) (WpFn 𝓤 H (𝓣 .C) (𝓣 .Λ) code.function) (WpFn-mono 𝓤 H (W .laws) 𝓣 code.function)
     (self-walks 𝓤 H A W at-mem run (𝓣 .C) (𝓣 .Λ) (fmOf 𝓤 H (W .laws) 𝓣) known-pick known-make)
 
@@ -200,4 +201,4 @@ read-buffers-spec 𝓤 H 𝓜 𝓖 𝓡 =
     (tables 𝓤 H 𝓜 𝓡 code.env .C) (tables 𝓤 H 𝓜 𝓡 code.env .Λ) #planner·read-buffers code.function (code.unfolded 𝓤 H 𝓜 𝓡)
     (self-meets 𝓤 H (𝓖 .A) (givenOf 𝓤 H 𝓜 𝓖) (𝓜 .mem) (𝓡 .run) (tablesOf 𝓤 H 𝓜 (tables 𝓤 H 𝓜 𝓡 code.env))
     (cited 𝓤 H (Pick 𝓤 H (𝓖 .A) (𝓜 .mem) (𝓡 .run)) 𝓜 𝓡 code.env #planner·pick-or pick-or-def.routine code.calls-planner·buffers·pick-or (pick-or-thm.met 𝓤 H 𝓜 𝓖 𝓡))
-    (cited 𝓤 H (Make 𝓤 H (𝓖 .A) (𝓜 .mem) (𝓡 .run)) 𝓜 𝓡 code.env #planner·make-list make-def.routine code.calls-planner·buffers·make-list (make-thm.met 𝓤 H 𝓜 𝓖 𝓡)))
+    (cited 𝓤 H (Make 𝓤 H (𝓖 .A) (𝓜 .mem) (𝓡 .run)) 𝓜 𝓡 code.env #planner·read-six make-def.routine code.calls-planner·buffers·read-six (make-thm.met 𝓤 H 𝓜 𝓖 𝓡)))
