@@ -1,10 +1,10 @@
-//! The proved route call: `route_c` of crates/route_c, linked from target/staticlib/libroute_c.a.
+//! The proved route call: `bench_entry` of crates/bench_entry, linked from target/staticlib/libbench_entry.a.
 
 use crate::problem::Problem;
 
-#[link(name = "route_c", kind = "static")]
+#[link(name = "bench_entry", kind = "static")]
 unsafe extern "C" {
-    fn route_c(
+    fn bench_entry(
         plan: *const u8,
         plan_len: usize,
         width: u16,
@@ -69,7 +69,7 @@ impl Ours {
     fn call(&mut self, p: &Problem, room: usize) -> Answer {
         let mut figures = [0u32; 4];
         let number = unsafe {
-            route_c(
+            bench_entry(
                 p.marks.as_ptr(),
                 p.marks.len(),
                 p.width as u16,

@@ -7,8 +7,7 @@ use Rattle.plan.specs.Joined.{joinsRight, joinsBelow, bothIn, horizontal, verti
 use Rattle.timing.specs.Formulas.{wireDelay, gateDelay, wireLoad, bufferDriver, bufferLoad, registerDriver, registerLoad, setupDelay}
 use Rattle.timing.specs.Elements.{wireOf, driverOf, bufferOf, registerOf}
 use Rattle.timing.specs.Valid.{Valid}
-use Rattle.rules.specs.Rules.{rulesOf, siteOf}
-use Rattle.rules.specs.Rules.{wireBetween}
+use Rattle.rules.specs.Rules.{rulesOf, siteOf, wireBetween}
 use Rattle.rules.specs.Legal.{mayStand, isEnd, arrive, leave, closing}
 use Rattle.rules.specs.Ranking.{codeSevens, registers, steps, latency}
 use Rattle.rules.specs.Beginning.{nextPlace, placeFrom, startPlace, placeAfter}

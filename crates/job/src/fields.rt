@@ -10,6 +10,9 @@ use answers::RegisterRecord;
 use answers::Tables;
 use answers::WireRecord;
 
+// How many numbers the tables have.
+pub const TABLE_NUMBERS: usize = 10;
+
 // The tables, from their ten numbers in the job's order.
 pub fn tables_of(words: &[u16]) -> Tables
     requires { ⌜ tableNumbers ≤ length (now words) ⌝ }

@@ -2,7 +2,9 @@
 mod fields;
 mod read;
 
+pub use fields::TABLE_NUMBERS;
 pub use fields::buffers_of;
+pub use fields::tables_of;
 pub use read::Asked;
 pub use read::Job;
 pub use read::read_job;

@@ -7,8 +7,7 @@ use Rattle.plan.specs.Check.{gridFault, lengthFault, invalidMark, invalidBelow,
 use Rattle.plan.specs.Joined.{joinsRight, joinsBelow, bothIn, horizontal, vertical, joined}
 use Rattle.timing.specs.Formulas.{wireDelay, gateDelay, wireLoad, bufferDriver, bufferLoad, registerDriver, registerLoad, setupDelay}
 use Rattle.timing.specs.Elements.{wireInRange, registerInRange, bufferInRange, wireOf, driverOf, bufferOf, registerOf}
-use Rattle.rules.specs.Rules.{rulesOf, siteOf}
-use Rattle.rules.specs.Rules.{wireBetween}
+use Rattle.rules.specs.Rules.{rulesOf, siteOf, wireBetween}
 use Rattle.rules.specs.Legal.{mayStand, isEnd}
 use Rattle.rules.specs.Ranking.{codeSevens, registers, steps, latency, written}
 use Rattle.budget.specs.Table.{loadAt, delayAt, bufferCost, loadOf, closeCost, only, maxBelow, viaBuffer, arrival, given}
@@ -24,8 +23,7 @@ use Rattle.answers.specs.Ends.{endsFault}
 use Rattle.router.specs.Route.{rulesAsked, cellsAsked, afterPlan, afterTables, checks, figuresOf, answerFor, visitsFor, answerAfter, answerOf, visitsAfter, visitsOf}
 use Rattle.numbers.specs.Numbers.{closed, thirdGroup, secondGroup, number}
 use Rattle.numbers.specs.Runs.{prepend, oneMore, run}
-use Rattle.job.specs.Fields.{tablesOf, bufferListOf}
-use Rattle.job.specs.Fields.{bufferOf as bufferRecordAt}
+use Rattle.job.specs.Fields.{tablesOf, bufferRecordAt, bufferListOf}
 use Rattle.job.specs.Job.{withNumber, withRun, askedOf, questionFrom, ended, buffersFrom, countFrom, tablesFrom, marksFrom, sized, readJob}
 use Rattle.text.specs.Decimal.{digit, spelled, decimal}
 use Rattle.text.specs.Answers.{refusedLine, refusalText, figuresLine, visitLine, visitLines, answerText}

@@ -27,7 +27,7 @@ route-with-requires : tie.Need-route-with-requires
 route-with-requires c κs = search needs
 
 put-answer-requires : tie.Need-put-answer-requires
-put-answer-requires c κs = (within-answer _ _ _ _ _ (c .before .before .before .before .before .before .route-with .ensures .0) (c .before .before .before .before .before .before .route-with .kept .1 .1 .1 .1 .1 .1 .1 .1 .0), omega (arith, c .before .before .before .before .before .before .route-with .kept .1 .1 .1 .1 .1 .1 .1 .1 .0, c .before .before .before .before .before .before .before .before .before .before .before .before .before .before .before .before .before .before .before .pre .1 .1 .1 .1 .0, c .before .before .before .before .before .before .before .before .before .before .before .before .before .before .before .before .before .before .before .pre .1 .1 .1 .1 .1))
+put-answer-requires c κs = (within-answer _ _ _ _ _ (c .before .before .before .before .before .before .route-with .ensures .answer) (c .before .before .before .before .before .before .route-with .kept .1 .1 .1 .1 .1 .1 .1 .1 .0), omega (arith, c .before .before .before .before .before .before .route-with .kept .1 .1 .1 .1 .1 .1 .1 .1 .0, c .before .before .before .before .before .before .before .before .before .before .before .before .before .before .before .before .before .before .before .pre .1 .1 .1 .1 .0, c .before .before .before .before .before .before .before .before .before .before .before .before .before .before .before .before .before .before .before .pre .1 .1 .1 .1 .1))
 
 same-length : tie.Need-same-length
 same-length c = search needs
@@ -40,7 +40,7 @@ same-length-3 c = search needs
 
 returns : tie.Need-returns
 returns c = let a = c .before .before .before .before .before .before .before .before .before .before .before .before .before .before .before .before .before .before .before .before .before .before .args in
-    rw (asked-text (a .plan .now) (a .scratch .now) (a .visits .now) (a .asked) (a .count) _ _ _ (c .before .before .before .before .before .before .before .before .before .before .before .before .before .before .before .before .buffers-of .ensures) (c .before .before .before .before .before .before .before .before .before .before .before .before .before .before .before .before .before .before .before .before .before .before .pre .1 .1 .1 .0) (c .before .before .before .before .before .before .before .before .before .before .before .before .before .before .before .before .before .before .before .before .before .before .pre .1 .1 .1 .1 .0) (c .before .before .before .before .before .before .before .before .before .route-with .ensures .0) (c .before .before .before .before .before .before .before .before .before .route-with .ensures .1 .1))
+    rw (asked-text (a .plan .now) (a .scratch .now) (a .visits .now) (a .asked) (a .count) _ _ _ (c .before .before .before .before .before .before .before .before .before .before .before .before .before .before .before .before .buffers-of .ensures) (c .before .before .before .before .before .before .before .before .before .before .before .before .before .before .before .before .before .before .before .before .before .before .pre .1 .1 .1 .0) (c .before .before .before .before .before .before .before .before .before .before .before .before .before .before .before .before .before .before .before .before .before .before .pre .1 .1 .1 .1 .0) (c .before .before .before .before .before .before .before .before .before .route-with .ensures .answer) (c .before .before .before .before .before .before .before .before .before .route-with .ensures .visitsLeft))
     at (c .before .before .put-answer .ensures)
 
 pub print-asked-spec : {M : Type 1} → statement M

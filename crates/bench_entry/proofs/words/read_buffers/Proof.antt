@@ -2,9 +2,9 @@
 use mathlib.Core.Path.{refl}
 use borrow.Author.Needs.{needs}
 use Rattle.job.specs.Fields.{bufferListOf}
-use Rattle.route_c.specs.Words.{buffersIn}
-use Rattle.route_c.proofs.words.read_buffers.Statement.{statement}
-use Rattle.route_c.proofs.words.read_buffers.Tie as tie
+use Rattle.bench_entry.specs.Words.{buffersIn}
+use Rattle.bench_entry.proofs.words.read_buffers.Statement.{statement}
+use Rattle.bench_entry.proofs.words.read_buffers.Tie as tie
 
 read-buffer-requires : tie.Need-read-buffer-requires
 read-buffer-requires c κs = search needs

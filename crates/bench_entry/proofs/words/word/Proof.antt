@@ -2,8 +2,8 @@
 use mathlib.Core.Path.{sym}
 use lib.ListN.{List·getD-eq-default}
 use borrow.Author.Needs.{needs}
-use Rattle.route_c.proofs.words.word.Statement.{statement}
-use Rattle.route_c.proofs.words.word.Tie as tie
+use Rattle.bench_entry.proofs.words.word.Statement.{statement}
+use Rattle.bench_entry.proofs.words.word.Tie as tie
 
 mul-result : tie.Need-mul-result
 mul-result c = search needs

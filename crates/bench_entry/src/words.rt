@@ -1,46 +1,17 @@
-// Tables and buffers read from words.
+// Buffers read from words.
 ghost use mathlib.Core.Path.{_≡_};
 ghost use lib.ListN.{getD};
 ghost use Prim.Native.Nat.{_<_};
-ghost use Rattle.job.specs.Fields.{tablesOf, bufferRecordAt};
-ghost use Rattle.route_c.specs.Words.{buffersIn};
+ghost use Rattle.job.specs.Fields.{bufferRecordAt};
+ghost use Rattle.bench_entry.specs.Words.{buffersIn};
 use answers::BufferList;
 use answers::BufferRecord;
-use answers::RegisterRecord;
-use answers::Tables;
-use answers::WireRecord;
 
 // The word at i, or 0 past the end.
 fn word(words: &[u16], i: usize) -> u16
     ensures { λ r. ⌜ r ≡ getD (now (words .entry)) i 0 ⌝ }
 {
     if i < words.len() { words[i] } else { 0 }
-}
-
-pub fn read_tables(words: &[u16]) -> Tables
-    ensures { λ r. ⌜ r ≡ tablesOf (now (words .entry)) ⌝ }
-{
-    let register = RegisterRecord {
-        resistance: word(words, 0),
-        delay: word(words, 1),
-        load: word(words, 2),
-        setup: word(words, 3),
-    };
-    let horizontal = WireRecord {
-        resistance: word(words, 4),
-        load: word(words, 5),
-    };
-    let vertical = WireRecord {
-        resistance: word(words, 6),
-        load: word(words, 7),
-    };
-    Tables {
-        register: register,
-        horizontal: horizontal,
-        vertical: vertical,
-        period: word(words, 8),
-        limit: word(words, 9),
-    }
 }
 
 // The buffer at index i, from three words each.

@@ -1,8 +1,8 @@
 -- Each field is its word.
 use borrow.Author.Needs.{needs}
 use Rattle.job.specs.Fields.{bufferRecordAt}
-use Rattle.route_c.proofs.words.read_buffer.Statement.{statement}
-use Rattle.route_c.proofs.words.read_buffer.Tie as tie
+use Rattle.bench_entry.proofs.words.read_buffer.Statement.{statement}
+use Rattle.bench_entry.proofs.words.read_buffer.Tie as tie
 
 mul-word : tie.Need-mul-word
 mul-word c = search needs

@@ -1,13 +1,10 @@
--- Four stores from the start, if four words are lent.
+-- Four stores from the start.
 use native.Mathlib.Omega.{arith}
 use lib.ListN.{length-set}
 use borrow.Author.Needs.{needs}
-use Rattle.route_c.proofs.Told.{too-few, stored}
-use Rattle.route_c.proofs.figures.write_figures.Statement.{statement}
-use Rattle.route_c.proofs.figures.write_figures.Tie as tie
-
-returns : tie.Need-returns
-returns c = too-few _ _ (c .if1 .taken)
+use Rattle.bench_entry.proofs.Told.{stored}
+use Rattle.bench_entry.proofs.figures.write_figures.Statement.{statement}
+use Rattle.bench_entry.proofs.figures.write_figures.Tie as tie
 
 figures-requires : tie.Need-figures-requires
 figures-requires c κs = search needs
@@ -33,14 +30,13 @@ slice-write-figures-4 c = search needs
 same-length : tie.Need-same-length
 same-length c = search needs
 
-returns-2 : tie.Need-returns-2
-returns-2 c = stored _ _ (c .before .before .figures .result) _ (c .before .before .figures .ensures) (c .answer-fault .ensures) (c .before .before .before .if1 .left)
+returns : tie.Need-returns
+returns c = stored _ (c .before .before .before .before .args .figures .now) (c .before .before .figures .result) _ (c .before .before .figures .ensures) (c .answer-fault .ensures) (c .before .before .before .before .pre)
 
 pub write-figures-spec : {M : Type 1} → statement M
 write-figures-spec =
     tie.close
     (tie.spec
-    returns
     figures-requires
     cast-figures
     slice-write-figures
@@ -49,4 +45,4 @@ write-figures-spec =
     answer-fault-requires
     slice-write-figures-4
     same-length
-    returns-2)
+    returns)

@@ -1,10 +1,9 @@
--- The question that numbers and words make, and the words that an answer makes.
--- The tables' words are in the job's order. A word past the end of a list reads as 0; a period of 0 is refused (4).
-use Prim.Native.Nat.{ℕ, _+_, _/_}
-use mathlib.Core.Bool.{cond}
-use mathlib.Core.List.{List, [], _∷_, _++_}
-use lib.Dec.{leb}
-use lib.ListN.{length, drop}
+-- The question that numbers and words make, and the words that an answer makes. The tables' words are in the job's order.
+use Prim.Native.Nat.{ℕ, _+_, _/_, _%_}
+use mathlib.Core.Bool.{Bool, _&&_}
+use mathlib.Core.List.{List, [], _∷_}
+use lib.Dec.{eqb}
+use lib.ListN.{length}
 use Rattle.answers.specs.Numbers.{answerFigures}
 use Rattle.answers.specs.declared.records.BufferList.{BufferList}
 use Rattle.answers.specs.declared.answer.Fault.{Fault}
@@ -13,10 +12,17 @@ use Rattle.answers.specs.declared.answer.Refusal.{Refusal}
 use Rattle.answers.specs.declared.answer.Refusal.the-variants.{Grid, Length, Mark, Element, Ends, Scratch, NoRoute}
 use Rattle.answers.specs.declared.answer.Answer.{Answer}
 use Rattle.answers.specs.declared.answer.Answer.the-variants.{Found, NoRoom, Refused}
-use Rattle.job.specs.Fields.{tablesOf, bufferListOf}
+use Rattle.job.specs.Fields.{tablesOf, tableNumbers, bufferListOf}
 use Rattle.router.specs.Route.{Question, questionOf}
 
--- three words a buffer; one or two words left over count for none
+-- ten words of tables, three words a buffer, four words for the figures
+abbrev pub figureNumbers : ℕ
+figureNumbers = 4
+
+unfoldable pub lengthsRight : ℕ → ℕ → ℕ → Bool
+lengthsRight tables buffers figures = eqb tables tableNumbers && eqb (buffers % 3) 0 && eqb figures figureNumbers
+
+-- the list of so many buffers
 unfoldable pub buffersIn : List ℕ → BufferList
 buffersIn ws = bufferListOf (length ws / 3) ws
 
@@ -51,7 +57,3 @@ answerFault (Refused r) = refusalFault r
 -- registers, steps, latency, fault
 unfoldable pub figureWords : Answer → List ℕ
 figureWords a = answerFigures a .registers ∷ answerFigures a .steps ∷ answerFigures a .latency ∷ answerFault a ∷ []
-
--- the figures' first four words; later ones stay. Fewer than four lent: none is written
-unfoldable pub figuresLeft : Answer → List ℕ → List ℕ
-figuresLeft a figures = cond (leb 4 (length figures)) (figureWords a ++ drop 4 figures) figures

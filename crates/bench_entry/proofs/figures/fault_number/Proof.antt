@@ -1,9 +1,9 @@
 -- The place of each case; a buffer's is 6 and the place that it holds.
 use mathlib.Core.Path.{sym, ap}
 use borrow.Author.Needs.{needs}
-use Rattle.route_c.specs.Words.{faultNumber}
-use Rattle.route_c.proofs.figures.fault_number.Statement.{statement}
-use Rattle.route_c.proofs.figures.fault_number.Tie as tie
+use Rattle.bench_entry.specs.Words.{faultNumber}
+use Rattle.bench_entry.proofs.figures.fault_number.Statement.{statement}
+use Rattle.bench_entry.proofs.figures.fault_number.Tie as tie
 
 enum-told : tie.Need-enum-told
 enum-told c = search needs

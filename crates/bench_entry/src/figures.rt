@@ -1,6 +1,7 @@
 // The words that tell an answer.
 ghost use mathlib.Core.Path.{_≡_};
-ghost use Rattle.route_c.specs.Words.{faultNumber, refusalFault, answerFault, figuresLeft};
+ghost use lib.ListN.{length};
+ghost use Rattle.bench_entry.specs.Words.{faultNumber, refusalFault, answerFault, figureNumbers, figureWords};
 use answers::Answer;
 use answers::Fault;
 use answers::Refusal;
@@ -43,13 +44,14 @@ fn answer_fault(answer: Answer) -> u32
     }
 }
 
-// Registers, steps, latency and fault, if four words are lent.
+// How many words tell an answer.
+pub const FIGURES: usize = 4;
+
+// Registers, steps, latency and fault.
 pub fn write_figures(answer: Answer, figures: &mut [u32])
-    ensures { λ _. ⌜ now (figures .exit) ≡ figuresLeft answer (now (figures .entry)) ⌝ }
+    requires { ⌜ length (now figures) ≡ figureNumbers ⌝ }
+    ensures { λ _. ⌜ now (figures .exit) ≡ figureWords answer ⌝ }
 {
-    if figures.len() < 4 {
-        return;
-    }
     let f = answer.figures();
     figures[0] = f.registers as u32;
     figures[1] = f.steps;

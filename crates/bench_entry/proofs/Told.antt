@@ -1,0 +1,38 @@
+-- What the lengths say, and what the stores of the figures leave.
+use Prim.Native.Nat.{ℕ, _≤_, _%_}
+use mathlib.Core.Bool.{Bool, true, false, _&&_}
+use mathlib.Core.Path.{_≡_, refl}
+use mathlib.Core.List.{List, [], _∷_}
+use native.Mathlib.Omega.{arith}
+use lib.Dec.{eqb}
+use lib.ListN.{length, set}
+use borrow.Author.Tests.{eqb-true}
+use Rattle.answers.specs.declared.answer.Figures.{Figures}
+use Rattle.answers.specs.declared.answer.Answer.{Answer}
+use Rattle.answers.specs.Numbers.{answerFigures}
+use Rattle.job.specs.Fields.{tableNumbers}
+use Rattle.bench_entry.specs.Words.{figureNumbers, lengthsRight, answerFault, figureWords}
+
+-- four stores from the start
+four-set : (xs : List ℕ) (a b c d : ℕ) → length xs ≡ 4 → set (set (set (set xs 0 a) 1 b) 2 c) 3 d ≡ a ∷ b ∷ c ∷ d ∷ []
+four-set [] a b c d h = absurd (omega arith)
+four-set (x ∷ []) a b c d h = absurd (omega arith)
+four-set (x ∷ y ∷ []) a b c d h = absurd (omega arith)
+four-set (x ∷ y ∷ z ∷ []) a b c d h = absurd (omega arith)
+four-set (x ∷ y ∷ z ∷ w ∷ []) a b c d h = refl
+four-set (x ∷ y ∷ z ∷ w ∷ v ∷ rest) a b c d h = absurd (omega arith)
+
+pub stored : (a : Answer) (xs : List ℕ) (f : Figures) (k : ℕ) → f ≡ answerFigures a → k ≡ answerFault a → length xs ≡ 4 → set (set (set (set xs 0 (f .registers)) 1 (f .steps)) 2 (f .latency)) 3 k ≡ figureWords a
+unfolding figureWords
+stored a xs f k e g h = rw (e, g) (four-set xs _ _ _ _ h)
+
+-- right lengths, read off their test
+pub right-lengths : (t b f : ℕ) → lengthsRight t b f ≡ true → (tableNumbers ≤ t) × (f ≡ figureNumbers)
+unfolding lengthsRight
+right-lengths t b f h = go (eqb t tableNumbers) (eqb (b % 3) 0) (eqb f figureNumbers) refl refl h
+  where
+    go : (x y z : Bool) → eqb t tableNumbers ≡ x → eqb f figureNumbers ≡ z → (x && y && z) ≡ true → (tableNumbers ≤ t) × (f ≡ figureNumbers)
+    go true true true e g k = let ten = eqb-true t tableNumbers e in (omega arith, eqb-true f figureNumbers g)
+    go true true false e g k = let z : _≡_ {A = ℕ} 0 1 = cc in absurd (omega arith)
+    go true false z e g k = let z : _≡_ {A = ℕ} 0 1 = cc in absurd (omega arith)
+    go false y z e g k = let z : _≡_ {A = ℕ} 0 1 = cc in absurd (omega arith)

@@ -1,0 +1,101 @@
+// The benchmark's own entry to the route call, on numbers and lent words; not offered to anyone else. It has the whole
+// promise of the route call. That the areas lent are as long as said and lie apart is the caller's duty.
+ghost use Prim.Native.Nat.{_≤_};
+ghost use mathlib.Core.Path.{_≡_};
+ghost use lib.ListN.{length};
+ghost use Rattle.job.specs.Fields.{tableNumbers};
+ghost use Rattle.bench_entry.specs.Words.{lengthsRight, figureNumbers, asked};
+ghost use Rattle.bench_entry.specs.Effect.{Answered, Effect};
+use crate::figures::FIGURES;
+use crate::figures::write_figures;
+use crate::words::read_buffers;
+use job::TABLE_NUMBERS;
+use job::tables_of;
+use router::route_with;
+
+mod figures;
+mod words;
+
+// What is returned where a lent list has a wrong length; the route call's numbers are 0 to 8.
+const WRONG_LENGTH: u16 = 15;
+
+// The best route. Returns document 01's number, 0 to 8. `tables` holds ten words: register R K C setup, horizontal R C,
+// vertical R C, T, L. `buffers` holds R K C of each. `figures` gets registers, steps, latency and the fault of refusal 4.
+// Other lengths of these three are refused with 15, and nothing is touched.
+#[no_mangle]
+pub extern "C" fn bench_entry(
+    plan: &[u8],
+    width: u16,
+    height: u16,
+    tables: &[u16],
+    buffers: &[u16],
+    source: u16,
+    sink: u16,
+    scratch: &mut [u16],
+    visits: &mut [u16],
+    figures: &mut [u32],
+) -> u16
+    ensures { λ r. ⌜ Effect (lengthsRight (length (now (tables .entry))) (length (now (buffers .entry))) (length (now (figures .entry)))) (asked (now (plan .entry)) width height (now (tables .entry)) (now (buffers .entry)) source sink) (now (scratch .entry)) (now (scratch .exit)) (now (visits .entry)) (now (visits .exit)) (now (figures .entry)) (now (figures .exit)) r ⌝ }
+{
+    if lengths_right(tables.len(), buffers.len(), figures.len()) {
+        return ask(
+            plan,
+            width,
+            height,
+            tables,
+            buffers,
+            source,
+            sink,
+            scratch,
+            visits,
+            figures,
+        );
+    }
+    WRONG_LENGTH
+}
+
+// Ten words of tables, three words a buffer, four words for the figures.
+fn lengths_right(tables: usize, buffers: usize, figures: usize) -> bool
+    ensures { λ r. ⌜ r ≡ lengthsRight tables buffers figures ⌝ }
+{
+    if tables != TABLE_NUMBERS {
+        return false;
+    }
+    if buffers % 3 != 0 {
+        return false;
+    }
+    figures == FIGURES
+}
+
+// The call, where the lengths are right.
+fn ask(
+    plan: &[u8],
+    width: u16,
+    height: u16,
+    tables: &[u16],
+    buffers: &[u16],
+    source: u16,
+    sink: u16,
+    scratch: &mut [u16],
+    visits: &mut [u16],
+    figures: &mut [u32],
+) -> u16
+    requires { ⌜ (tableNumbers ≤ length (now tables)) × (length (now figures) ≡ figureNumbers) ⌝ }
+    ensures { λ r. ⌜ Answered (asked (now (plan .entry)) width height (now (tables .entry)) (now (buffers .entry)) source sink) (now (scratch .entry)) (now (scratch .exit)) (now (visits .entry)) (now (visits .exit)) (now (figures .exit)) r ⌝ }
+{
+    let raw = tables_of(tables);
+    let list = read_buffers(buffers);
+    let answer = route_with(
+        plan,
+        width,
+        height,
+        raw,
+        list,
+        source,
+        sink,
+        scratch,
+        visits,
+    );
+    write_figures(answer, figures);
+    answer.number()
+}
