@@ -8,7 +8,7 @@ use mathlib.Core.Path.{_≡_, refl, sym, ap, _∙_}
 use borrow.Author.Tests.{lt-leb}
 use lib.ListN.{length, drop}
 use lib.Seq.{take-at, drop-at}
-use Rattle.plan.specs.Plan.{Plan, cells}
+use Rattle.plan.specs.Plan.{Plan, planOf, cells}
 use Rattle.plan.specs.Check.{gridFault, checkedPlan}
 use Rattle.plan.specs.declared.PlanCheck.{PlanCheck}
 use Rattle.session.specs.declared.records.SessionAnswer.{SessionAnswer}
@@ -18,25 +18,33 @@ use Rattle.session.specs.Answers.{after, answerFor, planAnswer, openAnswer, ses
 use Rattle.session.specs.Steps.{State, stateOf, effect, noSession, opened, moved, undone}
 use Rattle.session.proofs.Done.{done-is}
 use Rattle.session.proofs.Answered.{open-done}
-use Rattle.router.specs.Route.{checks, passes, visitsOf}
-use Rattle.router.proofs.Demand2.{Demand2, demand-2}
-use Rattle.session_model.specs.Asks.{RouteAsk, Ask, Alike, asked, routeGives, gives, checkedReply}
-use Rattle.session_model.specs.Calls.{Move, Call, move, undo, ask, number, reply}
+use Rattle.session_model.specs.Asks.{Ask, Reply, Alike, gives, answerTo, ByRules}
+use Rattle.session_model.specs.Calls.{Move, Call, move, undo, ask, number, reply, Line}
 use Rattle.session_model.specs.Model.{laid, entries, history, moveNumber, standing, modelGives, modelView, modelLines, standingAfter}
-use Rattle.session_model.specs.Run.{start, callGives, next, viewOf, sessionLines, stateAfter, movesOf}
-use Rattle.session_model.proofs.Laid.{Stands, none, more}
+use Rattle.session_model.specs.Run.{start, callGives, next, viewOf, sessionLines, givenAt, stateAfter, movesOf}
+use Rattle.session_model.proofs.Laid.{Stands, none, more, laid-valid}
 use Rattle.session_model.proofs.Entries.{history-length}
 use Rattle.session_model.proofs.Turns.{modelState, Turn, stands-few, move-turn, no-undo, undo-turn}
-use Rattle.session_model.proofs.Replies.{route-gives, gives-is, alike-answers}
+use Rattle.session_model.proofs.Replies.{gives-is, by-rules, alike-answers}
+
+-- the line at this place of the list holds a reply, and it is the one that the rules give for this question on this plan's bytes
+pub record AnsweredAt (lines : List Line) (place : ℕ) (a : Ask) (marks : List ℕ) : Type 0 where
+  pub got : Reply
+  pub given : givenAt lines place ≡ reply got
+  pub rules : ByRules marks a got
 
 -- after an opening that answered 0, for every list of moves, undos and questions
 pub record Answered (p : Plan) (journal : List ℕ) (calls : List Call) : Type 0 where
   -- each call of the list gave what the model gives, and left the plan, record and journal that the model has after it
   pub lines : sessionLines (start p journal) calls ≡ modelLines p [] calls
-  -- so has the whole list
+  -- each question of the list got the whole reply, answer and words filled, that the rules give for the model's plan at its place: with the moves that stand after the calls before it
+  pub questions : (before later : List Call) (a : Ask) → calls ≡ before ++ (ask a ∷ later) → AnsweredAt (sessionLines (start p journal) calls) (length before) a (laid (p .marks) (standingAfter p [] before))
+  -- the whole list left what the model has
   pub last : viewOf (stateAfter (start p journal) calls) ≡ modelView p (standingAfter p [] calls)
   -- the journal's bytes beyond the used ones stay
   pub beyond : drop journalBytes (stateAfter (start p journal) calls .journal) ≡ drop journalBytes journal
+  -- the record's sides and the plan's bytes make a valid plan: a question asked with these sides is not refused with 1, 2 or 3
+  pub sides : let s = stateAfter (start p journal) calls in checkedPlan (planOf (s .session .width) (s .session .height) (s .marks)) ≡ PlanCheck.Valid
   -- a second session on the same plan, given only the moves that still stand, is alike
   pub twin : (other : List ℕ) → openAnswer (p .width) (p .height) (p .marks) (length other) ≡ SessionAnswer.Done → viewOf (stateAfter (start p other) (movesOf (standingAfter p [] calls))) ≡ viewOf (stateAfter (start p journal) calls)
   -- and gives the same answer to every question put to both
@@ -105,6 +113,12 @@ all-stand p [] none = refl
 all-stand p (m ∷ before) (more s inside fair space) =
     rw (after-both p [] (movesOf before) (move m ∷ []), all-stand p before s) (stands-once p m before (more s inside fair space))
 
+-- the model's line at a question's place
+question-line : (p : Plan) (moves : List Move) (before later : List Call) (a : Ask) → givenAt (modelLines p moves (before ++ (ask a ∷ later))) (length before) ≡ reply (answerTo a (laid (p .marks) (standingAfter p moves before)))
+unfolding givenAt modelLines modelGives standingAfter
+question-line p moves [] later a = refl
+question-line p moves (c ∷ before) later a = question-line p (standing p moves c) before later a
+
 module _ (p : Plan) (ok : checkedPlan p ≡ PlanCheck.Valid) (journal : List ℕ) (calls : List Call) (e : openAnswer (p .width) (p .height) (p .marks) (length journal) ≡ SessionAnswer.Done) where
   abbrev rest : List ℕ
   rest = drop journalBytes journal
@@ -117,6 +131,22 @@ module _ (p : Plan) (ok : checkedPlan p ≡ PlanCheck.Valid) (journal : List ℕ
 
   state-is : stateAfter (start p journal) calls ≡ modelState p stand rest
   state-is = rw (start-is p journal e) (state-from p ok rest [] none calls)
+
+  lines-are : sessionLines (start p journal) calls ≡ modelLines p [] calls
+  lines-are = rw (start-is p journal e) (lines-from p ok rest [] none calls)
+
+  question-after : (before later : List Call) (a : Ask) → calls ≡ before ++ (ask a ∷ later) → AnsweredAt (sessionLines (start p journal) calls) (length before) a (laid (p .marks) (standingAfter p [] before))
+  question-after before later a split =
+      let marks = laid (p .marks) (standingAfter p [] before) in
+      record {
+        got = gives a marks;
+        given = rw (lines-are, split, gives-is a marks) (question-line p [] before later a);
+        rules = by-rules a marks;
+      }
+
+  sides-after : let s = stateAfter (start p journal) calls in checkedPlan (planOf (s .session .width) (s .session .height) (s .marks)) ≡ PlanCheck.Valid
+  unfolding modelState
+  sides-after = rw state-is (laid-valid p stand ok standing-moves)
 
   view-after : viewOf (stateAfter (start p journal) calls) ≡ modelView p stand
   view-after = rw state-is (view-is p ok rest stand standing-moves)
@@ -137,9 +167,11 @@ answered-is p journal e calls =
     let moves = standingAfter p [] calls in
     let again = all-stand p moves (standing-moves p ok journal calls e) in
     record {
-      lines = rw (start-is p journal e) (lines-from p ok (drop journalBytes journal) [] none calls);
+      lines = lines-are p ok journal calls e;
+      questions = question-after p ok journal calls e;
       last = view-after p ok journal calls e;
       beyond = beyond-after p ok journal calls e;
+      sides = sides-after p ok journal calls e;
       twin = λ other f. view-after p ok other (movesOf moves) f ∙ (rw again (sym (view-after p ok journal calls e)));
       twin-answers = λ other f a b alike.
           rw (marks-after p ok journal calls e, marks-after p ok other (movesOf moves) f, again, gives-is a, gives-is b) (alike-answers alike (laid (p .marks) moves));
@@ -173,9 +205,3 @@ refused-is p journal n =
 -- Demand 3, for every plan, journal and list of calls.
 pub demand-3 : (p : Plan) (journal : List ℕ) → Demand3 p journal
 demand-3 p journal = record { answered = answered-is p journal; refused = refused-is p journal }
-
--- The model's answer to a route question that the checks pass is demand 2's: the best legal route of the model's plan, 8 with its figures, or 7 where none exists.
-pub demand-3-route : (p : Plan) (moves : List Move) (a : RouteAsk) → let q = asked a (laid (p .marks) moves) in checks q (length (a .scratch)) ≡ passes → Demand2 q (a .visits) (visitsOf q (a .scratch) (a .visits)) (checkedReply (checks q (length (a .scratch))) q (length (a .visits)) .answer)
-unfolding routeGives
-demand-3-route p moves a pass =
-    rw (← route-gives (asked a (laid (p .marks) moves)) (a .scratch) (a .visits)) (demand-2 (asked a (laid (p .marks) moves)) (a .scratch) (a .visits) pass)
