@@ -2,8 +2,7 @@
 use Prim.Native.Nat.{ℕ}
 use mathlib.Core.List.{List}
 use lib.ListN.{length}
-use Rattle.router.specs.Route.{checks}
-use Rattle.session_model.specs.Asks.Route.{RouteAsk, RouteReply, AlikeRoutes, asked, routeGives, checkedReply, RouteAnswered}
+use Rattle.session_model.specs.Asks.Route.{RouteAsk, RouteReply, AlikeRoutes, asked, routeGives, routeReply, RouteAnswered}
 pub mod Route
 
 pub data Ask : Type 0 where
@@ -22,8 +21,7 @@ gives (route a) marks = routed (routeGives (asked a marks) (a .scratch) (a .visi
 
 -- what the model replies
 unfoldable pub answerTo : Ask → List ℕ → Reply
-answerTo (route a) marks =
-    routed (checkedReply (checks (asked a marks) (length (a .scratch))) (asked a marks) (length (a .visits)))
+answerTo (route a) marks = routed (routeReply (asked a marks) (length (a .scratch)) (length (a .visits)))
 
 -- the reply that document 01's rules give on a plan's bytes
 pub data ByRules (marks : List ℕ) : Ask → Reply → Type 0 where

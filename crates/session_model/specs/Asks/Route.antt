@@ -69,7 +69,7 @@ routeGives q scratch visits =
       zeroed = take (zeroedWords (checks q (length scratch)) q) (scratchOf q scratch);
     }
 
--- What the model gives: from the lengths of what is lent alone, by the executable definition of the best route.
+-- What the model gives: from the lengths of what is lent alone, by the executable definition of the best route. `scratch` and `room`: the words lent for scratch and visits.
 
 unfoldable pub zeros : Question → List ℕ
 zeros q = replicate (cellsAsked q * cellWords) 0
@@ -85,7 +85,10 @@ unfoldable pub checkedReply : Check → Question → ℕ → RouteReply
 checkedReply passes q room = bestReply q room (best (rulesAsked q))
 checkedReply (fails r) q room = record { answer = Answer.Refused r; filled = []; zeroed = [] }
 
--- The reply that document 01's rules give, with no search: the refusal, or by the best legal route, or that none exists. `scratch` and `room`: the words lent for scratch and visits.
+unfoldable pub routeReply : Question → ℕ → ℕ → RouteReply
+routeReply q scratch room = checkedReply (checks q scratch) q room
+
+-- The reply that document 01's rules give, with no search: the refusal, or by the best legal route, or that none exists.
 pub data RouteAnswered (q : Question) (scratch room : ℕ) : RouteReply → Type 0 where
   -- 1 to 6, the first in its order: nothing is filled, nothing zeroed
   isRefused : (r : Refusal) → checks q scratch ≡ fails r → RouteAnswered q scratch room (record { answer = Answer.Refused r; filled = []; zeroed = [] })
