@@ -1,5 +1,4 @@
--- Demand 3 of document 01, as one theorem about the whole list of calls: `demand-3`.
--- The session is the run of the step definitions that the contracts of open, set_marks, undo and route equal (specs/Run.antt); the reference model is specs/Model.antt.
+-- Demand 3 of document 01, as one theorem about the whole list of calls: `demand-3`. What it says: specs/Demand3.antt.
 -- Proof: on the state of its standing moves each call gives what the model gives and leaves the state of the moves that then stand (Turns.antt); an opening leaves the state of no moves; so by induction over the list.
 use Prim.Native.Nat.{ℕ}
 use mathlib.Core.Bool.{Bool, true, false}
@@ -8,48 +7,25 @@ use mathlib.Core.Path.{_≡_, refl, sym, ap, _∙_}
 use borrow.Author.Tests.{lt-leb}
 use lib.ListN.{length, drop}
 use lib.Seq.{take-at, drop-at}
-use Rattle.plan.specs.Plan.{Plan, cells}
+use Rattle.plan.specs.Plan.{Plan, planOf, cells}
 use Rattle.plan.specs.Check.{gridFault, checkedPlan}
 use Rattle.plan.specs.declared.PlanCheck.{PlanCheck}
 use Rattle.session.specs.declared.records.SessionAnswer.{SessionAnswer}
 use Rattle.session.specs.Numbers.{isDone}
 use Rattle.session.specs.Journal.{journalBytes, depthMax, cleared}
 use Rattle.session.specs.Answers.{after, checkAnswer, planAnswer, openAnswer, sessionAnswer, moveAnswer, undoAnswer}
-use Rattle.session.specs.Steps.{State, stateOf, effect, noSession, opened, moved, undone}
+use Rattle.session.specs.Steps.{State, effect, noSession, opened, moved, undone}
 use Rattle.session.proofs.Done.{done-is}
 use Rattle.session.proofs.Answered.{open-done}
-use Rattle.router.specs.Route.{checks, passes, visitsOf}
-use Rattle.router.proofs.Demand2.{Demand2, demand-2}
-use Rattle.session_model.specs.Asks.{RouteAsk, Ask, Alike, asked, routeGives, gives, checkedReply}
-use Rattle.session_model.specs.Calls.{Move, Call, move, undo, ask, number, reply}
+use Rattle.session_model.specs.Asks.{Ask, gives, answerTo}
+use Rattle.session_model.specs.Calls.{Move, Call, move, undo, ask, reply}
 use Rattle.session_model.specs.Model.{laid, entries, history, moveNumber, standing, modelGives, modelView, modelLines, standingAfter}
-use Rattle.session_model.specs.Run.{start, callGives, next, viewOf, sessionLines, stateAfter, movesOf}
-use Rattle.session_model.proofs.Laid.{Stands, none, more}
+use Rattle.session_model.specs.Run.{start, callGives, next, viewOf, sessionLines, givenAt, stateAfter, movesOf}
+use Rattle.session_model.specs.Demand3.{Opens, Answered, Refused, Demand3}
+use Rattle.session_model.proofs.Laid.{Stands, none, more, laid-valid}
 use Rattle.session_model.proofs.Entries.{history-length}
 use Rattle.session_model.proofs.Turns.{modelState, Turn, stands-few, move-turn, no-undo, undo-turn}
-use Rattle.session_model.proofs.Replies.{route-gives, gives-is, alike-answers}
-
--- after an opening that answered 0, for every list of moves, undos and questions
-pub record Answered (p : Plan) (journal : List ℕ) (calls : List Call) : Type 0 where
-  -- each call of the list gave what the model gives, and left the plan, record and journal that the model has after it
-  pub lines : sessionLines (start p journal) calls ≡ modelLines p [] calls
-  -- so has the whole list
-  pub last : viewOf (stateAfter (start p journal) calls) ≡ modelView p (standingAfter p [] calls)
-  -- the journal's bytes beyond the used ones stay
-  pub beyond : drop journalBytes (stateAfter (start p journal) calls .journal) ≡ drop journalBytes journal
-  -- a second session on the same plan, given only the moves that still stand, is alike
-  pub twin : (other : List ℕ) → openAnswer (p .width) (p .height) (p .marks) (length other) ≡ SessionAnswer.Done → viewOf (stateAfter (start p other) (movesOf (standingAfter p [] calls))) ≡ viewOf (stateAfter (start p journal) calls)
-  -- and gives the same answer to every question put to both
-  pub twin-answers : (other : List ℕ) → openAnswer (p .width) (p .height) (p .marks) (length other) ≡ SessionAnswer.Done → (a b : Ask) → Alike a b → gives a (stateAfter (start p journal) calls .marks) ≡ gives b (stateAfter (start p other) (movesOf (standingAfter p [] calls)) .marks)
-
--- on the record of zeros that a refused opening hands back, moves and undos give 1 and change nothing, whatever plan and journal they are lent
-pub record Refused (p : Plan) (journal : List ℕ) : Type 0 where
-  pub moves : (marks bytes : List ℕ) (m : Move) → let s = stateOf (start p journal .session) marks bytes in (callGives s (move m) ≡ number 1) × (next s (move m) ≡ s)
-  pub undos : (marks bytes : List ℕ) → let s = stateOf (start p journal .session) marks bytes in (callGives s undo ≡ number 1) × (next s undo ≡ s)
-
-pub record Demand3 (p : Plan) (journal : List ℕ) : Type 0 where
-  pub answered : openAnswer (p .width) (p .height) (p .marks) (length journal) ≡ SessionAnswer.Done → (calls : List Call) → Answered p journal calls
-  pub refused : (openAnswer (p .width) (p .height) (p .marks) (length journal) ≡ SessionAnswer.Done → ⊥) → Refused p journal
+use Rattle.session_model.proofs.Replies.{gives-is, by-rules, alike-answers}
 
 module _ (p : Plan) (ok : checkedPlan p ≡ PlanCheck.Valid) (rest : List ℕ) where
   -- each kind of call
@@ -85,7 +61,7 @@ module _ (p : Plan) (ok : checkedPlan p ≡ PlanCheck.Valid) (rest : List ℕ) w
   stands-from moves s (c ∷ calls) = let t = turn moves s c in stands-from (standing p moves c) (t .stands) calls
 
 -- what an answered opening leaves
-start-is : (p : Plan) (journal : List ℕ) → openAnswer (p .width) (p .height) (p .marks) (length journal) ≡ SessionAnswer.Done → start p journal ≡ modelState p [] (drop journalBytes journal)
+start-is : (p : Plan) (journal : List ℕ) → Opens p journal → start p journal ≡ modelState p [] (drop journalBytes journal)
 unfolding start opened effect modelState laid history entries cleared
 start-is p journal e = rw e
 
@@ -105,7 +81,13 @@ all-stand p [] none = refl
 all-stand p (m ∷ before) (more s inside fair space) =
     rw (after-both p [] (movesOf before) (move m ∷ []), all-stand p before s) (stands-once p m before (more s inside fair space))
 
-module _ (p : Plan) (ok : checkedPlan p ≡ PlanCheck.Valid) (journal : List ℕ) (calls : List Call) (e : openAnswer (p .width) (p .height) (p .marks) (length journal) ≡ SessionAnswer.Done) where
+-- the model's line at a question's place
+question-line : (p : Plan) (moves : List Move) (before later : List Call) (a : Ask) → givenAt (modelLines p moves (before ++ (ask a ∷ later))) (length before) ≡ reply (answerTo a (laid (p .marks) (standingAfter p moves before)))
+unfolding givenAt modelLines modelGives standingAfter
+question-line p moves [] later a = refl
+question-line p moves (c ∷ before) later a = question-line p (standing p moves c) before later a
+
+module _ (p : Plan) (ok : checkedPlan p ≡ PlanCheck.Valid) (journal : List ℕ) (calls : List Call) (e : Opens p journal) where
   abbrev rest : List ℕ
   rest = drop journalBytes journal
 
@@ -117,6 +99,13 @@ module _ (p : Plan) (ok : checkedPlan p ≡ PlanCheck.Valid) (journal : List ℕ
 
   state-is : stateAfter (start p journal) calls ≡ modelState p stand rest
   state-is = rw (start-is p journal e) (state-from p ok rest [] none calls)
+
+  lines-are : sessionLines (start p journal) calls ≡ modelLines p [] calls
+  lines-are = rw (start-is p journal e) (lines-from p ok rest [] none calls)
+
+  sides-after : let s = stateAfter (start p journal) calls in checkedPlan (planOf (s .session .width) (s .session .height) (s .marks)) ≡ PlanCheck.Valid
+  unfolding modelState
+  sides-after = rw state-is (laid-valid p stand ok standing-moves)
 
   view-after : viewOf (stateAfter (start p journal) calls) ≡ modelView p stand
   view-after = rw state-is (view-is p ok rest stand standing-moves)
@@ -131,15 +120,19 @@ module _ (p : Plan) (ok : checkedPlan p ≡ PlanCheck.Valid) (journal : List ℕ
       ap (λ (s : State). drop journalBytes (s .journal)) state-is
       ∙ drop-at (history (p .marks) stand) rest journalBytes (history-length (p .marks) stand (stands-few p standing-moves))
 
-answered-is : (p : Plan) (journal : List ℕ) → openAnswer (p .width) (p .height) (p .marks) (length journal) ≡ SessionAnswer.Done → (calls : List Call) → Answered p journal calls
+answered-is : (p : Plan) (journal : List ℕ) → Opens p journal → (calls : List Call) → Answered p journal calls
 answered-is p journal e calls =
     let ok = open-done _ _ _ _ e .valid in
     let moves = standingAfter p [] calls in
     let again = all-stand p moves (standing-moves p ok journal calls e) in
     record {
-      lines = rw (start-is p journal e) (lines-from p ok (drop journalBytes journal) [] none calls);
+      lines = lines-are p ok journal calls e;
+      questions = λ before later a split.
+          let marks = laid (p .marks) (standingAfter p [] before) in
+          record { got = gives a marks; given = rw (lines-are p ok journal calls e, split, gives-is a marks) (question-line p [] before later a); rules = by-rules a marks };
       last = view-after p ok journal calls e;
       beyond = beyond-after p ok journal calls e;
+      sides = sides-after p ok journal calls e;
       twin = λ other f. view-after p ok other (movesOf moves) f ∙ (rw again (sym (view-after p ok journal calls e)));
       twin-answers = λ other f a b alike.
           rw (marks-after p ok journal calls e, marks-after p ok other (movesOf moves) f, again, gives-is a, gives-is b) (alike-answers alike (laid (p .marks) moves));
@@ -153,7 +146,7 @@ not-done a n = go (isDone a) refl
     go true q = absurd (n (done-is a q))
 
 -- a refused opening hands back zeros
-zeros-left : (p : Plan) (journal : List ℕ) → (openAnswer (p .width) (p .height) (p .marks) (length journal) ≡ SessionAnswer.Done → ⊥) → start p journal .session ≡ noSession
+zeros-left : (p : Plan) (journal : List ℕ) → (Opens p journal → ⊥) → start p journal .session ≡ noSession
 unfolding start opened effect
 zeros-left p journal n = rw (not-done _ n)
 
@@ -162,7 +155,7 @@ zeros-grid : (marks : List ℕ) (room : ℕ) → sessionAnswer noSession marks r
 unfolding sessionAnswer openAnswer planAnswer checkAnswer after checkedPlan gridFault
 zeros-grid marks room = refl
 
-refused-is : (p : Plan) (journal : List ℕ) → (openAnswer (p .width) (p .height) (p .marks) (length journal) ≡ SessionAnswer.Done → ⊥) → Refused p journal
+refused-is : (p : Plan) (journal : List ℕ) → (Opens p journal → ⊥) → Refused p journal
 unfolding callGives next moved undone effect moveAnswer undoAnswer after
 refused-is p journal n =
     record {
@@ -173,9 +166,3 @@ refused-is p journal n =
 -- Demand 3, for every plan, journal and list of calls.
 pub demand-3 : (p : Plan) (journal : List ℕ) → Demand3 p journal
 demand-3 p journal = record { answered = answered-is p journal; refused = refused-is p journal }
-
--- The model's answer to a route question that the checks pass is demand 2's: the best legal route of the model's plan, 8 with its figures, or 7 where none exists.
-pub demand-3-route : (p : Plan) (moves : List Move) (a : RouteAsk) → let q = asked a (laid (p .marks) moves) in checks q (length (a .scratch)) ≡ passes → Demand2 q (a .visits) (visitsOf q (a .scratch) (a .visits)) (checkedReply (checks q (length (a .scratch))) q (length (a .visits)) .answer)
-unfolding routeGives
-demand-3-route p moves a pass =
-    rw (← route-gives (asked a (laid (p .marks) moves)) (a .scratch) (a .visits)) (demand-2 (asked a (laid (p .marks) moves)) (a .scratch) (a .visits) pass)

@@ -2,3 +2,4 @@ pub mod Asks
 pub mod Calls
 pub mod Model
 pub mod Run
+pub mod Demand3

@@ -1,4 +1,5 @@
 -- The run of a session: the calls' own step definitions (session/specs/Steps.antt, router/specs/Route.antt), one after the other.
+use Prim.Native.Nat.{ℕ, zero, suc}
 use mathlib.Core.List.{List, [], _∷_, _++_}
 use lib.ListN.{take}
 use Rattle.plan.specs.Plan.{Plan}
@@ -7,7 +8,6 @@ use Rattle.session.specs.Journal.{journalBytes}
 use Rattle.session.specs.Steps.{State, opened, moved, undone}
 use Rattle.session_model.specs.Asks.{gives}
 use Rattle.session_model.specs.Calls.{Move, Call, move, undo, ask, Given, number, reply, View, Line}
-use Prim.Native.Nat.{ℕ}
 
 -- what an opening on a plan leaves
 unfoldable pub start : Plan → List ℕ → State
@@ -36,6 +36,12 @@ viewOf s =
 unfoldable pub sessionLines : State → List Call → List Line
 sessionLines s [] = []
 sessionLines s (c ∷ calls) = record { given = callGives s c; view = viewOf (next s c) } ∷ sessionLines (next s c) calls
+
+-- what the call at a place of the list was given; past the end a number, which no question gets
+unfoldable pub givenAt : List Line → ℕ → Given
+givenAt [] n = number 0
+givenAt (l ∷ lines) zero = l .given
+givenAt (l ∷ lines) (suc n) = givenAt lines n
 
 unfoldable pub stateAfter : State → List Call → State
 stateAfter s [] = s

@@ -1,0 +1,94 @@
+-- The route question: what the call hands back and fills is the reply that document 01's rules give, and they give one, the model's, from the lengths of what is lent alone.
+use Prim.Native.Nat.{ℕ, _+_, _*_, _<_}
+use mathlib.Core.Bool.{false}
+use mathlib.Core.List.{List, [], _∷_}
+use mathlib.Core.Path.{_≡_, refl}
+use native.Mathlib.Omega.{arith}
+use borrow.Author.Tests.{ne-eqb, le-leb, lt-leb}
+use lib.Dec.{T}
+use lib.ListN.{length, take, replicate, length-replicate}
+use lib.Seq.{take-at}
+use Rattle.plan.specs.Plan.{planOf, cells}
+use Rattle.plan.specs.Check.{gridFault, lengthFault, checkedPlan}
+use Rattle.rules.specs.Rules.{Rules}
+use Rattle.rules.specs.Legal.{Route, legal}
+use Rattle.rules.specs.Ranking.{steps, written, IsBest}
+use Rattle.best.specs.Best.{found, none, best}
+use Rattle.best.proofs.Document01.{rules-best, rules-none}
+use Rattle.answers.specs.Tables.{elementsOf}
+use Rattle.answers.specs.declared.answer.Answer.{Answer}
+use Rattle.answers.specs.declared.answer.Refusal.{Refusal}
+use Rattle.emission.proofs.Visits.{written-length}
+use Rattle.router.specs.Route.{Question, rulesAsked, cellsAsked, cellWords, Check, passes, fails, afterPlan, checks, figuresOf, answerAfter, answerOf, visitsAfter, visitsOf, zeroed, scratchAfter, scratchOf}
+use Rattle.router.proofs.Passed.{passed-valid}
+use Rattle.router.proofs.Demand2.{Demand2, demand-2}
+use Rattle.session_model.specs.Asks.Route.{RouteAsk, RouteReply, AlikeRoutes, asked, filledWords, zeroedWords, routeGives, zeros, bestReply, checkedReply, routeReply, RouteAnswered, isRefused, noRoute, noRoom, isFound}
+
+-- a legal route has visits, so that its words are two for each step and two more
+
+some-visit : (R : Rules) (r : Route) → T (legal R r) → 0 < length r
+unfolding legal
+some-visit R [] h = absurd h
+some-visit R (v ∷ vs) h = omega arith
+
+written-words : (R : Rules) (r : Route) → T (legal R r) → length (written r) ≡ 2 * (steps r + 1)
+unfolding steps
+written-words R r h = omega (arith, written-length r, some-visit R r h)
+
+-- The rules give one reply, and it is the model's.
+module _ (q : Question) (scratch room : ℕ) where
+  module _ (pass : checks q scratch ≡ passes) where
+    best-found : (r : Route) → IsBest (rulesAsked q) r → best (rulesAsked q) ≡ found r
+    unfolding rulesAsked
+    best-found r b = rules-best (planOf (q .width) (q .height) (q .marks)) (elementsOf (q .tables) (q .buffers)) (q .source) (q .sink) (passed-valid q scratch pass) r .1 b
+
+    best-none : ((r : Route) → T (legal (rulesAsked q) r) → ⊥) → best (rulesAsked q) ≡ none
+    unfolding rulesAsked
+    best-none n = rules-none (planOf (q .width) (q .height) (q .marks)) (elementsOf (q .tables) (q .buffers)) (q .source) (q .sink) (passed-valid q scratch pass) .1 n
+
+  pub route-only : {a : RouteReply} → RouteAnswered q scratch room a → a ≡ routeReply q scratch room
+  unfolding routeReply checkedReply bestReply
+  route-only (isRefused r e) = rw e
+  route-only (noRoute pass n) = rw (pass, best-none pass n)
+  route-only (noRoom r pass b short) = rw (pass, best-found pass r b, lt-leb _ _ short)
+  route-only (isFound r pass b fits) = rw (pass, best-found pass r b, le-leb _ _ fits)
+
+-- What the call hands back and fills is that reply: its answer and visits are demand 2's.
+module _ (q : Question) (scratch visits : List ℕ) where
+  -- after the checks, the words taken as zeroed are all zero, whatever the scratch words held
+  zeros-taken : take (zeroedWords passes q) (scratchAfter passes q scratch) ≡ zeros q
+  unfolding zeroedWords scratchAfter zeroed zeros
+  zeros-taken = take-at (replicate (cellsAsked q * cellWords) 0) _ (zeroedWords passes q) (length-replicate {A = ℕ} (cellsAsked q * cellWords) 0)
+
+  refused-answered : (r : Refusal) → checks q (length scratch) ≡ fails r → RouteAnswered q (length scratch) (length visits) (routeGives q scratch visits)
+  unfolding routeGives answerOf answerAfter visitsOf visitsAfter scratchOf scratchAfter filledWords zeroedWords
+  refused-answered r e = rw e (isRefused r e)
+
+  module _ (pass : checks q (length scratch) ≡ passes) where
+    by-demand : {after : List ℕ} {a : Answer} → Demand2 q visits after a → RouteAnswered q (length scratch) (length visits) (record { answer = a; filled = take (filledWords a) after; zeroed = zeros q })
+    unfolding filledWords figuresOf
+    by-demand (Demand2.isFound r b fits e) =
+        rw (e, take-at (written r) _ _ (written-words (rulesAsked q) r (b .isLegal))) (isFound r pass b fits)
+    by-demand (Demand2.noRoom r b short e) = noRoom r pass b short
+    by-demand (Demand2.noRoute n e) = noRoute pass n
+
+    passed-answered : RouteAnswered q (length scratch) (length visits) (routeGives q scratch visits)
+    unfolding routeGives scratchOf
+    passed-answered = rw (pass, zeros-taken) (by-demand (demand-2 q scratch visits pass))
+
+  pub route-answered : RouteAnswered q (length scratch) (length visits) (routeGives q scratch visits)
+  route-answered = go (checks q (length scratch)) refl
+    where
+      go : (k : Check) → checks q (length scratch) ≡ k → RouteAnswered q (length scratch) (length visits) (routeGives q scratch visits)
+      go passes e = passed-answered e
+      go (fails r) e = refused-answered r e
+
+-- sides that are no sides of the plan's bytes: refused with 2
+pub other-sides : (a : RouteAsk) (marks : List ℕ) (scratch : ℕ) → gridFault (a .width) (a .height) ≡ false → (length marks ≡ a .width * a .height → ⊥) → checks (asked a marks) scratch ≡ fails Refusal.Length
+unfolding checks afterPlan checkedPlan lengthFault cells asked
+other-sides a marks scratch grid other = rw (grid, ne-eqb (length marks) (a .width * a .height) other)
+
+-- contents of what is lent do not matter
+pub alike-routes : {a b : RouteAsk} → AlikeRoutes a b → (marks : List ℕ) → routeReply (asked a marks) (length (a .scratch)) (length (a .visits)) ≡ routeReply (asked b marks) (length (b .scratch)) (length (b .visits))
+unfolding asked
+alike-routes e marks = rw (e .width, e .height, e .tables, e .buffers, e .source, e .sink, e .scratch, e .visits)

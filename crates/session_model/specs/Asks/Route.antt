@@ -1,0 +1,100 @@
+-- The route call as a session's question: what it is lent and told, its reply, what the call gives, what the rules give.
+use Prim.Native.Nat.{ℕ, _+_, _*_, _≤_, _<_}
+use mathlib.Core.Bool.{cond}
+use mathlib.Core.List.{List, []}
+use mathlib.Core.Path.{_≡_}
+use lib.Dec.{T, leb}
+use lib.ListN.{length, take, replicate}
+use Rattle.rules.specs.Legal.{Route, legal}
+use Rattle.rules.specs.Ranking.{steps, written, IsBest}
+use Rattle.best.specs.Best.{Outcome, found, none, best}
+use Rattle.answers.specs.Lists.{listOf}
+use Rattle.answers.specs.declared.records.Tables.{Tables}
+use Rattle.answers.specs.declared.records.BufferRecord.{BufferRecord}
+use Rattle.answers.specs.declared.answer.Answer.{Answer}
+use Rattle.answers.specs.declared.answer.Answer.the-variants.{Found, NoRoom, Refused}
+use Rattle.answers.specs.declared.answer.Refusal.{Refusal}
+use Rattle.router.specs.Route.{Question, questionOf, rulesAsked, cellsAsked, cellWords, Check, passes, fails, checks, figuresOf, answerOf, scratchOf, visitsOf}
+
+-- what the route call is lent and told, beside the plan's bytes; the sides are the caller's words too, for the call has no record
+pub record RouteAsk : Type 0 where
+  pub width : ℕ
+  pub height : ℕ
+  pub tables : Tables
+  pub buffers : List BufferRecord
+  pub source : ℕ
+  pub sink : ℕ
+  pub scratch : List ℕ
+  pub visits : List ℕ
+
+-- all that it hands back, and the words it fills: visits written, scratch words zeroed; not the words left alone
+pub record RouteReply : Type 0 where
+  pub answer : Answer
+  pub filled : List ℕ
+  pub zeroed : List ℕ
+
+-- the same question put to two sessions: what is lent has equal lengths and may differ in contents
+pub record AlikeRoutes (a b : RouteAsk) : Type 0 where
+  pub width : a .width ≡ b .width
+  pub height : a .height ≡ b .height
+  pub tables : a .tables ≡ b .tables
+  pub buffers : a .buffers ≡ b .buffers
+  pub source : a .source ≡ b .source
+  pub sink : a .sink ≡ b .sink
+  pub scratch : length (a .scratch) ≡ length (b .scratch)
+  pub visits : length (a .visits) ≡ length (b .visits)
+
+-- the route call's question on a plan's bytes
+unfoldable pub asked : RouteAsk → List ℕ → Question
+asked a marks = questionOf marks (a .width) (a .height) (a .tables) (listOf (a .buffers)) (a .source) (a .sink)
+
+-- What the call gives: its contract (router/specs/Route.antt).
+
+-- visit words that an answer fills
+unfoldable pub filledWords : Answer → ℕ
+filledWords (Found f) = 2 * (f .steps + 1)
+filledWords (NoRoom f) = 0
+filledWords (Refused r) = 0
+
+-- scratch words that are zeroed: once the checks have passed, whatever the answer
+unfoldable pub zeroedWords : Check → Question → ℕ
+zeroedWords passes q = cellsAsked q * cellWords
+zeroedWords (fails r) q = 0
+
+unfoldable pub routeGives : Question → List ℕ → List ℕ → RouteReply
+routeGives q scratch visits =
+    record {
+      answer = answerOf q scratch visits;
+      filled = take (filledWords (answerOf q scratch visits)) (visitsOf q scratch visits);
+      zeroed = take (zeroedWords (checks q (length scratch)) q) (scratchOf q scratch);
+    }
+
+-- What the model gives: from the lengths of what is lent alone, by the executable definition of the best route. `scratch` and `room`: the words lent for scratch and visits.
+
+unfoldable pub zeros : Question → List ℕ
+zeros q = replicate (cellsAsked q * cellWords) 0
+
+unfoldable pub bestReply : Question → ℕ → Outcome → RouteReply
+bestReply q room (found r) =
+    cond (leb (2 * (steps r + 1)) room)
+    (record { answer = Answer.Found (figuresOf (q .tables .period) r); filled = written r; zeroed = zeros q })
+    (record { answer = Answer.NoRoom (figuresOf (q .tables .period) r); filled = []; zeroed = zeros q })
+bestReply q room none = record { answer = Answer.Refused Refusal.NoRoute; filled = []; zeroed = zeros q }
+
+unfoldable pub checkedReply : Check → Question → ℕ → RouteReply
+checkedReply passes q room = bestReply q room (best (rulesAsked q))
+checkedReply (fails r) q room = record { answer = Answer.Refused r; filled = []; zeroed = [] }
+
+unfoldable pub routeReply : Question → ℕ → ℕ → RouteReply
+routeReply q scratch room = checkedReply (checks q scratch) q room
+
+-- The reply that document 01's rules give, with no search: the refusal, or by the best legal route, or that none exists.
+pub data RouteAnswered (q : Question) (scratch room : ℕ) : RouteReply → Type 0 where
+  -- 1 to 6, the first in its order: nothing is filled, nothing zeroed
+  isRefused : (r : Refusal) → checks q scratch ≡ fails r → RouteAnswered q scratch room (record { answer = Answer.Refused r; filled = []; zeroed = [] })
+  -- 7: no legal route exists; the scratch words are zeroed
+  noRoute : checks q scratch ≡ passes → ((r : Route) → T (legal (rulesAsked q) r) → ⊥) → RouteAnswered q scratch room (record { answer = Answer.Refused Refusal.NoRoute; filled = []; zeroed = zeros q })
+  -- 8: the best legal route's figures, counted off it; its visits need more words than lent, and none is filled
+  noRoom : (r : Route) → checks q scratch ≡ passes → IsBest (rulesAsked q) r → room < 2 * (steps r + 1) → RouteAnswered q scratch room (record { answer = Answer.NoRoom (figuresOf (q .tables .period) r); filled = []; zeroed = zeros q })
+  -- 0: the best legal route, its figures counted off it and its visits filled in
+  isFound : (r : Route) → checks q scratch ≡ passes → IsBest (rulesAsked q) r → 2 * (steps r + 1) ≤ room → RouteAnswered q scratch room (record { answer = Answer.Found (figuresOf (q .tables .period) r); filled = written r; zeroed = zeros q })
