@@ -16,7 +16,7 @@ use Rattle.timing.specs.Elements.{DriverInRange}
 use Rattle.timing.specs.Valid.{Valid}
 use Rattle.rules.specs.Rules.{Rules, rulesOf, noGate, registerCode}
 use Rattle.rules.specs.Legal.{mayStand}
-use Rattle.plan.proofs.Truth.{split, both, snd, decided, is-true, is-false, of-true, of-false, tests}
+use Rattle.plan.proofs.Truth.{split, both, snd, decided, is-true, is-false, of-true, of-false}
 use Rattle.rules.proofs.Document01.{no-gate-stands, buffer-site, buffer-stands}
 use Rattle.budget.specs.Table.{Table, loadOf, bufferCost, closeCost}
 use Rattle.budget.specs.Done.{Labels}
@@ -25,6 +25,7 @@ use Rattle.budget.proofs.Max.{only-most}
 use Rattle.labels.specs.Labels.{knownOf, registersOf, stepsOf, labelsOf}
 use Rattle.labels.proofs.Labels.{known-word, word-known}
 use Rattle.costs.specs.Costs.{rowWords}
+use Rattle.rows.specs.Rows.{viewOf}
 use Rattle.table.specs.declared.problem.Problem.{Problem}
 use Rattle.table.specs.Problem.{planFor, rulesFor, budgetOf}
 use Rattle.costs.specs.Costs.{bufferAt}
@@ -70,13 +71,20 @@ module _ (p : Problem) (marks words : List ℕ) (at : State) (asks : CodeAsks p 
   abbrev site : Bool
   site = takesBuffers (getD marks (at .cell) 0) p (at .cell)
 
+  -- the delay is below the table's word; a close here is in time
+  abbrev early : Bool
+  early = ltb (at .delay .0) (viewOf words (at .cell) (at .load .0))
+
+  abbrev closes : Bool
+  closes = ltb (at .delay .0 + gateDelay (registerDriver (e .register)) (at .load .0)) (2 * e .period + 1)
+
   -- no gate
 
-  pub goes-none : goesAt R m A at noGate ≡ ltb (at .delay) (getD words (at .cell * 64 + at .load) 0)
+  pub goes-none : goesAt R m A at noGate ≡ early
   unfolding goesAt rulesFor
   goes-none =
       simp
-      (is-true (mayStand R (at .cell) noGate) (no-gate-stands (planFor p marks) e (p .source) (p .sink) (at .cell)), budget-at (length marks) words (at .cell) (at .load) (asks .inPlan) (omega (arith, asks .light)))
+      (is-true (mayStand R (at .cell) noGate) (no-gate-stands (planFor p marks) e (p .source) (p .sink) (at .cell)), budget-at (length marks) words (at .cell) (at .load .0) (asks .inPlan) (omega (arith, asks .light)))
 
   -- a buffer
 
@@ -94,16 +102,14 @@ module _ (p : Problem) (marks words : List ℕ) (at : State) (asks : CodeAsks p 
 
   -- a register
 
-  pub goes-register : goesAt R m A at registerCode ≡ exactSeed R m (at .registers) (at .steps) (at .cell) && ltb (at .delay + gateDelay (registerDriver (e .register)) (at .load)) (2 * e .period + 1)
+  pub goes-register : goesAt R m A at registerCode ≡ exactSeed R m (at .registers) (at .steps) (at .cell) && closes
   unfolding goesAt rulesFor rulesOf closeCost
   goes-register = refl
 
   -- Nothing below the first buffer's code goes on, if a buffer may stand here at all
-  module _ (late : getD words (at .cell * 64 + at .load) 0 ≤ at .delay) where
+  module _ (late : early ≡ false) where
     none-refused : (a : ℕ) → a ≡ noGate → T (goesAt R m A at a) → ⊥
-    none-refused a z t =
-        let h : T (ltb (at .delay) (getD words (at .cell * 64 + at .load) 0)) = rw (z, goes-none) at t in
-        omega (arith, tests)
+    none-refused a z t = T-not early (of-false early late) (rw (z, goes-none) at t)
 
     pub below-buffer : site ≡ true → (r : ℕ) → FirstBuffer words e at r → (a : ℕ) → a ≤ r → T (goesAt R m A at a) → ⊥
     below-buffer s r first zero h t = none-refused 0 refl t
@@ -157,16 +163,16 @@ module _ (p : Problem) (marks words : List ℕ) (at : State) (asks : CodeAsks p 
   -- the first code, by the tests
 
   module _ (bits : (k : ℕ) → getD words k 0 ≤ delayMost) where
-    pub code-none : at .delay < getD words (at .cell * 64 + at .load) 0 → FirstCode R m A at 0
+    pub code-none : early ≡ true → FirstCode R m A at 0
     code-none h =
         record {
           within = omega arith;
-          goes = λ k. rw goes-none (omega (arith, tests));
+          goes = λ k. rw goes-none (of-true early h);
           isFirst = λ a k. absurd (omega arith);
           bounded = budget-bounded (length marks) words bits;
         }
 
-    pub code-buffer : getD words (at .cell * 64 + at .load) 0 ≤ at .delay → site ≡ true → (r : ℕ) → FirstBuffer words e at r → r < e .count → FirstCode R m A at (r + 1)
+    pub code-buffer : early ≡ false → site ≡ true → (r : ℕ) → FirstBuffer words e at r → r < e .count → FirstCode R m A at (r + 1)
     code-buffer late s r first h =
         record {
           within = omega (arith, asks .ready .valid .count);
@@ -176,13 +182,11 @@ module _ (p : Problem) (marks words : List ℕ) (at : State) (asks : CodeAsks p 
         }
 
     module _ (low : (a : ℕ) → a < registerCode → T (goesAt R m A at a) → ⊥) where
-      pub code-register : exactSeed R m (at .registers) (at .steps) (at .cell) ≡ true → leb (at .delay + gateDelay (registerDriver (e .register)) (at .load)) (2 * e .period) ≡ true → FirstCode R m A at registerCode
+      pub code-register : exactSeed R m (at .registers) (at .steps) (at .cell) ≡ true → closes ≡ true → FirstCode R m A at registerCode
       code-register s t =
-          let h = of-true (leb (at .delay + gateDelay (registerDriver (e .register)) (at .load)) (2 * e .period)) t in
-          let k : T (ltb (at .delay + gateDelay (registerDriver (e .register)) (at .load)) (2 * e .period + 1)) = omega (arith, tests) in
           record {
             within = omega arith;
-            goes = λ z. rw goes-register (both (exactSeed R m (at .registers) (at .steps) (at .cell)) _ (of-true _ s) k);
+            goes = λ z. rw goes-register (both (exactSeed R m (at .registers) (at .steps) (at .cell)) _ (of-true _ s) (of-true closes t));
             isFirst = low;
             bounded = budget-bounded (length marks) words bits;
           }
@@ -206,9 +210,6 @@ module _ (p : Problem) (marks words : List ℕ) (at : State) (asks : CodeAsks p 
       pub code-unseeded : exactSeed R m (at .registers) (at .steps) (at .cell) ≡ false → FirstCode R m A at (registerCode + 1)
       code-unseeded s = over (λ t. simp (goes-register, s) at t)
 
-      pub code-late : leb (at .delay + gateDelay (registerDriver (e .register)) (at .load)) (2 * e .period) ≡ false → FirstCode R m A at (registerCode + 1)
+      pub code-late : closes ≡ false → FirstCode R m A at (registerCode + 1)
       code-late s =
-          over (λ t.
-          let k = snd (exactSeed R m (at .registers) (at .steps) (at .cell)) (ltb (at .delay + gateDelay (registerDriver (e .register)) (at .load)) (2 * e .period + 1)) (rw goes-register at t) in
-          let f = of-false (leb (at .delay + gateDelay (registerDriver (e .register)) (at .load)) (2 * e .period)) s in
-          omega (arith, tests))
+          over (λ t. T-not closes (of-false closes s) (snd (exactSeed R m (at .registers) (at .steps) (at .cell)) closes (rw goes-register at t)))

@@ -37,12 +37,12 @@ use Rattle.choice.proofs.Codes.{buffer-load-most}
 pub goes-linked : (R : Rules) (m : Labels) (A : Table) (from : State) (c code : ℕ) → Goes R m A from c code → T (R .linked (from .cell) c)
 unfolding goesOn
 goes-linked R m A from c code t =
-    fst (R .linked (from .cell) c) _ (fst (R .linked (from .cell) c && leb (loadAt R (from .cell) c (from .load)) (R .limit)) _ t)
+    fst (R .linked (from .cell) c) _ (fst (R .linked (from .cell) c && leb (loadAt R (from .cell) c (from .load .0)) (R .limit)) _ t)
 
 -- what is left after a gate is in range
 
 module _ (e : Elements) (valid : Valid e) (at : State) (code : ℕ) (small : code ≤ registerCode) where
-  left-light : at .load ≤ loadMax → leftLoad e at code ≤ loadMax
+  left-light : at .load .0 ≤ loadMax → leftLoad e at code ≤ loadMax
   unfolding leftLoad registerLoad
   left-light h = go (gate code)
     where
@@ -57,14 +57,14 @@ module _ (e : Elements) (valid : Valid e) (at : State) (code : ℕ) (small : cod
     where
       go : Gate code → leftDelay e at code ≤ delayMost
       go (Gate.none q) =
-          let u : T (mayStand R (at .cell) noGate && ltb (at .delay) (A (at .cell) (at .load))) = simp (eq-eqb code noGate q) at t in
-          let h = snd (mayStand R (at .cell) noGate) (ltb (at .delay) (A (at .cell) (at .load))) u in
-          simp (eq-eqb code noGate q) (omega (arith, tests, bounded (at .cell) (at .load)))
+          let u : T (mayStand R (at .cell) noGate && ltb (at .delay .0) (A (at .cell) (at .load .0))) = simp (eq-eqb code noGate q) at t in
+          let h = snd (mayStand R (at .cell) noGate) (ltb (at .delay .0) (A (at .cell) (at .load .0))) u in
+          simp (eq-eqb code noGate q) (omega (arith, tests, bounded (at .cell) (at .load .0)))
       go (Gate.register q) = simp (ne-eqb code noGate (omega arith), eq-eqb code registerCode q) (omega (arith, valid .register .setup))
       go (Gate.buffer f g) =
-          let u : T (mayStand R (at .cell) code && leb (loadOf R code) (R .limit) && ltb (at .delay + bufferCost R code (at .load)) (A (at .cell) (loadOf R code))) = simp (ne-eqb code noGate f, ne-eqb code registerCode g) at t in
-          let h = snd (mayStand R (at .cell) code && leb (loadOf R code) (R .limit)) (ltb (at .delay + bufferCost R code (at .load)) (A (at .cell) (loadOf R code))) u in
-          simp (ne-eqb code noGate f, ne-eqb code registerCode g) (omega (arith, tests, cost (at .load), bounded (at .cell) (loadOf R code)))
+          let u : T (mayStand R (at .cell) code && leb (loadOf R code) (R .limit) && ltb (at .delay .0 + bufferCost R code (at .load .0)) (A (at .cell) (loadOf R code))) = simp (ne-eqb code noGate f, ne-eqb code registerCode g) at t in
+          let h = snd (mayStand R (at .cell) code && leb (loadOf R code) (R .limit)) (ltb (at .delay .0 + bufferCost R code (at .load .0)) (A (at .cell) (loadOf R code))) u in
+          simp (ne-eqb code noGate f, ne-eqb code registerCode g) (omega (arith, tests, cost (at .load .0), bounded (at .cell) (loadOf R code)))
 
 module _ (p : Problem) (marks words : List ℕ) (from : State) (cell : ℕ) (wire : Wire) (asks : TryAsks p marks words from cell wire) where
   abbrev R : Rules
@@ -97,15 +97,15 @@ module _ (p : Problem) (marks words : List ℕ) (from : State) (cell : ℕ) (wir
   no-neighbour q = ChosenAmong.nothing (λ c a s h t. omega (arith, linked-in c (goes-linked R m A from c a t)))
 
   -- the load and the delay on arrival
-  module _ (inside : cell < length marks) (load delay : ℕ) (loads : load ≡ from .load + wireLoad wire) (delays : delay ≡ from .delay + wireDelay wire (from .load)) where
+  module _ (inside : cell < length marks) (load delay : ℕ) (loads : load ≡ from .load .0 + wireLoad wire) (delays : delay ≡ from .delay .0 + wireDelay wire (from .load .0)) where
     abbrev at : State
-    at = record { cell = cell; load = load; delay = delay; registers = k; steps = u }
+    at = record { cell = cell; load = record { 0 = load }; delay = record { 0 = delay }; registers = k; steps = u }
 
-    load-named : loadAt R (from .cell) cell (from .load) ≡ load
+    load-named : loadAt R (from .cell) cell (from .load .0) ≡ load
     unfolding loadAt
     load-named = rw (asks .same inside, loads)
 
-    delay-named : delayAt R (from .cell) cell (from .load) (from .delay) ≡ delay
+    delay-named : delayAt R (from .cell) cell (from .load .0) (from .delay .0) ≡ delay
     unfolding delayAt
     delay-named = rw (asks .same inside, delays)
 
@@ -114,7 +114,7 @@ module _ (p : Problem) (marks words : List ℕ) (from : State) (cell : ℕ) (wir
     limit-named = refl
 
     -- the wire, and then the code
-    goes-split : (code : ℕ) → goesOn R m k u A (from .cell) (from .load) (from .delay) cell code ≡ (R .linked (from .cell) cell && leb load (e .limit .0) && goesAt R m A at code)
+    goes-split : (code : ℕ) → goesOn R m k u A (from .cell) (from .load .0) (from .delay .0) cell code ≡ (R .linked (from .cell) cell && leb load (e .limit .0) && goesAt R m A at code)
     unfolding goesOn goesAt
     goes-split code = simp (load-named, delay-named, limit-named)
 
@@ -134,7 +134,7 @@ module _ (p : Problem) (marks words : List ℕ) (from : State) (cell : ℕ) (wir
             room = asks .asks .room;
             inPlan = inside;
             light = omega (arith, asks .asks .ready .valid .limit);
-            early = omega (arith, asks .asks .inRange .early, wire-delay-max wire (from .load) (asks .wireFits) (asks .asks .inRange .light));
+            early = omega (arith, asks .asks .inRange .early, wire-delay-max wire (from .load .0) (asks .wireFits) (asks .asks .inRange .light));
           }
 
       goes-code : (c code : ℕ) → c ≡ cell → Goes R m A from c code → T (goesAt R m A at code)
@@ -150,11 +150,11 @@ module _ (p : Problem) (marks words : List ℕ) (from : State) (cell : ℕ) (wir
       no-code first = ChosenAmong.nothing (λ c a s k t. first .isFirst a (omega arith) (goes-code c a s t))
 
       module _ (code : ℕ) (to : State) (left : Left e at code to) where
-        load-after : to .load ≡ afterLoad R (from .cell) (to .cell) (from .load) code
+        load-after : to .load .0 ≡ afterLoad R (from .cell) (to .cell) (from .load .0) code
         unfolding leftLoad afterLoad loadOf bufferAt rulesFor rulesOf
         load-after = left .load ∙ rw (left .cell, load-named)
 
-        delay-after : to .delay ≡ afterDelay R (from .cell) (to .cell) (from .load) (from .delay) code
+        delay-after : to .delay .0 ≡ afterDelay R (from .cell) (to .cell) (from .load .0) (from .delay .0) code
         unfolding leftDelay afterDelay bufferCost bufferAt rulesFor rulesOf
         delay-after = left .delay ∙ rw (left .cell, load-named, delay-named)
 

@@ -22,8 +22,8 @@ delayMost = 65535
 -- a state in the plan, with a load and a delay that a span can have
 pub record InRange (n : ℕ) (s : State) : Type 0 where
   pub inPlan : s .cell < n
-  pub light : s .load ≤ loadMax
-  pub early : s .delay ≤ delayMost
+  pub light : s .load .0 ≤ loadMax
+  pub early : s .delay .0 ≤ delayMost
 
 pub record ChooseAsks (p : Problem) (marks words : List ℕ) (from : State) : Type 0 where
   pub ready : Ready p marks
@@ -34,7 +34,7 @@ pub record ChooseAsks (p : Problem) (marks words : List ℕ) (from : State) : Ty
 -- a visit to the cell with this code goes on to the end, with one step fewer
 abbrev pub Goes : Rules → Labels → Table → State → ℕ → ℕ → Type 0
 Goes R m A from cell code =
-    T (goesOn R m (from .registers) (from .steps - 1) A (from .cell) (from .load) (from .delay) cell code)
+    T (goesOn R m (from .registers) (from .steps - 1) A (from .cell) (from .load .0) (from .delay .0) cell code)
 
 -- The visit goes on to the state `to`, and none before it to these cells does. After a last visit, `to` is as after any register.
 pub record FirstVisit (R : Rules) (n : ℕ) (m : Labels) (A : Table) (from : State) (cells : ℕ → Type 0) (code : ℕ) (to : State) : Type 0 where
@@ -42,8 +42,8 @@ pub record FirstVisit (R : Rules) (n : ℕ) (m : Labels) (A : Table) (from : Sta
   pub goes : Goes R m A from (to .cell) code
   pub isFirst : (cell a : ℕ) → cells cell → a ≤ registerCode → Before cell a (to .cell) code → Goes R m A from cell a → ⊥
   pub small : code ≤ registerCode
-  pub load : to .load ≡ afterLoad R (from .cell) (to .cell) (from .load) code
-  pub delay : to .delay ≡ afterDelay R (from .cell) (to .cell) (from .load) (from .delay) code
+  pub load : to .load .0 ≡ afterLoad R (from .cell) (to .cell) (from .load .0) code
+  pub delay : to .delay .0 ≡ afterDelay R (from .cell) (to .cell) (from .load .0) (from .delay .0) code
   pub registers : to .registers ≡ afterRegisters (from .registers) code
   pub steps : to .steps ≡ from .steps - 1
   pub inRange : InRange n to

@@ -32,15 +32,15 @@ arrivalMost = delayMost + 48195
 pub record RowAsks (e : Elements) (words : List ℕ) (at : State) : Type 0 where
   pub valid : Valid e
   pub row : at .cell * 64 + rowWords ≤ length words
-  pub light : at .load ≤ loadMax
-  pub early : at .delay ≤ arrivalMost
+  pub light : at .load .0 ≤ loadMax
+  pub early : at .delay .0 ≤ arrivalMost
 
 pub record CodeAsks (p : Problem) (marks words : List ℕ) (at : State) : Type 0 where
   pub ready : Ready p marks
   pub room : Room (length marks) words
   pub inPlan : at .cell < length marks
-  pub light : at .load ≤ loadMax
-  pub early : at .delay ≤ arrivalMost
+  pub light : at .load .0 ≤ loadMax
+  pub early : at .delay .0 ≤ arrivalMost
 
 -- the neighbour's number, which is the number of cells where there is none, and the wire to it
 pub record TryAsks (p : Problem) (marks words : List ℕ) (from : State) (cell : ℕ) (wire : Wire) : Type 0 where
@@ -53,12 +53,12 @@ pub record TryAsks (p : Problem) (marks words : List ℕ) (from : State) (cell :
 -- what `goesOn` asks of the code, once the wire is passed
 unfoldable pub goesAt : Rules → Labels → Table → State → ℕ → Bool
 goesAt R m A at code =
-    cond (eqb code noGate) (mayStand R (at .cell) noGate && ltb (at .delay) (A (at .cell) (at .load)))
+    cond (eqb code noGate) (mayStand R (at .cell) noGate && ltb (at .delay .0) (A (at .cell) (at .load .0)))
     (cond (eqb code registerCode)
-    (exactSeed R m (at .registers) (at .steps) (at .cell) && ltb (at .delay + closeCost R (at .cell) (at .load)) (R .bound 0))
+    (exactSeed R m (at .registers) (at .steps) (at .cell) && ltb (at .delay .0 + closeCost R (at .cell) (at .load .0)) (R .bound 0))
     (mayStand R (at .cell) code
     && leb (loadOf R code) (R .limit)
-    && ltb (at .delay + bufferCost R code (at .load)) (A (at .cell) (loadOf R code))))
+    && ltb (at .delay .0 + bufferCost R code (at .load .0)) (A (at .cell) (loadOf R code))))
 
 -- r is the first code that goes on, 8 for none; the table's words have 16 bits
 pub record FirstCode (R : Rules) (m : Labels) (A : Table) (at : State) (r : ℕ) : Type 0 where
@@ -71,7 +71,7 @@ pub record FirstCode (R : Rules) (m : Labels) (A : Table) (at : State) (r : ℕ)
 unfoldable pub drives : List ℕ → Elements → State → ℕ → Bool
 drives words e at i =
     leb (bufferLoad (bufferAt e i)) (e .limit .0)
-    && ltb (at .delay + gateDelay (bufferDriver (bufferAt e i)) (at .load)) (viewOf words (at .cell) (bufferLoad (bufferAt e i)))
+    && ltb (at .delay .0 + gateDelay (bufferDriver (bufferAt e i)) (at .load .0)) (viewOf words (at .cell) (bufferLoad (bufferAt e i)))
 
 -- r is the first buffer that does; the number of buffers for none
 pub record FirstBuffer (words : List ℕ) (e : Elements) (at : State) (r : ℕ) : Type 0 where
@@ -82,17 +82,17 @@ pub record FirstBuffer (words : List ℕ) (e : Elements) (at : State) (r : ℕ) 
 -- the load and the delay after the gate with this code
 unfoldable pub leftLoad : Elements → State → ℕ → ℕ
 leftLoad e at code =
-    cond (eqb code noGate) (at .load) (cond (eqb code registerCode) (registerLoad (e .register)) (bufferLoad (bufferAt e (code - 1))))
+    cond (eqb code noGate) (at .load .0) (cond (eqb code registerCode) (registerLoad (e .register)) (bufferLoad (bufferAt e (code - 1))))
 
 unfoldable pub leftDelay : Elements → State → ℕ → ℕ
 leftDelay e at code =
-    cond (eqb code noGate) (at .delay)
-    (cond (eqb code registerCode) (setupDelay (e .register)) (at .delay + gateDelay (bufferDriver (bufferAt e (code - 1))) (at .load)))
+    cond (eqb code noGate) (at .delay .0)
+    (cond (eqb code registerCode) (setupDelay (e .register)) (at .delay .0 + gateDelay (bufferDriver (bufferAt e (code - 1))) (at .load .0)))
 
 -- `to` is the state after the gate
 pub record Left (e : Elements) (at : State) (code : ℕ) (to : State) : Type 0 where
   pub cell : to .cell ≡ at .cell
-  pub load : to .load ≡ leftLoad e at code
-  pub delay : to .delay ≡ leftDelay e at code
+  pub load : to .load .0 ≡ leftLoad e at code
+  pub delay : to .delay .0 ≡ leftDelay e at code
   pub registers : to .registers ≡ afterRegisters (at .registers) code
   pub steps : to .steps ≡ at .steps

@@ -1,7 +1,7 @@
 // One step of emission: from a state, the first visit in written order from which the rest can still be done.
 ghost use mathlib.Core.Path.{_≡_};
 ghost use Prim.Native.Nat.{_+_, _*_, _-_, _≤_, _<_};
-ghost use lib.Dec.{leb};
+ghost use lib.Dec.{ltb};
 ghost use lib.ListN.{length};
 ghost use Rattle.timing.specs.Ranges.{loadMax};
 ghost use Rattle.timing.specs.Elements.{DriverInRange};
@@ -9,6 +9,8 @@ ghost use Rattle.timing.specs.Valid.{Valid};
 ghost use Rattle.timing.specs.Formulas.{gateDelay, registerDriver};
 ghost use Rattle.rules.specs.Rules.{registerCode};
 ghost use Rattle.budget.specs.Emission.{exactSeed};
+ghost use Rattle.costs.specs.Costs.{rowWords};
+ghost use Rattle.rows.specs.Rows.{viewOf};
 ghost use Rattle.labels.specs.Labels.{labelsOf};
 ghost use Rattle.table.specs.Problem.{rulesFor, budgetOf};
 ghost use Rattle.choice.specs.Choice.{ChooseAsks, ChosenAmong, Chosen};
@@ -20,14 +22,15 @@ use table::Problem;
 use table::takes_buffers;
 use timing::Driver;
 use timing::Elements;
+use timing::HalfTicks;
 use timing::Load;
 use timing::Wire;
 
-// After a visit's gate: the delay in half-ticks of the current span, and the registers and steps to go.
+// After a visit's gate: the delay of the current span, and the registers and steps to go.
 pub struct State {
     pub cell: usize,
-    pub load: u16,
-    pub delay: u32,
+    pub load: Load,
+    pub delay: HalfTicks,
     pub registers: u16,
     pub steps: u32,
 }
@@ -39,11 +42,19 @@ pub enum Choice {
 }
 
 // The delay after a gate with this driver.
-fn driven(driver: Driver, at: State) -> u32
-    requires { ⌜ DriverInRange driver × ((at .load ≤ loadMax) × (at .delay ≤ arrivalMost)) ⌝ }
-    ensures { λ r. ⌜ r ≡ at .delay + gateDelay driver (at .load) ⌝ }
+fn driven(driver: Driver, at: State) -> HalfTicks
+    requires { ⌜ DriverInRange driver × ((at .load .0 ≤ loadMax) × (at .delay .0 ≤ arrivalMost)) ⌝ }
+    ensures { λ r. ⌜ r .0 ≡ at .delay .0 + gateDelay driver (at .load .0) ⌝ }
 {
-    at.delay + driver.delay(Load(at.load)).0
+    at.delay.plus(driver.delay(at.load))
+}
+
+// The table's word for a cell and a load: what a delay there is below.
+fn budget_at(scratch: &[u16], cell: usize, load: Load) -> HalfTicks
+    requires { ⌜ (load .0 ≤ loadMax) × (cell * 64 + rowWords ≤ length (now scratch)) ⌝ }
+    ensures { λ r. ⌜ r .0 ≡ viewOf (now (scratch .entry)) cell (load .0) ⌝ }
+{
+    HalfTicks(view(scratch, cell, load.0 as usize) as u32)
 }
 
 // Whether the state after buffer i at the cell is in the table.
@@ -52,11 +63,11 @@ fn buffer_drives(scratch: &[u16], elements: Elements, at: State, i: usize) -> bo
     ensures { λ r. ⌜ r ≡ drives (now (scratch .entry)) elements at i ⌝ }
 {
     let buffer = elements.buffers[i];
-    let own = buffer.load().0;
-    if elements.limit.0 < own {
+    let own = buffer.load();
+    if !own.at_most(elements.limit) {
         return false;
     }
-    driven(buffer.driver(), at) < view(scratch, at.cell, own as usize) as u32
+    driven(buffer.driver(), at).below(budget_at(scratch, at.cell, own))
 }
 
 // The first buffer whose state is in the table, or the number of buffers.
@@ -90,13 +101,14 @@ fn is_seed(plan: &[u8], scratch: &[u16], p: Problem, at: State) -> bool
     steps_of(scratch, n, at.cell) <= at.steps
 }
 
-// Whether a register after this load and delay closes the span in time.
+// Whether a register after this load and delay closes the span in time: below the rules' bound, one more than 2T.
 fn in_time(elements: Elements, at: State) -> bool
-    requires { ⌜ Valid elements × ((at .load ≤ loadMax) × (at .delay ≤ arrivalMost)) ⌝ }
-    ensures { λ r. ⌜ r ≡ leb (at .delay + gateDelay (registerDriver (elements .register)) (at .load)) (2 * elements .period) ⌝ }
+    requires { ⌜ Valid elements × ((at .load .0 ≤ loadMax) × (at .delay .0 ≤ arrivalMost)) ⌝ }
+    ensures { λ r. ⌜ r ≡ ltb (at .delay .0 + gateDelay (registerDriver (elements .register)) (at .load .0)) (2 * elements .period + 1) ⌝ }
 {
     let register = elements.register;
-    driven(register.driver(), at) <= 2 * (elements.period as u32)
+    let bound = HalfTicks(2 * (elements.period as u32) + 1);
+    driven(register.driver(), at).below(bound)
 }
 
 // The first code with which a visit to the cell goes on, 8 for none.
@@ -105,7 +117,7 @@ fn first_code(plan: &[u8], scratch: &[u16], p: Problem, at: State) -> u16
     ensures { λ r. ⌜ FirstCode (rulesFor p (now (plan .entry))) (labelsOf (length (now (plan .entry))) (now (scratch .entry))) (budgetOf (length (now (plan .entry))) (now (scratch .entry))) at r ⌝ }
 {
     let cell = at.cell;
-    if at.delay < view(scratch, cell, at.load as usize) as u32 {
+    if at.delay.below(budget_at(scratch, cell, at.load)) {
         return 0;
     }
     let elements = p.elements;
@@ -125,7 +137,7 @@ fn first_code(plan: &[u8], scratch: &[u16], p: Problem, at: State) -> u16
 
 // The state after the gate.
 fn leave(elements: Elements, at: State, code: u16) -> State
-    requires { ⌜ Valid elements × ((at .load ≤ loadMax) × ((at .delay ≤ arrivalMost) × (code ≤ registerCode))) ⌝ }
+    requires { ⌜ Valid elements × ((at .load .0 ≤ loadMax) × ((at .delay .0 ≤ arrivalMost) × (code ≤ registerCode))) ⌝ }
     ensures { λ r. ⌜ Left elements at code r ⌝ }
 {
     if code == 0 {
@@ -135,8 +147,8 @@ fn leave(elements: Elements, at: State, code: u16) -> State
         let register = elements.register;
         return State {
             cell: at.cell,
-            load: register.load().0,
-            delay: register.start_delay().0,
+            load: register.load(),
+            delay: register.start_delay(),
             registers: fewer(at.registers),
             steps: at.steps,
         };
@@ -145,7 +157,7 @@ fn leave(elements: Elements, at: State, code: u16) -> State
     let buffer = elements.buffers[i];
     State {
         cell: at.cell,
-        load: buffer.load().0,
+        load: buffer.load(),
         delay: driven(buffer.driver(), at),
         registers: at.registers,
         steps: at.steps,
@@ -177,14 +189,14 @@ fn try_cell(
     if cell == plan.len() {
         return Choice::Nothing;
     }
-    let load = from.load + wire.load().0;
-    if p.elements.limit.0 < load {
+    let load = from.load.plus(wire.load());
+    if !load.at_most(p.elements.limit) {
         return Choice::Nothing;
     }
     let at = State {
         cell: cell,
         load: load,
-        delay: from.delay + wire.delay(Load(from.load)).0,
+        delay: from.delay.plus(wire.delay(from.load)),
         registers: from.registers,
         steps: from.steps - 1,
     };

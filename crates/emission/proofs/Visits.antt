@@ -76,7 +76,7 @@ module _ (R : Rules) (law : Lawful R) (n k s count : ℕ) (words₀ visits₀ : 
   first = visit (R .sink) registerCode
 
   -- the sink's visit is written
-  pub emit-start : (before : ℕ) (at : State) → at .cell ≡ R .sink → at .load ≡ R .start .load → at .delay ≡ R .start .delay → at .registers ≡ k → at .steps ≡ s → InRange n at → Least R k s (R .sink) (R .start .load) (R .start .delay) → Labelled R k before (labelsOf n words₀) → Ordered n words₀ count → Emitting R n k s count words₀ words₀ visits₀ (set (set visits₀ 0 (R .sink)) 1 registerCode) at noLayers 2
+  pub emit-start : (before : ℕ) (at : State) → at .cell ≡ R .sink → at .load .0 ≡ R .start .load → at .delay .0 ≡ R .start .delay → at .registers ≡ k → at .steps ≡ s → InRange n at → Least R k s (R .sink) (R .start .load) (R .start .delay) → Labelled R k before (labelsOf n words₀) → Ordered n words₀ count → Emitting R n k s count words₀ words₀ visits₀ (set (set visits₀ 0 (R .sink)) 1 registerCode) at noLayers 2
   unfolding written
   emit-start before at e₁ e₂ e₃ e₄ e₅ inRange least labels ordered =
       record {
@@ -101,14 +101,14 @@ module _ (R : Rules) (law : Lawful R) (n k s count : ℕ) (words₀ visits₀ : 
     again : at .steps ≡ suc (at .steps - 1)
     again = omega arith
 
-    goes-least : Onward R k s at (e .made) → Least R (at .registers) (suc (at .steps - 1)) (at .cell) (at .load) (at .delay)
+    goes-least : Onward R k s at (e .made) → Least R (at .registers) (suc (at .steps - 1)) (at .cell) (at .load .0) (at .delay .0)
     goes-least (Onward.goes h f) = rw again at h
     goes-least (Onward.whole z f) = absurd (omega arith)
 
-    least : Least R (at .registers) (suc (at .steps - 1)) (at .cell) (at .load) (at .delay)
+    least : Least R (at .registers) (suc (at .steps - 1)) (at .cell) (at .load .0) (at .delay .0)
     least = goes-least (e .onward)
 
-    goes-rest : Onward R k s at (e .made) → (vs : Route) → FirstEnding R (at .registers) (suc (at .steps - 1)) (at .cell) (at .load) (at .delay) vs → FirstEnding R k s (R .sink) (R .start .load) (R .start .delay) (e .made ++ vs)
+    goes-rest : Onward R k s at (e .made) → (vs : Route) → FirstEnding R (at .registers) (suc (at .steps - 1)) (at .cell) (at .load .0) (at .delay .0) vs → FirstEnding R k s (R .sink) (R .start .load) (R .start .delay) (e .made ++ vs)
     goes-rest (Onward.goes h f) vs x = f vs (rw (← again) at x)
     goes-rest (Onward.whole z f) vs x = absurd (omega arith)
 
@@ -118,30 +118,30 @@ module _ (R : Rules) (law : Lawful R) (n k s count : ℕ) (words₀ visits₀ : 
     -- some visit goes on
     pub emit-nothing : Chosen R n (labelsOf n new) (budgetOf n new) at Choice.Nothing → ⊥
     emit-nothing chosen =
-        let c = least-goes-on R law (at .registers) (at .steps - 1) (at .cell) (at .load) (at .delay) least in
+        let c = least-goes-on R law (at .registers) (at .steps - 1) (at .cell) (at .load .0) (at .delay .0) least in
         chosen-nothing chosen refl (c .cell) (c .code) (c .linked) (c .small)
-        (viable-goes-on R law labels (at .registers) (at .steps - 1) (budgetOf n new) (at .cell) (at .load) (at .delay) (loaded .near) least (c .cell) (c .code) (e .fewer) (c .viable))
+        (viable-goes-on R law labels (at .registers) (at .steps - 1) (budgetOf n new) (at .cell) (at .load .0) (at .delay .0) (loaded .near) least (c .cell) (c .code) (e .fewer) (c .viable))
 
     module _ (code : ℕ) (to : State) (v : FirstVisit R n (labelsOf n new) (budgetOf n new) at (λ cell. T (R .linked (at .cell) cell)) code to) where
-      viable : FirstViable R (at .registers) (suc (at .steps - 1)) (at .cell) (at .load) (at .delay) (to .cell) code
+      viable : FirstViable R (at .registers) (suc (at .steps - 1)) (at .cell) (at .load .0) (at .delay .0) (to .cell) code
       viable =
-          first-goes-on R law labels (at .registers) (at .steps - 1) (e .fewer) (budgetOf n new) (at .cell) (at .load) (at .delay) (loaded .near) least (to .cell) code
+          first-goes-on R law labels (at .registers) (at .steps - 1) (e .fewer) (budgetOf n new) (at .cell) (at .load .0) (at .delay .0) (loaded .near) least (to .cell) code
           (v .goes) (λ p a link small before. v .isFirst p a link small before)
 
       to-last : code ≡ registerCode → at .registers ≡ 0 → Onward R k s to (e .made ++ (visit (to .cell) code ∷ []))
       to-last c z =
-          let f = first-last R law (at .registers) (at .steps - 1) (at .cell) (at .load) (at .delay) (to .cell) code viable c z in
+          let f = first-last R law (at .registers) (at .steps - 1) (at .cell) (at .load .0) (at .delay .0) (to .cell) code viable c z in
           Onward.whole (v .steps ∙ f .0) (goes-rest (e .onward) (visit (to .cell) code ∷ []) (f .1))
 
       to-next : (code ≡ registerCode → 0 < at .registers) → Onward R k s to (e .made ++ (visit (to .cell) code ∷ []))
       to-next some =
           Onward.goes
           (rw (v .registers, v .steps, v .load, v .delay)
-          (least-after R law (at .registers) (at .steps - 1) (at .cell) (at .load) (at .delay) (to .cell) code some least (viable .viable)))
+          (least-after R law (at .registers) (at .steps - 1) (at .cell) (at .load .0) (at .delay .0) (to .cell) code some least (viable .viable)))
           (λ vs h.
           rw append-assoc
           (goes-rest (e .onward) (visit (to .cell) code ∷ vs)
-          (first-more R law (at .registers) (at .steps - 1) (at .cell) (at .load) (at .delay) (to .cell) code some viable vs (rw (v .registers, v .steps, v .load, v .delay) at h))))
+          (first-more R law (at .registers) (at .steps - 1) (at .cell) (at .load .0) (at .delay .0) (to .cell) code some viable vs (rw (v .registers, v .steps, v .load, v .delay) at h))))
 
       onward : Onward R k s to (e .made ++ (visit (to .cell) code ∷ []))
       onward = go (equal code registerCode) (equal (at .registers) 0)

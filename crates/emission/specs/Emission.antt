@@ -21,7 +21,7 @@ use Rattle.reach.specs.Reach.{Held}
 
 -- the two ends of emission, at a state: more visits are to come, or the route is whole
 pub data Onward (R : Rules) (k s : ℕ) (at : State) (made : Route) : Type 0 where
-  goes : Least R (at .registers) (at .steps) (at .cell) (at .load) (at .delay) → ((vs : Route) → FirstEnding R (at .registers) (at .steps) (at .cell) (at .load) (at .delay) vs → FirstEnding R k s (R .sink) (R .start .load) (R .start .delay) (made ++ vs)) → Onward R k s at made
+  goes : Least R (at .registers) (at .steps) (at .cell) (at .load .0) (at .delay .0) → ((vs : Route) → FirstEnding R (at .registers) (at .steps) (at .cell) (at .load .0) (at .delay .0) vs → FirstEnding R k s (R .sink) (R .start .load) (R .start .delay) (made ++ vs)) → Onward R k s at made
   whole : at .steps ≡ 0 → FirstEnding R k s (R .sink) (R .start .load) (R .start .delay) made → Onward R k s at made
 
 -- After some visits: `made` are those after the sink, and the words hold the sink's and these.

@@ -43,8 +43,8 @@ pub fn emit(
     let delay = register.start_delay();
     let mut at = State {
         cell: sink,
-        load: load.0,
-        delay: delay.0,
+        load: load,
+        delay: delay,
         registers: registers,
         steps: steps,
     };

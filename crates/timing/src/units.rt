@@ -1,6 +1,7 @@
 // Units. A load is never added to a delay: each has its own type.
 ghost use mathlib.Core.Path.{_≡_};
 ghost use Prim.Native.Nat.{_+_, _≤_};
+ghost use lib.Dec.{leb, ltb};
 
 // Load units.
 pub struct Load(pub u16);
@@ -21,8 +22,32 @@ impl Load {
     {
         Load(self.0 + other.0)
     }
+
+    // Whether the load is within a limit.
+    pub fn at_most(self, limit: Load) -> bool
+        ensures { λ r. ⌜ r ≡ leb (self .0) (limit .0) ⌝ }
+    {
+        self.0 <= limit.0
+    }
 }
 
 impl Resistance {
     pub const MAX: u16 = 255;
+}
+
+impl HalfTicks {
+    // The sum of two delays.
+    pub fn plus(self, other: HalfTicks) -> HalfTicks
+        requires { ⌜ self .0 + other .0 ≤ 4294967295 ⌝ }
+        ensures { λ r. ⌜ r .0 ≡ self .0 + other .0 ⌝ }
+    {
+        HalfTicks(self.0 + other.0)
+    }
+
+    // Whether the delay is below a budget.
+    pub fn below(self, budget: HalfTicks) -> bool
+        ensures { λ r. ⌜ r ≡ ltb (self .0) (budget .0) ⌝ }
+    {
+        self.0 < budget.0
+    }
 }

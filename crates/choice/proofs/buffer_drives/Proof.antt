@@ -1,16 +1,22 @@
 -- The two tests of the code are those of `drives`, at the buffer that was copied out.
-use Prim.Native.Nat.{_+_, _*_}
-use mathlib.Core.Path.{_≡_}
+use Prim.Native.Nat.{_+_}
+use mathlib.Core.Path.{_≡_, sym, _∙_}
 use native.Mathlib.Omega.{arith}
-use borrow.Author.Tests.{le-leb, lt-leb}
+use borrow.Author.Tests.{not-true, not-false}
 use borrow.Author.Needs.{needs}
+use lib.Dec.{leb}
 use Rattle.timing.specs.Elements.{bufferOf, driverOf}
 use Rattle.timing.specs.Formulas.{gateDelay, bufferDriver, bufferLoad}
 use Rattle.costs.specs.Costs.{bufferAt}
 use Rattle.choice.specs.Codes.{drives}
-use Rattle.choice.proofs.Codes.{buffer-driver-fits}
+use Rattle.choice.proofs.Codes.{buffer-driver-fits, buffer-load-most}
 use Rattle.choice.proofs.buffer_drives.Statement.{statement}
 use Rattle.choice.proofs.buffer_drives.Tie as tie
+
+-- the test of the buffer's own load
+fits : (c : tie.After-at-most) → let a = c .before .before .before .before .before .args in leb (bufferLoad (bufferAt (a .t2) (a .i))) (a .t2 .limit .0) ≡ c .at-most .result
+unfolding bufferAt bufferOf driverOf
+fits c = sym (rw (c .before .before .load .ensures) at (c .at-most .ensures))
 
 mul-buffer : tie.Need-mul-buffer
 mul-buffer c = search needs
@@ -21,12 +27,12 @@ element-copy-out-buffer c = search needs
 load-requires : tie.Need-load-requires
 load-requires c κs = search needs
 
+at-most-requires : tie.Need-at-most-requires
+at-most-requires c κs = search needs
+
 returns : tie.Need-returns
-unfolding drives bufferAt bufferOf driverOf
-returns c =
-    let start = c .before .before .before .before in
-    let load : c .before .load .result .0 ≡ bufferLoad (bufferAt (start .args .t2) (start .args .i)) = c .before .load .ensures in
-    simp (lt-leb (bufferLoad (bufferAt (start .args .t2) (start .args .i))) (start .args .t2 .limit .0) (omega (arith, load, c .if1 .taken)))
+unfolding drives
+returns c = simp (fits (c .before) ∙ not-true _ (c .if1 .taken))
 
 driver-requires : tie.Need-driver-requires
 driver-requires c κs = search needs
@@ -34,28 +40,30 @@ driver-requires c κs = search needs
 driven-requires : tie.Need-driven-requires
 unfolding bufferAt bufferOf driverOf
 driven-requires c κs =
-    let start = c .before .before .before .before .before in
+    let start = c .before .before .before .before .before .before .before in
     let driver : c .driver .result ≡ bufferDriver (bufferAt (start .args .t2) (start .args .i)) = c .driver .ensures in
     (rw driver (buffer-driver-fits (start .pre .0 .valid) (start .args .i) (omega arith)), (start .pre .0 .light, start .pre .0 .early))
 
-cast-view : tie.Need-cast-view
-cast-view c = search needs
+budget-at-requires : tie.Need-budget-at-requires
+unfolding bufferAt bufferOf driverOf
+budget-at-requires c κs =
+    let tested = c .before .before .before in
+    let start = tested .before .before .before .before .before in
+    (omega (arith, tested .before .before .load .ensures, buffer-load-most (start .pre .0 .valid) (start .args .i) (omega arith)), start .pre .0 .row)
 
-view-requires : tie.Need-view-requires
-view-requires c κs = search needs
-
-cast-result : tie.Need-cast-result
-cast-result c = omega (arith, c .view .ensures, c .before .before .before .before .before .before .shared-slice-known .given (c .before .before .before .before .before .before .before .args .at .cell * 64 + c .before .before .before .before .load .result .0))
+below-requires : tie.Need-below-requires
+below-requires c κs = search needs
 
 returns-2 : tie.Need-returns-2
 unfolding drives bufferAt bufferOf driverOf
 returns-2 c =
-    let start = c .before .before .before .before .before .before .before in
+    let tested = c .before .before .before .before .before in
+    let start = tested .before .before .before .before .before in
     let b = bufferAt (start .args .t2) (start .args .i) in
-    let load : c .before .before .before .before .load .result .0 ≡ bufferLoad b = c .before .before .before .before .load .ensures in
-    let driver : c .before .before .driver .result ≡ bufferDriver b = c .before .before .driver .ensures in
-    let driven : c .before .driven .result ≡ start .args .at .delay + gateDelay (bufferDriver b) (start .args .at .load) = rw driver at (c .before .driven .ensures) in
-    rw (c .view .ensures) (simp (le-leb (bufferLoad b) (start .args .t2 .limit .0) (omega (arith, load)), load, driven))
+    let load : tested .before .before .load .result .0 ≡ bufferLoad b = tested .before .before .load .ensures in
+    let driver : c .before .before .before .driver .result ≡ bufferDriver b = c .before .before .before .driver .ensures in
+    let driven : c .before .before .driven .result .0 ≡ start .args .at .delay .0 + gateDelay (bufferDriver b) (start .args .at .load .0) = rw driver at (c .before .before .driven .ensures) in
+    simp (c .below .ensures, driven, c .before .budget-at .ensures, load, fits tested ∙ not-false _ (c .before .before .before .before .if1 .left))
 
 pub buffer-drives-spec : {M : Type 1} → statement M
 buffer-drives-spec =
@@ -64,10 +72,10 @@ buffer-drives-spec =
     mul-buffer
     element-copy-out-buffer
     load-requires
+    at-most-requires
     returns
     driver-requires
     driven-requires
-    cast-view
-    view-requires
-    cast-result
+    budget-at-requires
+    below-requires
     returns-2)

@@ -8,11 +8,11 @@ use Rattle.choice.proofs.driven.Tie as tie
 delay-requires : tie.Need-delay-requires
 delay-requires c κs = search needs
 
-add-result : tie.Need-add-result
-add-result c = omega (arith, gate-delay-max (c .before .before .before .args .driver) (c .before .before .before .args .at .load) (c .before .before .before .pre .0) (omega arith))
+plus-requires : tie.Need-plus-requires
+plus-requires c κs = omega (arith, c .delay .ensures, gate-delay-max (c .before .args .driver) (c .before .args .at .load .0) (c .before .pre .0) (omega arith))
 
 returns : tie.Need-returns
 returns c = search needs
 
 pub driven-spec : {M : Type 1} → statement M
-driven-spec = tie.close (tie.spec delay-requires add-result returns)
+driven-spec = tie.close (tie.spec delay-requires plus-requires returns)

@@ -1,12 +1,13 @@
 -- The tests of the code, in the order of the codes, by the laws of `Codes`.
-use Prim.Native.Nat.{ℕ, _+_, _*_, _<_, _≤_}
-use mathlib.Core.Path.{sym, _∙_}
+use Prim.Native.Nat.{ℕ, _<_, _≤_}
+use mathlib.Core.Path.{_≡_, sym, _∙_}
 use mathlib.Core.Logic.{⊎-elim}
 use native.Mathlib.Omega.{arith}
 use borrow.Author.Needs.{needs}
-use lib.Dec.{T}
+use lib.Dec.{T, ltb}
 use lib.ListN.{length, getD}
 use Rattle.rules.specs.Rules.{registerCode}
+use Rattle.rows.specs.Rows.{viewOf}
 use Rattle.labels.specs.Labels.{labelsOf}
 use Rattle.table.specs.Problem.{rulesFor, budgetOf}
 use Rattle.choice.specs.Choice.{delayMost}
@@ -19,28 +20,29 @@ use Rattle.choice.proofs.first_code.Tie as tie
 bits : (c : tie.After-shared-slice-known2) → (k : ℕ) → getD (c .before .before .args .scratch .now) k 0 ≤ delayMost
 bits c k = omega (arith, c .shared-slice-known2 .given k)
 
+-- the test of the delay against the table's word
+tested : (c : tie.After-below) → let a = c .before .before .before .before .args in ltb (a .at .delay .0) (viewOf (a .scratch .now) (a .at .cell) (a .at .load .0)) ≡ c .below .result
+tested c = sym (rw (c .before .budget-at .ensures) at (c .below .ensures))
+
 -- past the buffers, no code below the register's goes on
-low : (c : tie.Joined2) → let a = c .before .before .before .before .before .before .before .before .before .before .args in (code : ℕ) → code < registerCode → T (goesAt (rulesFor (a .p) (a .plan .now)) (labelsOf (length (a .plan .now)) (a .scratch .now)) (budgetOf (length (a .plan .now)) (a .scratch .now)) (a .at) code) → ⊥
+low : (c : tie.Joined2) → let a = c .before .before .before .before .before .before .before .before .before .args in (code : ℕ) → code < registerCode → T (goesAt (rulesFor (a .p) (a .plan .now)) (labelsOf (length (a .plan .now)) (a .scratch .now)) (budgetOf (length (a .plan .now)) (a .scratch .now)) (a .at) code) → ⊥
 low c =
-    let start = c .before .before .before .before .before .before .before .before .before .before in
+    let start = c .before .before .before .before .before .before .before .before .before in
     ⊎-elim
-    (λ w. no-buffer (start .args .p) (start .args .plan .now) (start .args .scratch .now) (start .args .at) (start .pre) (omega (arith, c .before .before .before .before .before .before .view .ensures, c .before .before .before .before .if1 .left)) (sym (c .before .takes-buffers .ensures) ∙ w .0 .taken) _ (w .1 .ensures) (w .3 .left))
-    (λ w. no-site (start .args .p) (start .args .plan .now) (start .args .scratch .now) (start .args .at) (start .pre) (omega (arith, c .before .before .before .before .before .before .view .ensures, c .before .before .before .before .if1 .left)) (sym (c .before .takes-buffers .ensures) ∙ w .left))
+    (λ w. no-buffer (start .args .p) (start .args .plan .now) (start .args .scratch .now) (start .args .at) (start .pre) (tested (c .before .before .before .before .before) ∙ c .before .before .before .before .if1 .left) (sym (c .before .takes-buffers .ensures) ∙ w .0 .taken) _ (w .1 .ensures) (w .3 .left))
+    (λ w. no-site (start .args .p) (start .args .plan .now) (start .args .scratch .now) (start .args .at) (start .pre) (tested (c .before .before .before .before .before) ∙ c .before .before .before .before .if1 .left) (sym (c .before .takes-buffers .ensures) ∙ w .left))
     (c .if2 .came)
 
-cast-view : tie.Need-cast-view
-cast-view c = search needs
+budget-at-requires : tie.Need-budget-at-requires
+budget-at-requires c κs = search needs
 
-view-requires : tie.Need-view-requires
-view-requires c κs = search needs
-
-cast-if1 : tie.Need-cast-if1
-cast-if1 c = omega (arith, c .view .ensures, bits (c .before .before) (c .before .before .before .before .args .at .cell * 64 + c .before .before .before .before .args .at .load))
+below-requires : tie.Need-below-requires
+below-requires c κs = search needs
 
 returns : tie.Need-returns
 returns c =
-    let start = c .before .before .before .before .before .before in
-    code-none (start .args .p) (start .args .plan .now) (start .args .scratch .now) (start .args .at) (start .pre) (bits (c .before .before .before .before)) (omega (arith, c .before .before .view .ensures, c .if1 .taken))
+    let start = c .before .before .before .before .before in
+    code-none (start .args .p) (start .args .plan .now) (start .args .scratch .now) (start .args .at) (start .pre) (bits (c .before .before .before)) (tested (c .before) ∙ c .if1 .taken)
 
 shared-slice-read-takes-buffers : tie.Need-shared-slice-read-takes-buffers
 shared-slice-read-takes-buffers c = search needs
@@ -59,8 +61,8 @@ cast-result c = search needs
 
 returns-2 : tie.Need-returns-2
 returns-2 c =
-    let start = c .before .before .before .before .before .before .before .before .before .before .before .before .before in
-    code-buffer (start .args .p) (start .args .plan .now) (start .args .scratch .now) (start .args .at) (start .pre) (bits (c .before .before .before .before .before .before .before .before .before .before .before)) (omega (arith, c .before .before .before .before .before .before .before .before .before .view .ensures, c .before .before .before .before .before .before .before .if1 .left)) (sym (c .before .before .before .before .takes-buffers .ensures) ∙ c .before .before .before .if2 .taken) _ (c .before .before .first-buffer .ensures) (c .if3 .taken)
+    let start = c .before .before .before .before .before .before .before .before .before .before .before .before in
+    code-buffer (start .args .p) (start .args .plan .now) (start .args .scratch .now) (start .args .at) (start .pre) (bits (c .before .before .before .before .before .before .before .before .before .before)) (tested (c .before .before .before .before .before .before .before .before) ∙ c .before .before .before .before .before .before .before .if1 .left) (sym (c .before .before .before .before .takes-buffers .ensures) ∙ c .before .before .before .if2 .taken) _ (c .before .before .first-buffer .ensures) (c .if3 .taken)
 
 is-seed-requires : tie.Need-is-seed-requires
 is-seed-requires c κs = search needs
@@ -71,28 +73,27 @@ in-time-requires c κs = search needs
 returns-3 : tie.Need-returns-3
 returns-3 c =
     let joined = c .before .before .before .before in
-    let start = joined .before .before .before .before .before .before .before .before .before .before in
-    code-register (start .args .p) (start .args .plan .now) (start .args .scratch .now) (start .args .at) (start .pre) (bits (joined .before .before .before .before .before .before .before .before)) (low joined) (sym (c .before .before .before .is-seed .ensures) ∙ c .before .before .if4 .taken) (sym (c .before .in-time .ensures) ∙ c .if5 .taken)
+    let start = joined .before .before .before .before .before .before .before .before .before in
+    code-register (start .args .p) (start .args .plan .now) (start .args .scratch .now) (start .args .at) (start .pre) (bits (joined .before .before .before .before .before .before .before)) (low joined) (sym (c .before .before .before .is-seed .ensures) ∙ c .before .before .if4 .taken) (sym (c .before .in-time .ensures) ∙ c .if5 .taken)
 
 returns-4 : tie.Need-returns-4
 returns-4 c =
     let joined = c .before .before .before .before in
-    let start = joined .before .before .before .before .before .before .before .before .before .before in
-    code-late (start .args .p) (start .args .plan .now) (start .args .scratch .now) (start .args .at) (start .pre) (bits (joined .before .before .before .before .before .before .before .before)) (low joined) (sym (c .before .in-time .ensures) ∙ c .if5 .left)
+    let start = joined .before .before .before .before .before .before .before .before .before in
+    code-late (start .args .p) (start .args .plan .now) (start .args .scratch .now) (start .args .at) (start .pre) (bits (joined .before .before .before .before .before .before .before)) (low joined) (sym (c .before .in-time .ensures) ∙ c .if5 .left)
 
 returns-5 : tie.Need-returns-5
 returns-5 c =
     let joined = c .before .before in
-    let start = joined .before .before .before .before .before .before .before .before .before .before in
-    code-unseeded (start .args .p) (start .args .plan .now) (start .args .scratch .now) (start .args .at) (start .pre) (bits (joined .before .before .before .before .before .before .before .before)) (low joined) (sym (c .before .is-seed .ensures) ∙ c .if4 .left)
+    let start = joined .before .before .before .before .before .before .before .before .before in
+    code-unseeded (start .args .p) (start .args .plan .now) (start .args .scratch .now) (start .args .at) (start .pre) (bits (joined .before .before .before .before .before .before .before)) (low joined) (sym (c .before .is-seed .ensures) ∙ c .if4 .left)
 
 pub first-code-spec : {M : Type 1} → statement M
 first-code-spec =
     tie.close
     (tie.spec
-    cast-view
-    view-requires
-    cast-if1
+    budget-at-requires
+    below-requires
     returns
     shared-slice-read-takes-buffers
     takes-buffers-requires

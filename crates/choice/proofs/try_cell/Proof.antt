@@ -1,7 +1,8 @@
 -- The load and the delay on arrival are the rules', so that the first code there makes the first visit.
 use Prim.Native.Nat.{_+_, _<_, _≤_}
-use mathlib.Core.Path.{_≡_, refl}
+use mathlib.Core.Path.{_≡_, refl, sym, _∙_}
 use native.Mathlib.Omega.{arith}
+use borrow.Author.Tests.{leb-true, leb-false, not-true, not-false}
 use borrow.Author.Needs.{needs}
 use lib.ListN.{length}
 use Rattle.timing.specs.Formulas.{wireDelay, wireLoad}
@@ -14,11 +15,18 @@ use Rattle.choice.proofs.try_cell.Tie as tie
 inside : (c : tie.Else1) → c .before .before .before .args .cell < length (c .before .before .before .args .plan .now)
 inside c = omega (arith, c .before .before .before .pre .within, c .if1 .left)
 
-loads : (c : tie.After-load) → let a = c .before .before .before .before .args in a .from .load + c .load .result .0 ≡ a .from .load + wireLoad (a .wire)
-loads c = omega (arith, c .load .ensures)
+loads : (c : tie.After-plus) → let a = c .before .before .before .before .before .args in c .plus .result .0 ≡ a .from .load .0 + wireLoad (a .wire)
+loads c = omega (arith, c .plus .ensures, c .before .load .ensures)
 
-delays : (c : tie.After-delay) → let a = c .before .before .before .before .before .before .before .before .before .args in a .from .delay + c .delay .result .0 ≡ a .from .delay + wireDelay (a .wire) (a .from .load)
-delays c = omega (arith, c .delay .ensures)
+delays : (c : tie.After-plus2) → let a = c .before .before .before .before .before .before .before .before .before .args in c .plus2 .result .0 ≡ a .from .delay .0 + wireDelay (a .wire) (a .from .load .0)
+delays c = omega (arith, c .plus2 .ensures, c .before .delay .ensures)
+
+-- the test of the load on arrival
+light : (c : tie.Else2) → c .before .before .plus .result .0 ≤ c .before .before .before .before .before .before .before .args .p .elements .limit .0
+light c = leb-true _ _ (sym (c .before .at-most .ensures) ∙ not-false _ (c .if2 .left))
+
+heavy : (c : tie.Then2) → c .before .before .before .before .before .before .before .args .p .elements .limit .0 < c .before .before .plus .result .0
+heavy c = leb-false _ _ (sym (c .before .at-most .ensures) ∙ not-true _ (c .if2 .taken))
 
 -- a code that is not 8
 small : (c : tie.Else3) → c .before .first-code .result ≤ registerCode
@@ -32,47 +40,52 @@ returns c =
 load-requires : tie.Need-load-requires
 load-requires c κs = search needs
 
-add-load : tie.Need-add-load
+plus-requires : tie.Need-plus-requires
 unfolding wireLoad
-add-load c = omega (arith, c .before .before .load .ensures, c .before .before .before .before .before .before .pre .wireFits .load)
+plus-requires c κs =
+    let start = c .before .before .before .before in
+    (start .pre .asks .inRange .light, omega (arith, c .load .ensures, start .pre .wireFits .load))
+
+at-most-requires : tie.Need-at-most-requires
+at-most-requires c κs = search needs
 
 returns-2 : tie.Need-returns-2
 returns-2 c =
-    let start = c .before .before .before .before .before .before .before .before in
+    let start = c .before .before .before .before .before .before .before in
     let from = start .args .from in
-    too-heavy (start .args .p) (start .args .plan .now) (start .args .scratch .now) (start .args .from) (start .args .cell) (start .args .wire) (start .pre) (inside (c .before .before .before .before .before)) _ (from .delay + wireDelay (start .args .wire) (from .load)) (loads (c .before .before .before .before)) refl (c .if2 .taken)
+    too-heavy (start .args .p) (start .args .plan .now) (start .args .scratch .now) (start .args .from) (start .args .cell) (start .args .wire) (start .pre) (inside (c .before .before .before .before)) _ (from .delay .0 + wireDelay (start .args .wire) (from .load .0)) (loads (c .before .before)) refl (heavy c)
 
 delay-requires : tie.Need-delay-requires
 delay-requires c κs = search needs
 
-add-t15 : tie.Need-add-t15
-add-t15 c =
-    let start = c .before .before .before .before .before .before .before .before .before .before .before in
-    omega (arith, c .before .before .delay .ensures, wire-delay-max (start .args .wire) (start .args .from .load) (start .pre .wireFits) (start .pre .asks .inRange .light))
+plus-requires-2 : tie.Need-plus-requires-2
+plus-requires-2 c κs =
+    let start = c .before .before .before .before .before .before .before .before in
+    omega (arith, c .delay .ensures, start .pre .asks .inRange .early, wire-delay-max (start .args .wire) (start .args .from .load .0) (start .pre .wireFits) (start .pre .asks .inRange .light))
 
-sub-t16 : tie.Need-sub-t16
-sub-t16 c = search needs
+sub-t17 : tie.Need-sub-t17
+sub-t17 c = search needs
 
 first-code-requires : tie.Need-first-code-requires
 first-code-requires c κs =
-    let start = c .before .before .before .before .before .before .before .before .before .before .before .before in
-    at-asks (start .args .p) (start .args .plan .now) (start .args .scratch .now) (start .args .from) (start .args .cell) (start .args .wire) (start .pre) (inside (c .before .before .before .before .before .before .before .before .before)) _ _ (loads (c .before .before .before .before .before .before .before .before)) (delays (c .before .before .before)) (c .before .before .before .before .if2 .left)
+    let start = c .before .before .before .before .before .before .before .before .before .before in
+    at-asks (start .args .p) (start .args .plan .now) (start .args .scratch .now) (start .args .from) (start .args .cell) (start .args .wire) (start .pre) (inside (c .before .before .before .before .before .before .before)) _ _ (loads (c .before .before .before .before .before)) (delays (c .before)) (light (c .before .before .before))
 
 returns-3 : tie.Need-returns-3
 returns-3 c =
-    let start = c .before .before .before .before .before .before .before .before .before .before .before .before .before .before in
-    no-code (start .args .p) (start .args .plan .now) (start .args .scratch .now) (start .args .from) (start .args .cell) (start .args .wire) (start .pre) (inside (c .before .before .before .before .before .before .before .before .before .before .before)) _ _ (loads (c .before .before .before .before .before .before .before .before .before .before)) (delays (c .before .before .before .before .before)) (c .before .before .before .before .before .before .if2 .left) (rw (c .if3 .taken) at (c .before .first-code .ensures))
+    let start = c .before .before .before .before .before .before .before .before .before .before .before .before in
+    no-code (start .args .p) (start .args .plan .now) (start .args .scratch .now) (start .args .from) (start .args .cell) (start .args .wire) (start .pre) (inside (c .before .before .before .before .before .before .before .before .before)) _ _ (loads (c .before .before .before .before .before .before .before)) (delays (c .before .before .before)) (light (c .before .before .before .before .before)) (rw (c .if3 .taken) at (c .before .first-code .ensures))
 
 leave-requires : tie.Need-leave-requires
 leave-requires c κs =
-    let start = c .before .before .before .before .before .before .before .before .before .before .before .before .before .before .before in
-    let asks = at-asks (start .args .p) (start .args .plan .now) (start .args .scratch .now) (start .args .from) (start .args .cell) (start .args .wire) (start .pre) (inside (c .before .before .before .before .before .before .before .before .before .before .before .before)) _ _ (loads (c .before .before .before .before .before .before .before .before .before .before .before)) (delays (c .before .before .before .before .before .before)) (c .before .before .before .before .before .before .before .if2 .left) in
+    let start = c .before .before .before .before .before .before .before .before .before .before .before .before .before in
+    let asks = at-asks (start .args .p) (start .args .plan .now) (start .args .scratch .now) (start .args .from) (start .args .cell) (start .args .wire) (start .pre) (inside (c .before .before .before .before .before .before .before .before .before .before)) _ _ (loads (c .before .before .before .before .before .before .before .before)) (delays (c .before .before .before .before)) (light (c .before .before .before .before .before .before)) in
     (start .pre .asks .ready .valid, (asks .light, (asks .early, small (c .before))))
 
 returns-4 : tie.Need-returns-4
 returns-4 c =
-    let start = c .before .before .before .before .before .before .before .before .before .before .before .before .before .before .before .before in
-    first-visit (start .args .p) (start .args .plan .now) (start .args .scratch .now) (start .args .from) (start .args .cell) (start .args .wire) (start .pre) (inside (c .before .before .before .before .before .before .before .before .before .before .before .before .before)) _ _ (loads (c .before .before .before .before .before .before .before .before .before .before .before .before)) (delays (c .before .before .before .before .before .before .before)) (c .before .before .before .before .before .before .before .before .if2 .left) _ _ (c .leave .ensures) (small (c .before .before)) (c .before .before .before .first-code .ensures)
+    let start = c .before .before .before .before .before .before .before .before .before .before .before .before .before .before in
+    first-visit (start .args .p) (start .args .plan .now) (start .args .scratch .now) (start .args .from) (start .args .cell) (start .args .wire) (start .pre) (inside (c .before .before .before .before .before .before .before .before .before .before .before)) _ _ (loads (c .before .before .before .before .before .before .before .before .before)) (delays (c .before .before .before .before .before)) (light (c .before .before .before .before .before .before .before)) _ _ (c .leave .ensures) (small (c .before .before)) (c .before .before .before .first-code .ensures)
 
 pub try-cell-spec : {M : Type 1} → statement M
 try-cell-spec =
@@ -80,11 +93,12 @@ try-cell-spec =
     (tie.spec
     returns
     load-requires
-    add-load
+    plus-requires
+    at-most-requires
     returns-2
     delay-requires
-    add-t15
-    sub-t16
+    plus-requires-2
+    sub-t17
     first-code-requires
     returns-3
     leave-requires
