@@ -10,6 +10,7 @@ use Rattle.plan.specs.Check.{checkedPlan}
 use Rattle.plan.specs.declared.PlanCheck.{PlanCheck}
 use Rattle.plan.specs.declared.PlanCheck.the-variants.{Valid, Grid, Length, Mark}
 use Rattle.rules.specs.Rules.{Rules, rulesOf}
+pub use Rattle.layout.specs.Layout.{cellWords}
 use Rattle.rules.specs.Legal.{Route}
 use Rattle.rules.specs.Ranking.{registers, steps, latency, written}
 use Rattle.best.specs.Best.{Outcome, found, none, best}
@@ -43,10 +44,6 @@ rulesAsked q = rulesOf (planOf (q .width) (q .height) (q .marks)) (elementsOf (q
 
 unfoldable pub cellsAsked : Question → ℕ
 cellsAsked q = q .width * q .height
-
--- scratch words a cell
-abbrev pub cellWords : ℕ
-cellWords = 256
 
 -- Refusals 1 to 6, in this order, or none of them
 
