@@ -236,5 +236,5 @@ module _ (R : Rules) (n count steps : ℕ) (old : List ℕ) (layers : Layers) (h
 -- at layer 0 there is no budget
 pub back-empty : (n : ℕ) (old : List ℕ) (layers : Layers) → Past n old (layers .steps) (layers .trail) → layers .trail .low ≡ 0 → (new : List ℕ) (t : Trail) → Rewound n 0 old (layers .trail) new t → (i : ℕ) → i < n * arrivalAt → getD new i 0 ≡ 0
 back-empty n old layers p low new t back i h =
-    let e : i / 64 * 64 + i % 64 ≡ i = omega arith in
-    rw e at (back .table (layers .steps) (p .Z) (omega arith) (omega arith) (p .history) (i / 64) (i % 64) (omega arith) (omega arith) ∙ p .none (i / 64) (i % 64))
+    let e : i / rowWords * rowWords + i % rowWords ≡ i = omega arith in
+    rw e at (back .table (layers .steps) (p .Z) (omega arith) (omega arith) (p .history) (i / rowWords) (i % rowWords) (omega arith) (omega arith) ∙ p .none (i / rowWords) (i % rowWords))

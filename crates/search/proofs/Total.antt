@@ -22,14 +22,14 @@ module _ (n : ℕ) (old new : List ℕ) where
   total-kept kept = sum-same (n * arrivalAt) _ _ (λ i h. kept i (omega arith) h)
 
   -- a word of the table, as an entry
-  entry : (words : List ℕ) (i : ℕ) → i < n * arrivalAt → budgetOf n words (i / 64) (i % 64) ≡ getD words i 0
+  entry : (words : List ℕ) (i : ℕ) → i < n * arrivalAt → budgetOf n words (i / rowWords) (i % rowWords) ≡ getD words i 0
   entry words i h =
-      let e : i / 64 * 64 + i % 64 ≡ i = omega arith in
-      budget-at n words (i / 64) (i % 64) (omega arith) (omega arith) ∙ rw e
+      let e : i / rowWords * rowWords + i % rowWords ≡ i = omega arith in
+      budget-at n words (i / rowWords) (i % rowWords) (omega arith) (omega arith) ∙ rw e
 
   pub total-least : ((c l : ℕ) → budgetOf n old c l ≤ budgetOf n new c l) → total n old ≤ total n new
   unfolding total
-  total-least least = sum-least (n * arrivalAt) _ _ (λ i h. omega (arith, entry old i h, entry new i h, least (i / 64) (i % 64)))
+  total-least least = sum-least (n * arrivalAt) _ _ (λ i h. omega (arith, entry old i h, entry new i h, least (i / rowWords) (i % rowWords)))
 
   pub total-grows : ((c l : ℕ) → budgetOf n old c l ≤ budgetOf n new c l) → (c : ℕ) → Grew n old new c → total n old < total n new
   unfolding total
@@ -40,7 +40,7 @@ module _ (n : ℕ) (old new : List ℕ) where
       go (inr k) (inl q) = absurd (omega (arith, g .more, budget-outside n new c (g .load) (λ a b. omega arith)))
       go (inr k) (inr q) =
           sum-grows (n * arrivalAt) (λ i. getD old i 0) (λ i. getD new i 0) (c * rowWords + g .load)
-          (λ i h. omega (arith, entry old i h, entry new i h, least (i / 64) (i % 64)))
+          (λ i h. omega (arith, entry old i h, entry new i h, least (i / rowWords) (i % rowWords)))
           (omega arith)
           (omega (arith, g .more, budget-at n old c (g .load) q k, budget-at n new c (g .load) q k))
 
