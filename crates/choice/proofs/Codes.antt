@@ -22,6 +22,7 @@ use Rattle.budget.specs.Table.{Table, loadOf, bufferCost, closeCost}
 use Rattle.budget.specs.Done.{Labels}
 use Rattle.budget.specs.Emission.{exactSeed}
 use Rattle.budget.proofs.Max.{only-most}
+use Rattle.layout.specs.Layout.{labelsAt}
 use Rattle.labels.specs.Labels.{knownOf, registersOf, stepsOf, labelsOf}
 use Rattle.labels.proofs.Labels.{known-word, word-known}
 use Rattle.costs.specs.Costs.{rowWords}
@@ -140,7 +141,7 @@ module _ (p : Problem) (marks words : List ℕ) (at : State) (asks : CodeAsks p 
   unfolding exactSeed rulesFor rulesOf
   seed-last z = rw z
 
-  seed-other : (k : ℕ) → (k ≡ 0 → ⊥) → (getD words (length marks * 128 + at .cell) 0 ≡ k → ⊥) → exactSeed R m k (at .steps) (at .cell) ≡ false
+  seed-other : (k : ℕ) → (k ≡ 0 → ⊥) → (getD words (length marks * labelsAt + at .cell) 0 ≡ k → ⊥) → exactSeed R m k (at .steps) (at .cell) ≡ false
   unfolding exactSeed
   seed-other zero some f = absurd (some refl)
   seed-other (suc j) some f = go (decided (knownOf (length marks) words (at .cell)))
@@ -149,15 +150,15 @@ module _ (p : Problem) (marks words : List ℕ) (at : State) (asks : CodeAsks p 
       go (inl h) = simp (is-true (knownOf (length marks) words (at .cell)) h, ne-eqb (registersOf (length marks) words (at .cell)) j (λ z. f (omega (arith, known-word (length marks) words (at .cell) h))))
       go (inr h) = simp (is-false (knownOf (length marks) words (at .cell)) h)
 
-  seed-same : (k : ℕ) → (k ≡ 0 → ⊥) → getD words (length marks * 128 + at .cell) 0 ≡ k → exactSeed R m k (at .steps) (at .cell) ≡ leb (stepsOf (length marks) words (at .cell)) (at .steps)
+  seed-same : (k : ℕ) → (k ≡ 0 → ⊥) → getD words (length marks * labelsAt + at .cell) 0 ≡ k → exactSeed R m k (at .steps) (at .cell) ≡ leb (stepsOf (length marks) words (at .cell)) (at .steps)
   unfolding exactSeed
   seed-same zero some e = absurd (some refl)
   seed-same (suc j) some e = simp (is-true (knownOf (length marks) words (at .cell)) (word-known (length marks) words (at .cell) (asks .inPlan) (omega arith)), eq-eqb (registersOf (length marks) words (at .cell)) j (omega arith))
 
-  pub seed-elsewhere : (at .registers ≡ 0 → ⊥) → (getD words (length marks * 128 + at .cell) 0 ≡ at .registers → ⊥) → exactSeed R m (at .registers) (at .steps) (at .cell) ≡ false
+  pub seed-elsewhere : (at .registers ≡ 0 → ⊥) → (getD words (length marks * labelsAt + at .cell) 0 ≡ at .registers → ⊥) → exactSeed R m (at .registers) (at .steps) (at .cell) ≡ false
   seed-elsewhere = seed-other (at .registers)
 
-  pub seed-label : (at .registers ≡ 0 → ⊥) → getD words (length marks * 128 + at .cell) 0 ≡ at .registers → exactSeed R m (at .registers) (at .steps) (at .cell) ≡ leb (stepsOf (length marks) words (at .cell)) (at .steps)
+  pub seed-label : (at .registers ≡ 0 → ⊥) → getD words (length marks * labelsAt + at .cell) 0 ≡ at .registers → exactSeed R m (at .registers) (at .steps) (at .cell) ≡ leb (stepsOf (length marks) words (at .cell)) (at .steps)
   seed-label = seed-same (at .registers)
 
   -- the first code, by the tests

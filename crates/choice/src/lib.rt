@@ -16,6 +16,7 @@ ghost use Rattle.table.specs.Problem.{rulesFor, budgetOf};
 ghost use Rattle.choice.specs.Choice.{ChooseAsks, ChosenAmong, Chosen};
 ghost use Rattle.choice.specs.Codes.{arrivalMost, RowAsks, CodeAsks, TryAsks, FirstCode, FirstBuffer, drives, Left};
 use labels::steps_of;
+use layout::LABELS;
 use plan::neighbours_of;
 use rows::view;
 use table::Problem;
@@ -95,7 +96,7 @@ fn is_seed(plan: &[u8], scratch: &[u16], p: Problem, at: State) -> bool
         return at.cell == p.source;
     }
     let n = plan.len();
-    if scratch[n * 128 + at.cell] != at.registers {
+    if scratch[n * LABELS + at.cell] != at.registers {
         return false;
     }
     steps_of(scratch, n, at.cell) <= at.steps

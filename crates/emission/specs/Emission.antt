@@ -9,6 +9,7 @@ use Rattle.rules.specs.Ranking.{written, IsBest}
 use Rattle.budget.specs.Done.{Least, Labelled}
 use Rattle.budget.specs.Emission.{FirstEnding, visit}
 use Rattle.costs.specs.Costs.{CostsOf}
+use Rattle.layout.specs.Layout.{cellWords}
 use Rattle.rows.specs.Words.{Filled, KeptFrom}
 use Rattle.labels.specs.Labels.{labelsOf}
 use Rattle.choice.specs.declared.State.{State}
@@ -37,13 +38,13 @@ pub record Emitting (R : Rules) (n k s count : ℕ) (words₀ words : List ℕ) 
   pub labels : Labelled R k before (labelsOf n words)
   pub held : Held R n count words layers
   pub same : length words ≡ length words₀
-  pub rest : KeptFrom (n * 256) words₀ words
+  pub rest : KeptFrom (n * cellWords) words₀ words
 
 -- After `emit`: the first words are the best route's visits, two words each.
 pub record Emitted (R : Rules) (n steps : ℕ) (words₀ words : List ℕ) (visits₀ visits : List ℕ) : Type 0 where
   pub filled : (r : Route) → IsBest R r → Filled (λ i. getD (written r) i 0) 0 (2 * (steps + 1)) visits₀ visits
   pub same : length words ≡ length words₀
-  pub rest : KeptFrom (n * 256) words₀ words
+  pub rest : KeptFrom (n * cellWords) words₀ words
 
 -- Before `emit`: the search has found these figures, and the visits have room.
 pub record EmitAsks (p : Problem) (marks costs : List ℕ) (count registers steps : ℕ) (words visits : List ℕ) : Type 0 where

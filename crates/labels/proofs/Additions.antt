@@ -12,6 +12,8 @@ use Rattle.rules.specs.Legal.{mayStand}
 use Rattle.plan.proofs.Truth.{split, equal, decided}
 use Rattle.budget.specs.Done.{NotAfter}
 use Rattle.budget.specs.Search.{Relabelled}
+use Rattle.costs.specs.Costs.{rowWords}
+use Rattle.layout.specs.Layout.{activeAt}
 use Rattle.lists.specs.Lists.{flagOf, Place, Listed}
 use Rattle.lists.proofs.Lists.{bit-cases}
 use Rattle.table.specs.Problem.{budgetOf}
@@ -139,15 +141,15 @@ module _ {R : Rules} {n registers steps : ℕ} where
 
 -- the loop: after the first i cells of the list, one more
 module _ {R : Rules} {n registers steps : ℕ} {old mid new : List ℕ} {i count middle next cell : ℕ} where
-  pub labels-more : LabelsAddedAmong R n (Place n old (n * 132) i) registers steps old mid count middle → getD mid (n * 132 + i) 0 ≡ cell → LabelsAddedAmong R n (λ c. c ≡ cell) registers steps mid new middle next → LabelsAddedAmong R n (Place n old (n * 132) (i + 1)) registers steps old new count next
-  labels-more a e b = labels-join a b (Place n old (n * 132) (i + 1)) (λ c p. go c p (equal (p .at) i))
+  pub labels-more : LabelsAddedAmong R n (Place n old (n * activeAt) i) registers steps old mid count middle → getD mid (n * activeAt + i) 0 ≡ cell → LabelsAddedAmong R n (λ c. c ≡ cell) registers steps mid new middle next → LabelsAddedAmong R n (Place n old (n * activeAt) (i + 1)) registers steps old new count next
+  labels-more a e b = labels-join a b (Place n old (n * activeAt) (i + 1)) (λ c p. go c p (equal (p .at) i))
     where
-      go : (c : ℕ) → (p : Place n old (n * 132) (i + 1) c) → (p .at ≡ i) ⊎ (p .at ≡ i → ⊥) → Place n old (n * 132) i c ⊎ (c ≡ cell)
-      go c p (inl q) = inr (sym (p .holds) ∙ ap (λ (j : ℕ). getD old (n * 132 + j) 0) q ∙ sym (a .high (n * 132 + i) (omega arith)) ∙ e)
+      go : (c : ℕ) → (p : Place n old (n * activeAt) (i + 1) c) → (p .at ≡ i) ⊎ (p .at ≡ i → ⊥) → Place n old (n * activeAt) i c ⊎ (c ≡ cell)
+      go c p (inl q) = inr (sym (p .holds) ∙ ap (λ (j : ℕ). getD old (n * activeAt + j) 0) q ∙ sym (a .high (n * activeAt + i) (omega arith)) ∙ e)
       go c p (inr q) = inl (record { at = p .at; below = omega (arith, p .below); holds = p .holds })
 
 -- The search's view, where a cell that is not listed has its label already.
-pub labels-relabelled : {R : Rules} {n registers steps active : ℕ} {old new : List ℕ} {count next : ℕ} → Listed n old (n * 132) active → LabelsAdded R n registers steps old new count next → ((c : ℕ) → c < n → flagOf n old c ≡ 0 → T (mayStand R c registerCode) → R .fresh .delay < budgetOf n old c (R .fresh .load) → T (knownOf n old c)) → Relabelled R registers steps (budgetOf n old) (labelsOf n old) (labelsOf n new)
+pub labels-relabelled : {R : Rules} {n registers steps active : ℕ} {old new : List ℕ} {count next : ℕ} → Listed n old (n * activeAt) active → LabelsAdded R n registers steps old new count next → ((c : ℕ) → c < n → flagOf n old c ≡ 0 → T (mayStand R c registerCode) → R .fresh .delay < budgetOf n old c (R .fresh .load) → T (knownOf n old c)) → Relabelled R registers steps (budgetOf n old) (labelsOf n old) (labelsOf n new)
 labels-relabelled {R} {n} {registers} {steps} {active} {old} {new} l a quiet =
     record { kept = a .kept; added = a .added; every = λ c s f. go c s f (inside n c (R .fresh .load)) }
   where
@@ -155,6 +157,6 @@ labels-relabelled {R} {n} {registers} {steps} {active} {old} {new} l a quiet =
     listed c h s f (inl z) = a .kept c (quiet c h z s f) .0
     listed c h s f (inr o) = a .every c h o s f
 
-    go : (c : ℕ) → T (mayStand R c registerCode) → R .fresh .delay < budgetOf n old c (R .fresh .load) → ((c < n) × (R .fresh .load < 64)) ⊎ (c < n → R .fresh .load < 64 → ⊥) → T (knownOf n new c)
+    go : (c : ℕ) → T (mayStand R c registerCode) → R .fresh .delay < budgetOf n old c (R .fresh .load) → ((c < n) × (R .fresh .load < rowWords)) ⊎ (c < n → R .fresh .load < rowWords → ⊥) → T (knownOf n new c)
     go c s f (inl h) = listed c (h .0) s f (bit-cases (flagOf n old c) (l .bits c (h .0)))
     go c s f (inr h) = absurd (omega (arith, budget-outside n old c (R .fresh .load) h))

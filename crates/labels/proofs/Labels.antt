@@ -10,6 +10,7 @@ use lib.ListN.{getD}
 use Rattle.rules.specs.Rules.{Rules}
 use Rattle.plan.proofs.Truth.{both, fst, snd, tests, split, equal, decided, is-true, is-false}
 use Rattle.budget.specs.Done.{NotAfter, Labelled, seedAt}
+use Rattle.layout.specs.Layout.{labelsAt, stepsLowAt, stepsHighAt, orderAt, activeAt}
 use Rattle.lists.specs.Lists.{Place}
 use Rattle.lists.proofs.Sums.{sum-same, sum-bound, sum-none, sum-more, sum-short}
 use Rattle.labels.specs.Labels.{knownOf, registersOf, stepsOf, labelsOf, orderOf, one, Ordered, SameLabel, LabelAdded}
@@ -19,17 +20,17 @@ use Rattle.labels.specs.Labels.{knownOf, registersOf, stepsOf, labelsOf,
 module _ (n : ℕ) (words : List ℕ) (c : ℕ) where
   pub known-below : T (knownOf n words c) → c < n
   unfolding knownOf
-  known-below h = omega (arith, tests, fst (ltb c n) (not (eqb (getD words (n * 128 + c) 0) 0)) h)
+  known-below h = omega (arith, tests, fst (ltb c n) (not (eqb (getD words (n * labelsAt + c) 0) 0)) h)
 
-  pub known-word : T (knownOf n words c) → 0 < getD words (n * 128 + c) 0
+  pub known-word : T (knownOf n words c) → 0 < getD words (n * labelsAt + c) 0
   unfolding knownOf
-  known-word h = omega (arith, tests, snd (ltb c n) (not (eqb (getD words (n * 128 + c) 0) 0)) h)
+  known-word h = omega (arith, tests, snd (ltb c n) (not (eqb (getD words (n * labelsAt + c) 0) 0)) h)
 
-  pub word-known : c < n → 0 < getD words (n * 128 + c) 0 → T (knownOf n words c)
+  pub word-known : c < n → 0 < getD words (n * labelsAt + c) 0 → T (knownOf n words c)
   unfolding knownOf
-  word-known h k = both (ltb c n) (not (eqb (getD words (n * 128 + c) 0) 0)) (omega (arith, tests)) (omega (arith, tests))
+  word-known h k = both (ltb c n) (not (eqb (getD words (n * labelsAt + c) 0) 0)) (omega (arith, tests)) (omega (arith, tests))
 
-  pub word-unknown : getD words (n * 128 + c) 0 ≡ 0 → knownOf n words c ≡ false
+  pub word-unknown : getD words (n * labelsAt + c) 0 ≡ 0 → knownOf n words c ≡ false
   word-unknown e = go (decided (knownOf n words c))
     where
       go : T (knownOf n words c) ⊎ T (not (knownOf n words c)) → knownOf n words c ≡ false
@@ -45,12 +46,12 @@ one-bit false = omega arith
 
 -- labels that stay
 
-pub same-label : (n : ℕ) (old new : List ℕ) (c : ℕ) → getD new (n * 128 + c) 0 ≡ getD old (n * 128 + c) 0 → getD new (n * 129 + c) 0 ≡ getD old (n * 129 + c) 0 → getD new (n * 130 + c) 0 ≡ getD old (n * 130 + c) 0 → SameLabel n old new c
+pub same-label : (n : ℕ) (old new : List ℕ) (c : ℕ) → getD new (n * labelsAt + c) 0 ≡ getD old (n * labelsAt + c) 0 → getD new (n * stepsLowAt + c) 0 ≡ getD old (n * stepsLowAt + c) 0 → getD new (n * stepsHighAt + c) 0 ≡ getD old (n * stepsHighAt + c) 0 → SameLabel n old new c
 unfolding knownOf
 same-label n old new c r l h = record { known = cc; registers = cc; steps = cc }
 
 -- the words of the labels are as they were
-module _ (n : ℕ) (old new : List ℕ) (kept : (k : ℕ) → n * 128 ≤ k → k < n * 131 → getD new k 0 ≡ getD old k 0) where
+module _ (n : ℕ) (old new : List ℕ) (kept : (k : ℕ) → n * labelsAt ≤ k → k < n * orderAt → getD new k 0 ≡ getD old k 0) where
   pub label-kept : (c : ℕ) → c < n → SameLabel n old new c
   label-kept c h = same-label n old new c (kept _ (omega arith) (omega arith)) (kept _ (omega arith) (omega arith)) (kept _ (omega arith) (omega arith))
 
@@ -107,7 +108,7 @@ module _ {n : ℕ} {words : List ℕ} {count : ℕ} (o : Ordered n words count) 
       go (inl q) = absurd (omega arith)
       go (inr q) = q .1
 
-pub ordered-none : (n : ℕ) (words : List ℕ) → ((c : ℕ) → c < n → getD words (n * 128 + c) 0 ≡ 0) → Ordered n words 0
+pub ordered-none : (n : ℕ) (words : List ℕ) → ((c : ℕ) → c < n → getD words (n * labelsAt + c) 0 ≡ 0) → Ordered n words 0
 ordered-none n words z =
     record {
       cells = λ i h. absurd (omega arith);
@@ -117,7 +118,7 @@ ordered-none n words z =
       ascending = λ i j h k. absurd (omega arith);
     }
 
-pub ordered-kept : {n : ℕ} {old : List ℕ} {count : ℕ} → Ordered n old count → (new : List ℕ) → ((k : ℕ) → n * 128 ≤ k → k < n * 132 → getD new k 0 ≡ getD old k 0) → Ordered n new count
+pub ordered-kept : {n : ℕ} {old : List ℕ} {count : ℕ} → Ordered n old count → (new : List ℕ) → ((k : ℕ) → n * labelsAt ≤ k → k < n * activeAt → getD new k 0 ≡ getD old k 0) → Ordered n new count
 ordered-kept {n} {old} {count} o new w =
     record {
       cells = λ i h. omega (arith, place i h, o .cells i h);
@@ -127,7 +128,7 @@ ordered-kept {n} {old} {count} o new w =
       ascending = λ i j h k. rw (place i (omega arith), place j k) (later-same (label i (omega arith)) (label j k) (o .ascending i j h k));
     }
   where
-    labels : (k : ℕ) → n * 128 ≤ k → k < n * 131 → getD new k 0 ≡ getD old k 0
+    labels : (k : ℕ) → n * labelsAt ≤ k → k < n * orderAt → getD new k 0 ≡ getD old k 0
     labels k h j = w k h (omega arith)
 
     place : (i : ℕ) → i < count → orderOf n new i ≡ orderOf n old i
@@ -136,7 +137,7 @@ ordered-kept {n} {old} {count} o new w =
     label : (i : ℕ) → i < count → SameLabel n old new (orderOf n old i)
     label i h = label-kept n old new labels (orderOf n old i) (o .cells i h)
 
-    at : (c : ℕ) → Place n old (n * 131) count c → Place n new (n * 131) count c
+    at : (c : ℕ) → Place n old (n * orderAt) count c → Place n new (n * orderAt) count c
     at c p = record { at = p .at; below = p .below; holds = place (p .at) (p .below) ∙ p .holds }
 
 -- one label more, not before the others
@@ -156,10 +157,10 @@ module _ {n : ℕ} {old : List ℕ} {count : ℕ} (o : Ordered n old count) (new
   labelled i k (inl e) = rw (e, at-end) known
   labelled i k (inr e) = let j : i < count = omega arith in rw (earlier i j, other i j .known) (o .known i j)
 
-  more : (c : ℕ) → Place n old (n * 131) count c → Place n new (n * 131) (count + 1) c
+  more : (c : ℕ) → Place n old (n * orderAt) count c → Place n new (n * orderAt) (count + 1) c
   more c p = record { at = p .at; below = omega arith; holds = earlier (p .at) (p .below) ∙ p .holds }
 
-  place : (c : ℕ) → T (knownOf n new c) → (c ≡ cell) ⊎ (c ≡ cell → ⊥) → Place n new (n * 131) (count + 1) c
+  place : (c : ℕ) → T (knownOf n new c) → (c ≡ cell) ⊎ (c ≡ cell → ⊥) → Place n new (n * orderAt) (count + 1) c
   place c t (inl e) = record { at = count; below = omega arith; holds = at-end ∙ sym e }
   place c t (inr e) = more c (o .covered c (rw (others c (known-below n new c t) e .known) at t))
 

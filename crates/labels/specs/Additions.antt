@@ -8,6 +8,7 @@ use lib.ListN.{length, getD}
 use Rattle.rules.specs.Rules.{Rules, registerCode}
 use Rattle.rules.specs.Legal.{mayStand}
 use Rattle.budget.specs.Done.{NotAfter}
+use Rattle.layout.specs.Layout.{labelsAt, activeAt}
 use Rattle.lists.specs.Lists.{flagOf}
 use Rattle.table.specs.declared.problem.Problem.{Problem}
 use Rattle.table.specs.Problem.{rulesFor, Ready, Room, budgetOf}
@@ -30,8 +31,8 @@ pub record LabelAsks (p : Problem) (marks : List ℕ) (registers steps count : �
 -- Only the words of the labels and of the order change.
 pub record LabelsAddedAmong (R : Rules) (n : ℕ) (tried : ℕ → Type 0) (registers steps : ℕ) (old new : List ℕ) (count next : ℕ) : Type 0 where
   pub same : length new ≡ length old
-  pub low : (k : ℕ) → k < n * 128 → getD new k 0 ≡ getD old k 0
-  pub high : (k : ℕ) → n * 132 ≤ k → getD new k 0 ≡ getD old k 0
+  pub low : (k : ℕ) → k < n * labelsAt → getD new k 0 ≡ getD old k 0
+  pub high : (k : ℕ) → n * activeAt ≤ k → getD new k 0 ≡ getD old k 0
   pub ordered : Ordered n new next
   pub more : count ≤ next
   pub earlier : (i : ℕ) → i < count → orderOf n new i ≡ orderOf n old i

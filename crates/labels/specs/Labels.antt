@@ -1,6 +1,4 @@
 -- The labels in the scratch words of n cells, and what the functions on them leave.
--- A label: registers to go plus one at 128n + cell (0 for no label), steps low at 129n + cell, steps high at 130n + cell.
--- The order of the labels is at 131n, the active list at 132n, the seed flags at 135n.
 use Prim.Native.Nat.{ℕ, _+_, _-_, _*_, _≤_, _<_}
 use mathlib.Core.Path.{_≡_}
 use mathlib.Core.Bool.{Bool, false, _&&_, not, cond}
@@ -8,25 +6,24 @@ use mathlib.Core.List.{List}
 use lib.Dec.{T, eqb, ltb}
 use lib.ListN.{length, getD}
 use Rattle.budget.specs.Done.{Labels, NotAfter}
+use Rattle.layout.specs.Layout.{labelsAt, stepsLowAt, stepsHighAt, orderAt, activeAt, nextAt, listedAt, trailAt}
 use Rattle.lists.specs.Lists.{sumBelow, flagOf, Place, Listed}
+use Rattle.table.specs.Problem.{seedWord}
 
 unfoldable pub knownOf : ℕ → List ℕ → ℕ → Bool
-knownOf n words c = ltb c n && not (eqb (getD words (n * 128 + c) 0) 0)
+knownOf n words c = ltb c n && not (eqb (getD words (n * labelsAt + c) 0) 0)
 
 abbrev pub registersOf : ℕ → List ℕ → ℕ → ℕ
-registersOf n words c = getD words (n * 128 + c) 0 - 1
+registersOf n words c = getD words (n * labelsAt + c) 0 - 1
 
 abbrev pub stepsOf : ℕ → List ℕ → ℕ → ℕ
-stepsOf n words c = getD words (n * 129 + c) 0 + getD words (n * 130 + c) 0 * 65536
+stepsOf n words c = getD words (n * stepsLowAt + c) 0 + getD words (n * stepsHighAt + c) 0 * 65536
 
 abbrev pub labelsOf : ℕ → List ℕ → Labels
 labelsOf n words = record { known = knownOf n words; registers = registersOf n words; steps = stepsOf n words }
 
 abbrev pub orderOf : ℕ → List ℕ → ℕ → ℕ
-orderOf n words i = getD words (n * 131 + i) 0
-
-abbrev pub seedOf : ℕ → List ℕ → ℕ → ℕ
-seedOf n words c = getD words (n * 135 + c) 0
+orderOf n words i = getD words (n * orderAt + i) 0
 
 -- 1 for a test that passes, 0 for one that fails
 abbrev pub one : Bool → ℕ
@@ -36,7 +33,7 @@ one b = cond b 1 0
 pub record Ordered (n : ℕ) (words : List ℕ) (count : ℕ) : Type 0 where
   pub cells : (i : ℕ) → i < count → orderOf n words i < n
   pub known : (i : ℕ) → i < count → T (knownOf n words (orderOf n words i))
-  pub covered : (c : ℕ) → T (knownOf n words c) → Place n words (n * 131) count c
+  pub covered : (c : ℕ) → T (knownOf n words c) → Place n words (n * orderAt) count c
   pub counted : count ≡ sumBelow n (λ c. one (knownOf n words c))
   pub ascending :
       (i j : ℕ) → i ≤ j → j < count →
@@ -56,7 +53,7 @@ pub record Labelable (n cell registers steps count : ℕ) (words : List ℕ) : T
   pub last : (c : ℕ) → T (knownOf n words c) → NotAfter (registersOf n words c) (stepsOf n words c) registers steps
   pub few : registers < 65535
   pub small : n ≤ 1024
-  pub room : n * 136 ≤ length words
+  pub room : n * trailAt ≤ length words
 
 -- After `label`: the cell has this label and is the last of the order; the other labels, the order before it, and the words outside of both stay.
 pub record LabelAdded (n cell registers steps count : ℕ) (old new : List ℕ) : Type 0 where
@@ -68,37 +65,37 @@ pub record LabelAdded (n cell registers steps count : ℕ) (old new : List ℕ) 
   pub registersSet : registersOf n new cell ≡ registers
   pub stepsSet : stepsOf n new cell ≡ steps
   pub others : (c : ℕ) → c < n → (c ≡ cell → ⊥) → SameLabel n old new c
-  pub low : (k : ℕ) → k < n * 128 → getD new k 0 ≡ getD old k 0
-  pub high : (k : ℕ) → n * 132 ≤ k → getD new k 0 ≡ getD old k 0
+  pub low : (k : ℕ) → k < n * labelsAt → getD new k 0 ≡ getD old k 0
+  pub high : (k : ℕ) → n * activeAt ≤ k → getD new k 0 ≡ getD old k 0
 
 -- After `plant`: the cell is a seed and listed; the flags of other cells, and all words but those of the active list and the flags, stay.
 pub record Planted (n cell : ℕ) (old new : List ℕ) (active : ℕ) : Type 0 where
   pub same : length new ≡ length old
-  pub listed : Listed n new (n * 132) active
+  pub listed : Listed n new (n * activeAt) active
   pub nowFlagged : flagOf n new cell ≡ 1
-  pub nowSeed : seedOf n new cell ≡ 1
+  pub nowSeed : seedWord n new cell ≡ 1
   pub others : (c : ℕ) → c < n → (c ≡ cell → ⊥) → flagOf n new c ≡ flagOf n old c
-  pub otherSeeds : (c : ℕ) → c < n → (c ≡ cell → ⊥) → seedOf n new c ≡ seedOf n old c
-  pub low : (k : ℕ) → k < n * 132 → getD new k 0 ≡ getD old k 0
-  pub middle : (k : ℕ) → n * 133 ≤ k → k < n * 134 → getD new k 0 ≡ getD old k 0
-  pub high : (k : ℕ) → n * 136 ≤ k → getD new k 0 ≡ getD old k 0
+  pub otherSeeds : (c : ℕ) → c < n → (c ≡ cell → ⊥) → seedWord n new c ≡ seedWord n old c
+  pub low : (k : ℕ) → k < n * activeAt → getD new k 0 ≡ getD old k 0
+  pub middle : (k : ℕ) → n * nextAt ≤ k → k < n * listedAt → getD new k 0 ≡ getD old k 0
+  pub high : (k : ℕ) → n * trailAt ≤ k → getD new k 0 ≡ getD old k 0
 
 -- The labels of the order from `from` up to `to`, of at most these steps, have become seeds; `active` cells are listed.
 pub record Arrived (n from to steps : ℕ) (old new : List ℕ) (active : ℕ) : Type 0 where
   pub same : length new ≡ length old
   pub forth : from ≤ to
   pub inTime : (i : ℕ) → from ≤ i → i < to → stepsOf n old (orderOf n old i) ≤ steps
-  pub listed : Listed n new (n * 132) active
+  pub listed : Listed n new (n * activeAt) active
   pub someListed : from < to → 0 < active
-  pub seeds : (i : ℕ) → from ≤ i → i < to → seedOf n new (orderOf n old i) ≡ 1
-  pub seedsStay : (c : ℕ) → c < n → seedOf n old c ≡ 1 → seedOf n new c ≡ 1
-  pub otherSeeds : (c : ℕ) → c < n → ((i : ℕ) → from ≤ i → i < to → orderOf n old i ≡ c → ⊥) → seedOf n new c ≡ seedOf n old c
+  pub seeds : (i : ℕ) → from ≤ i → i < to → seedWord n new (orderOf n old i) ≡ 1
+  pub seedsStay : (c : ℕ) → c < n → seedWord n old c ≡ 1 → seedWord n new c ≡ 1
+  pub otherSeeds : (c : ℕ) → c < n → ((i : ℕ) → from ≤ i → i < to → orderOf n old i ≡ c → ⊥) → seedWord n new c ≡ seedWord n old c
   pub flags : (i : ℕ) → from ≤ i → i < to → flagOf n new (orderOf n old i) ≡ 1
   pub flagsStay : (c : ℕ) → c < n → flagOf n old c ≡ 1 → flagOf n new c ≡ 1
   pub otherFlags : (c : ℕ) → c < n → ((i : ℕ) → from ≤ i → i < to → orderOf n old i ≡ c → ⊥) → flagOf n new c ≡ flagOf n old c
-  pub low : (k : ℕ) → k < n * 132 → getD new k 0 ≡ getD old k 0
-  pub middle : (k : ℕ) → n * 133 ≤ k → k < n * 134 → getD new k 0 ≡ getD old k 0
-  pub high : (k : ℕ) → n * 136 ≤ k → getD new k 0 ≡ getD old k 0
+  pub low : (k : ℕ) → k < n * activeAt → getD new k 0 ≡ getD old k 0
+  pub middle : (k : ℕ) → n * nextAt ≤ k → k < n * listedAt → getD new k 0 ≡ getD old k 0
+  pub high : (k : ℕ) → n * trailAt ≤ k → getD new k 0 ≡ getD old k 0
 
 -- After `arrive`: it went up to `to`, the end or the first label of more steps.
 pub record ArrivedAll (n from end steps : ℕ) (old new : List ℕ) (to active : ℕ) : Type 0 where

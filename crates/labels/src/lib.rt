@@ -7,16 +7,23 @@ pub use sites::may_register;
 ghost use mathlib.Core.Path.{_≡_};
 ghost use Prim.Native.Nat.{ℕ, _*_, _≤_, _<_};
 ghost use lib.ListN.{length};
+ghost use Rattle.layout.specs.Layout.{activeAt, trailAt};
 ghost use Rattle.lists.specs.Lists.{Listed};
 ghost use Rattle.labels.specs.Labels.{labelsOf, orderOf, Labelable, LabelAdded, Planted, ArrivedAll};
+use layout::ACTIVE;
+use layout::LABELS;
+use layout::ORDER;
+use layout::SEEDS;
+use layout::STEPS_HIGH;
+use layout::STEPS_LOW;
 use lists::enlist;
 
 // The label's steps.
 pub fn steps_of(scratch: &[u16], n: usize, cell: usize) -> u32
-    requires { ⌜ (cell < n) × ((n ≤ 1024) × (n * 136 ≤ length (now scratch))) ⌝ }
+    requires { ⌜ (cell < n) × ((n ≤ 1024) × (n * trailAt ≤ length (now scratch))) ⌝ }
     ensures { λ r. ⌜ r ≡ labelsOf n (now (scratch .entry)) .steps cell ⌝ }
 {
-    scratch[n * 129 + cell] as u32 + scratch[n * 130 + cell] as u32 * 65536
+    scratch[n * STEPS_LOW + cell] as u32 + scratch[n * STEPS_HIGH + cell] as u32 * 65536
 }
 
 // The cell is labelled, and joins the order of `count` labels.
@@ -24,19 +31,19 @@ pub fn label(scratch: &mut [u16], n: usize, cell: usize, registers: u16, steps: 
     requires { ⌜ Labelable n cell registers steps count (now scratch) ⌝ }
     ensures { λ _. ⌜ LabelAdded n cell registers steps count (now (scratch .entry)) (now (scratch .exit)) ⌝ }
 {
-    scratch[n * 128 + cell] = registers + 1;
-    scratch[n * 129 + cell] = (steps % 65536) as u16;
-    scratch[n * 130 + cell] = (steps / 65536) as u16;
-    scratch[n * 131 + count] = cell as u16;
+    scratch[n * LABELS + cell] = registers + 1;
+    scratch[n * STEPS_LOW + cell] = (steps % 65536) as u16;
+    scratch[n * STEPS_HIGH + cell] = (steps / 65536) as u16;
+    scratch[n * ORDER + count] = cell as u16;
 }
 
 // The cell becomes a seed and joins the active list. The list's new count.
 pub fn plant(scratch: &mut [u16], n: usize, cell: usize, active: usize) -> usize
-    requires { ⌜ Listed n (now scratch) (n * 132) active × ((cell < n) × ((n ≤ 1024) × (n * 136 ≤ length (now scratch)))) ⌝ }
+    requires { ⌜ Listed n (now scratch) (n * activeAt) active × ((cell < n) × ((n ≤ 1024) × (n * trailAt ≤ length (now scratch)))) ⌝ }
     ensures { λ r. ⌜ Planted n cell (now (scratch .entry)) (now (scratch .exit)) r ⌝ }
 {
-    scratch[n * 135 + cell] = 1;
-    enlist(scratch, n, n * 132, active, cell)
+    scratch[n * SEEDS + cell] = 1;
+    enlist(scratch, n, n * ACTIVE, active, cell)
 }
 
 pub struct Arrivals {
@@ -53,13 +60,13 @@ pub fn arrive(
     steps: u32,
     active: usize,
 ) -> Arrivals
-    requires { ⌜ Listed n (now scratch) (n * 132) active × ((at ≤ end) × ((end ≤ n) × (((i : ℕ) → i < end → orderOf n (now scratch) i < n) × ((n ≤ 1024) × (n * 136 ≤ length (now scratch)))))) ⌝ }
+    requires { ⌜ Listed n (now scratch) (n * activeAt) active × ((at ≤ end) × ((end ≤ n) × (((i : ℕ) → i < end → orderOf n (now scratch) i < n) × ((n ≤ 1024) × (n * trailAt ≤ length (now scratch)))))) ⌝ }
     ensures { λ r. ⌜ ArrivedAll n at end steps (now (scratch .entry)) (now (scratch .exit)) (r .at) (r .active) ⌝ }
 {
     let mut i = at;
     let mut listed = active;
     while i < end {
-        let cell = scratch[n * 131 + i] as usize;
+        let cell = scratch[n * ORDER + i] as usize;
         if steps < steps_of(scratch, n, cell) {
             return Arrivals {
                 at: i,

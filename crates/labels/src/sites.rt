@@ -5,10 +5,14 @@ ghost use lib.ListN.{length};
 ghost use Rattle.timing.specs.Valid.{Valid};
 ghost use Rattle.rules.specs.Rules.{registerCode};
 ghost use Rattle.rules.specs.Legal.{mayStand};
+ghost use Rattle.costs.specs.Costs.{rowWords};
+ghost use Rattle.layout.specs.Layout.{activeAt};
 ghost use Rattle.lists.specs.Lists.{Listed};
 ghost use Rattle.table.specs.Problem.{Ready, rulesFor};
 ghost use Rattle.labels.specs.Additions.{FreshIn, LabelAsks, LabelsAddedAmong, LabelsAdded};
 use crate::label;
+use layout::ACTIVE;
+use layout::LABELS;
 use plan::is_tap;
 use rows::view;
 use table::Problem;
@@ -29,7 +33,7 @@ pub fn may_register(plan: &[u8], p: Problem, cell: usize) -> bool
 
 // The fresh state at the cell has come into the table; also the sink's start state, which is the same.
 pub fn fresh_in(scratch: &[u16], p: Problem, cell: usize) -> bool
-    requires { ⌜ Valid (p .elements) × (cell * 64 + 64 ≤ length (now scratch)) ⌝ }
+    requires { ⌜ Valid (p .elements) × (cell * rowWords + rowWords ≤ length (now scratch)) ⌝ }
     ensures { λ r. ⌜ FreshIn p (now (scratch .entry)) cell r ⌝ }
 {
     let elements = p.elements;
@@ -53,7 +57,7 @@ fn label_cell(
     ensures { λ r. ⌜ LabelsAddedAmong (rulesFor p (now (plan .entry))) (length (now (plan .entry))) (λ c. c ≡ cell) registers steps (now (scratch .entry)) (now (scratch .exit)) count r ⌝ }
 {
     let n = plan.len();
-    if 0 < scratch[n * 128 + cell] {
+    if 0 < scratch[n * LABELS + cell] {
         return count;
     }
     if !fresh_in(scratch, p, cell) {
@@ -76,14 +80,14 @@ pub fn label_active(
     steps: u32,
     count: usize,
 ) -> usize
-    requires { ⌜ LabelAsks p (now plan) registers steps count (now scratch) × Listed (length (now plan)) (now scratch) (length (now plan) * 132) active ⌝ }
+    requires { ⌜ LabelAsks p (now plan) registers steps count (now scratch) × Listed (length (now plan)) (now scratch) (length (now plan) * activeAt) active ⌝ }
     ensures { λ r. ⌜ LabelsAdded (rulesFor p (now (plan .entry))) (length (now (plan .entry))) registers steps (now (scratch .entry)) (now (scratch .exit)) count r ⌝ }
 {
     let n = plan.len();
     let mut known = count;
     let mut i = 0;
     while i < active {
-        let cell = scratch[n * 132 + i] as usize;
+        let cell = scratch[n * ACTIVE + i] as usize;
         known = label_cell(plan, scratch, p, cell, registers, steps, known);
         i += 1;
     }

@@ -3,6 +3,7 @@ use Prim.Native.Nat.{ℕ, zero, suc, _+_, _*_, _≤_, _<_}
 use mathlib.Core.Path.{_≡_}
 use mathlib.Core.List.{List}
 use lib.ListN.{length, getD}
+use Rattle.layout.specs.Layout.{activeAt, nextAt, listedAt, seedsAt}
 
 -- f 0 + .. + f (n - 1)
 unfoldable pub sumBelow : ℕ → (ℕ → ℕ) → ℕ
@@ -10,7 +11,7 @@ sumBelow zero f = 0
 sumBelow (suc n) f = sumBelow n f + f n
 
 abbrev pub flagOf : ℕ → List ℕ → ℕ → ℕ
-flagOf n words c = getD words (n * 134 + c) 0
+flagOf n words c = getD words (n * listedAt + c) 0
 
 pub record Place (n : ℕ) (words : List ℕ) (base count c : ℕ) : Type 0 where
   pub at : ℕ
@@ -32,12 +33,12 @@ pub record Enlisted (n base count cell : ℕ) (old new : List ℕ) (next : ℕ) 
   pub now-flagged : flagOf n new cell ≡ 1
   pub others : (c : ℕ) → c < n → (c ≡ cell → ⊥) → flagOf n new c ≡ flagOf n old c
   pub low : (k : ℕ) → k < base + count → getD new k 0 ≡ getD old k 0
-  pub middle : (k : ℕ) → base + n ≤ k → k < n * 134 → getD new k 0 ≡ getD old k 0
-  pub high : (k : ℕ) → n * 135 ≤ k → getD new k 0 ≡ getD old k 0
+  pub middle : (k : ℕ) → base + n ≤ k → k < n * listedAt → getD new k 0 ≡ getD old k 0
+  pub high : (k : ℕ) → n * seedsAt ≤ k → getD new k 0 ≡ getD old k 0
 
 -- After `take_list`: the active list is the next list; all other words stay.
 pub record Taken (n count : ℕ) (old new : List ℕ) : Type 0 where
   pub same : length new ≡ length old
-  pub listed : Listed n new (n * 132) count
-  pub low : (k : ℕ) → k < n * 132 → getD new k 0 ≡ getD old k 0
-  pub high : (k : ℕ) → n * 133 ≤ k → getD new k 0 ≡ getD old k 0
+  pub listed : Listed n new (n * activeAt) count
+  pub low : (k : ℕ) → k < n * activeAt → getD new k 0 ≡ getD old k 0
+  pub high : (k : ℕ) → n * nextAt ≤ k → getD new k 0 ≡ getD old k 0

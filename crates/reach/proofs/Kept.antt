@@ -8,11 +8,12 @@ use Rattle.rules.specs.Rules.{Rules}
 use Rattle.budget.specs.Table.{Table, RepresentsRow}
 use Rattle.budget.specs.Emission.{exactSeed, Reaches}
 use Rattle.budget.proofs.Reaches.{Exact, source-seed, seed-at-source, exact-test, exact-view, step-more}
+use Rattle.layout.specs.Layout.{labelsAt, orderAt}
 use Rattle.rows.specs.Words.{Kept}
 use Rattle.labels.specs.Labels.{labelsOf, SameLabel}
 use Rattle.labels.proofs.Labels.{known-below, known-kept, label-kept}
 
-module _ (R : Rules) (n : ℕ) (old new : List ℕ) (kept : Kept (n * 128) (n * 131) old new) where
+module _ (R : Rules) (n : ℕ) (old new : List ℕ) (kept : Kept (n * labelsAt) (n * orderAt) old new) where
   pub exact-kept : (k u c : ℕ) → T (exactSeed R (labelsOf n old) k u c) → T (exactSeed R (labelsOf n new) k u c)
   exact-kept zero u c t = source-seed R (labelsOf n new) u c (seed-at-source R (labelsOf n old) u c t)
   exact-kept (suc j) u c t =
@@ -26,7 +27,7 @@ module _ (R : Rules) (n : ℕ) (old new : List ℕ) (kept : Kept (n * 128) (n * 
   reaches-kept k (suc u) c l d x = step-more (λ i. exact-kept k u i) (λ c l d. reaches-kept k u c l d) c l d x
 
 -- so a row of the states by the old labels is one by the new
-pub row-kept : (R : Rules) (n : ℕ) (old new : List ℕ) → Kept (n * 128) (n * 131) old new → (k u : ℕ) {A : Table} {c : ℕ} → RepresentsRow A (Reaches R (labelsOf n old) k u) c → RepresentsRow A (Reaches R (labelsOf n new) k u) c
+pub row-kept : (R : Rules) (n : ℕ) (old new : List ℕ) → Kept (n * labelsAt) (n * orderAt) old new → (k u : ℕ) {A : Table} {c : ℕ} → RepresentsRow A (Reaches R (labelsOf n old) k u) c → RepresentsRow A (Reaches R (labelsOf n new) k u) c
 row-kept R n old new kept k u {c = c} row =
     record {
       sound = λ l d h. reaches-kept R n old new kept k u c l d (row .sound l d h);

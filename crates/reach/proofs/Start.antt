@@ -16,6 +16,7 @@ use Rattle.budget.specs.Colours.{LabelsInStep}
 use Rattle.budget.proofs.Layer.{row-of}
 use Rattle.budget.proofs.Colours.{source-in-step}
 use Rattle.budget.proofs.Reaches.{source-seed, seed-at-source, exact-view, reaches-start}
+use Rattle.layout.specs.Layout.{arrivalAt, labelsAt, orderAt, activeAt, seedsAt}
 use Rattle.lists.specs.Lists.{Place, Listed}
 use Rattle.rows.specs.Words.{Kept}
 use Rattle.table.specs.Problem.{budgetOf, seedOf}
@@ -38,14 +39,14 @@ module _ (R : Rules) (n : ℕ) (old mid : List ℕ) (z : Cleared n old mid) wher
   pub start-list : {P : ℕ → Bool} → ActiveIn R n P mid 0
   start-list = cleared-active R n mid (z .rows) (z .flags)
 
-  pub listed : Listed n mid (n * 132) 0
+  pub listed : Listed n mid (n * activeAt) 0
   listed = start-list {P = λ c. true} .listed
 
-  pub start-labels : Kept (n * 128) (n * 132) old mid
+  pub start-labels : Kept (n * labelsAt) (n * activeAt) old mid
   start-labels i lo hi = z .kept i (omega arith) (omega arith)
 
   -- no budget, so the table of no steps
-  no-budget : (new : List ℕ) → ((i : ℕ) → i < n * 64 → getD new i 0 ≡ getD mid i 0) → (c l : ℕ) → budgetOf n new c l ≡ 0
+  no-budget : (new : List ℕ) → ((i : ℕ) → i < n * arrivalAt → getD new i 0 ≡ getD mid i 0) → (c l : ℕ) → budgetOf n new c l ≡ 0
   no-budget new kept c l = budget-kept n mid new (λ i lo hi. kept i hi) c l ∙ cleared-table n mid (z .rows) c l
 
   no-steps : (k : ℕ) {A : Table} → ((c l : ℕ) → A c l ≡ 0) → (c : ℕ) → RepresentsRow A (Reaches R (labelsOf n old) k 0) c
@@ -85,7 +86,7 @@ module _ (R : Rules) (n : ℕ) (old mid : List ℕ) (z : Cleared n old mid) wher
       is-source : (c : ℕ) → c < n → T (seedOf n new c) → (c ≡ R .source) ⊎ (c ≡ R .source → ⊥) → c ≡ R .source
       is-source c h t (inl e) = e
       is-source c h t (inr e) =
-          absurd (omega (arith, seed-word n new c t, p .otherSeeds c h e, z .flags (n * 135 + c) (omega arith) (omega arith)))
+          absurd (omega (arith, seed-word n new c t, p .otherSeeds c h e, z .flags (n * seedsAt + c) (omega arith) (omega arith)))
 
   -- with k registers to go, of which the first is at a label
   module _ (k count : ℕ) (some : 0 < k) (o : Ordered n old count) (inStep : LabelsInStep R (labelsOf n old)) (from end : ℕ) (f : FirstWith n mid count (k - 1) from) (g : FirstWith n mid count k end) where
@@ -111,14 +112,14 @@ module _ (R : Rules) (n : ℕ) (old mid : List ℕ) (z : Cleared n old mid) wher
           atEnd = from-end;
           endCount = g .within;
           waits = λ i lo hi. omega (arith, registers-are i (omega (arith, g .within)), f .enough i lo (omega (arith, g .within)), g .fewer i hi);
-          sound = λ c h t. absurd (unknown-not (cleared-seed n mid c (z .flags (n * 135 + c) (omega arith) (omega arith))) t);
+          sound = λ c h t. absurd (unknown-not (cleared-seed n mid c (z .flags (n * seedsAt + c) (omega arith) (omega arith))) t);
           complete = λ c t h e. let x = exact-label R (labelsOf n old) k t c some e in inr (due c (x .1) (o .covered c (x .0)));
           inStep = inStep;
           soon = λ h. omega arith;
           coloured = coloured-none R 0 listed refl;
         }
       where
-        due : (c : ℕ) → suc (registersOf n old c) ≡ k → Place n old (n * 131) count c → Due n old from end c
+        due : (c : ℕ) → suc (registersOf n old c) ≡ k → Place n old (n * orderAt) count c → Due n old from end c
         due c e p = go (split from (p .at)) (split end (p .at))
           where
             are : registersOf n mid (orderOf n mid (p .at)) ≡ registersOf n old c

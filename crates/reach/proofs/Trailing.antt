@@ -17,6 +17,7 @@ use Rattle.budget.proofs.Cone.{cone-in, cone-of}
 use Rattle.budget.proofs.Layer.{row-of, same-row}
 use Rattle.budget.proofs.Reaches.{reaches-start}
 use Rattle.costs.specs.Costs.{rowWords}
+use Rattle.layout.specs.Layout.{arrivalAt, labelsAt, orderAt}
 use Rattle.rows.specs.Words.{Kept}
 use Rattle.trail.specs.declared.Trail.{Trail}
 use Rattle.trail.specs.Trail.{Sound, stamped, newTrail, TrailKept, followed, Rewound}
@@ -116,14 +117,14 @@ module _ (R : Rules) (n k : ℕ) (P : ℕ → ℕ → Bool) (old : List ℕ) whe
         }
 
     -- the table and the trail stay
-    pub trail-kept : (new : List ℕ) → Kept 0 (n * 64) words new → TrailKept n words new → Trailing R n k P old new u t
+    pub trail-kept : (new : List ℕ) → Kept 0 (n * arrivalAt) words new → TrailKept n words new → Trailing R n k P old new u t
     trail-kept new table kept =
         record {
           past =
               record {
                 Z = r .past .Z;
                 sound = sound-kept n words t new (r .past .sound) kept;
-                history = history-kept n words t new (r .past .sound) kept u (r .past .Z) (λ c h l q. table (c * 64 + l) (omega arith) (omega arith)) (r .past .history);
+                history = history-kept n words t new (r .past .sound) kept u (r .past .Z) (λ c h l q. table (c * rowWords + l) (omega arith) (omega arith)) (r .past .history);
                 none = r .past .none;
                 outside = r .past .outside;
               };
@@ -142,7 +143,7 @@ module _ (R : Rules) (n k : ℕ) (P : ℕ → ℕ → Bool) (old : List ℕ) whe
 
 -- The end of a span's run, at a cell: in the layer of s steps, the rows next to a cell that is near enough are in the cone.
 module _ (R : Rules) (n k : ℕ) (old new : List ℕ) (width cell : ℕ) (wide : 0 < width) (apart : Lipschitz R (apartBy width cell)) (u active at end count : ℕ) (t : Trail) (g : Current R n k (inCone (apartBy width cell) (u + 1)) old new u active at end count) (r : Trailing R n k (inCone (apartBy width cell) (u + 1)) old new u t) where
-  kept-seeds : Kept (n * 128) (n * 131) old new
+  kept-seeds : Kept (n * labelsAt) (n * orderAt) old new
   kept-seeds i lo hi = g .reaching .labels i lo (omega arith)
 
   near-in : (s x c : ℕ) → T (inCone (apartBy width cell) u s x) → T (R .linked x c) → T (inCone (apartBy width cell) (u + 1) s c)
@@ -196,7 +197,7 @@ module _ (R : Rules) (n count steps : ℕ) (old : List ℕ) (layers : Layers) (h
   backTo k =
       record { registers = k; steps = steps; width = layers .width; from = layers .from; most = layers .most; trail = t }
 
-  kept-labels : Kept (n * 128) (n * 131) old new
+  kept-labels : Kept (n * labelsAt) (n * orderAt) old new
   kept-labels i lo hi = back .kept i (omega arith)
 
   pub back-table : (c l : ℕ) → budgetOf n new c l ≡ held .past .Z steps c l
@@ -233,7 +234,7 @@ module _ (R : Rules) (n count steps : ℕ) (old : List ℕ) (layers : Layers) (h
   back-loaded cell registers e near = rw e at (loaded-back cell near)
 
 -- at layer 0 there is no budget
-pub back-empty : (n : ℕ) (old : List ℕ) (layers : Layers) → Past n old (layers .steps) (layers .trail) → layers .trail .low ≡ 0 → (new : List ℕ) (t : Trail) → Rewound n 0 old (layers .trail) new t → (i : ℕ) → i < n * 64 → getD new i 0 ≡ 0
+pub back-empty : (n : ℕ) (old : List ℕ) (layers : Layers) → Past n old (layers .steps) (layers .trail) → layers .trail .low ≡ 0 → (new : List ℕ) (t : Trail) → Rewound n 0 old (layers .trail) new t → (i : ℕ) → i < n * arrivalAt → getD new i 0 ≡ 0
 back-empty n old layers p low new t back i h =
-    let e : i / 64 * 64 + i % 64 ≡ i = omega arith in
-    rw e at (back .table (layers .steps) (p .Z) (omega arith) (omega arith) (p .history) (i / 64) (i % 64) (omega arith) (omega arith) ∙ p .none (i / 64) (i % 64))
+    let e : i / rowWords * rowWords + i % rowWords ≡ i = omega arith in
+    rw e at (back .table (layers .steps) (p .Z) (omega arith) (omega arith) (p .history) (i / rowWords) (i % rowWords) (omega arith) (omega arith) ∙ p .none (i / rowWords) (i % rowWords))

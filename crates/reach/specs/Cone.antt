@@ -5,6 +5,7 @@ use mathlib.Core.Bool.{Bool}
 use mathlib.Core.List.{List}
 use lib.Dec.{T}
 use lib.ListN.{length, getD}
+use Rattle.layout.specs.Layout.{activeAt, nextAt, seedsAt, trailAt}
 use Rattle.lists.specs.Lists.{flagOf, Place, Listed}
 use Rattle.table.specs.declared.problem.Problem.{Problem}
 
@@ -12,33 +13,33 @@ use Rattle.table.specs.declared.problem.Problem.{Problem}
 pub record ListAsks (n active width : ℕ) (words : List ℕ) : Type 0 where
   pub unflagged : (c : ℕ) → c < n → flagOf n words c ≡ 0
   pub short : active ≤ n
-  pub cells : (i : ℕ) → i < active → getD words (n * 132 + i) 0 < n
+  pub cells : (i : ℕ) → i < active → getD words (n * activeAt + i) 0 < n
   pub wide : 0 < width
   pub few : n ≤ 1024
-  pub room : n * 136 ≤ length words
+  pub room : n * trailAt ≤ length words
 
 -- After `list_inside`: the next list has the cells of the active list that are in P, and no other.
 pub record ListedInside (n active : ℕ) (P : ℕ → Bool) (old new : List ℕ) (count : ℕ) : Type 0 where
   pub same : length new ≡ length old
-  pub listed : Listed n new (n * 133) count
-  pub fewer : (c : ℕ) → c < n → flagOf n new c ≡ 1 → Place n old (n * 132) active c
-  pub inside : (i : ℕ) → i < active → T (P (getD old (n * 132 + i) 0)) → flagOf n new (getD old (n * 132 + i) 0) ≡ 1
-  pub low : (k : ℕ) → k < n * 133 → getD new k 0 ≡ getD old k 0
-  pub high : (k : ℕ) → n * 135 ≤ k → getD new k 0 ≡ getD old k 0
+  pub listed : Listed n new (n * nextAt) count
+  pub fewer : (c : ℕ) → c < n → flagOf n new c ≡ 1 → Place n old (n * activeAt) active c
+  pub inside : (i : ℕ) → i < active → T (P (getD old (n * activeAt + i) 0)) → flagOf n new (getD old (n * activeAt + i) 0) ≡ 1
+  pub low : (k : ℕ) → k < n * nextAt → getD new k 0 ≡ getD old k 0
+  pub high : (k : ℕ) → n * seedsAt ≤ k → getD new k 0 ≡ getD old k 0
 
 pub record DropAsks (p : Problem) (n active : ℕ) (words : List ℕ) : Type 0 where
-  pub listed : Listed n words (n * 132) active
+  pub listed : Listed n words (n * activeAt) active
   pub wide : 0 < p .width
   pub narrow : p .width ≤ 32
   pub low : p .height ≤ 32
   pub few : n ≤ 1024
-  pub room : n * 136 ≤ length words
+  pub room : n * trailAt ≤ length words
 
 -- After `drop_outside`: only cells that are not in P have left the list.
 pub record Dropped (n : ℕ) (P : ℕ → Bool) (old new : List ℕ) (active : ℕ) : Type 0 where
   pub same : length new ≡ length old
-  pub listed : Listed n new (n * 132) active
+  pub listed : Listed n new (n * activeAt) active
   pub fewer : (c : ℕ) → c < n → flagOf n new c ≡ 1 → flagOf n old c ≡ 1
   pub inside : (c : ℕ) → c < n → T (P c) → flagOf n new c ≡ flagOf n old c
-  pub low : (k : ℕ) → k < n * 132 → getD new k 0 ≡ getD old k 0
-  pub high : (k : ℕ) → n * 135 ≤ k → getD new k 0 ≡ getD old k 0
+  pub low : (k : ℕ) → k < n * activeAt → getD new k 0 ≡ getD old k 0
+  pub high : (k : ℕ) → n * seedsAt ≤ k → getD new k 0 ≡ getD old k 0

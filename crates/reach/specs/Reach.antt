@@ -14,6 +14,7 @@ use Rattle.budget.specs.Cone.{RepresentsIn, inCone}
 use Rattle.budget.specs.Emission.{exactSeed, Reaches}
 use Rattle.budget.specs.Colours.{LabelsInStep}
 use Rattle.costs.specs.Costs.{rowWords, CostsOf}
+use Rattle.layout.specs.Layout.{arrivalAt, labelsAt, activeAt, listedAt, trailAt, cellWords}
 use Rattle.rows.specs.Words.{Kept, KeptFrom}
 use Rattle.trail.specs.declared.Trail.{Trail}
 use Rattle.trail.specs.Trail.{Sound, History}
@@ -47,16 +48,16 @@ pub record Past (n : ℕ) (words : List ℕ) (u : ℕ) (t : Trail) : Type 0 wher
 -- After `clear_table`: no budget; the words after the table stay.
 pub record TableCleared (n : ℕ) (old new : List ℕ) : Type 0 where
   pub same : length new ≡ length old
-  pub rows : (i : ℕ) → i < n * 64 → getD new i 0 ≡ 0
-  pub rest : KeptFrom (n * 64) old new
+  pub rows : (i : ℕ) → i < n * arrivalAt → getD new i 0 ≡ 0
+  pub rest : KeptFrom (n * arrivalAt) old new
 
 -- After `clear_span`: no budget, no cell listed, no seed; the other words stay.
 pub record Cleared (n : ℕ) (old new : List ℕ) : Type 0 where
   pub same : length new ≡ length old
-  pub rows : (i : ℕ) → i < n * 64 → getD new i 0 ≡ 0
-  pub flags : (i : ℕ) → n * 134 ≤ i → i < n * 136 → getD new i 0 ≡ 0
-  pub kept : Kept (n * 64) (n * 134) old new
-  pub rest : KeptFrom (n * 136) old new
+  pub rows : (i : ℕ) → i < n * arrivalAt → getD new i 0 ≡ 0
+  pub flags : (i : ℕ) → n * listedAt ≤ i → i < n * trailAt → getD new i 0 ≡ 0
+  pub kept : Kept (n * arrivalAt) (n * listedAt) old new
+  pub rest : KeptFrom (n * trailAt) old new
 
 -- the cell waits in the order, from `at` up to `end`
 pub record Due (n : ℕ) (words : List ℕ) (at end c : ℕ) : Type 0 where
@@ -69,8 +70,8 @@ pub record Due (n : ℕ) (words : List ℕ) (at end c : ℕ) : Type 0 where
 -- `old` are the words from which the labels and the order are kept.
 pub record Reaching (R : Rules) (n k : ℕ) (P : ℕ → ℕ → Bool) (old words : List ℕ) (u active at end count : ℕ) : Type 0 where
   pub same : length words ≡ length old
-  pub labels : Kept (n * 128) (n * 132) old words
-  pub rest : KeptFrom (n * 256) old words
+  pub labels : Kept (n * labelsAt) (n * activeAt) old words
+  pub rest : KeptFrom (n * cellWords) old words
   pub table : RepresentsIn (P u) (budgetOf n words) (Reaches R (labelsOf n old) k u)
   pub list : ActiveIn R n (P u) words active
   pub ordered : Ordered n old count
@@ -139,6 +140,6 @@ pub record LoadAsks (p : Problem) (marks costs : List ℕ) (count : ℕ) (words 
 pub record Loaded (R : Rules) (n count cell registers steps : ℕ) (old new : List ℕ) (layers : Layers) : Type 0 where
   pub same : length new ≡ length old
   pub near : (c : ℕ) → T (R .linked cell c) → RepresentsRow (budgetOf n new) (Reaches R (labelsOf n new) registers steps) c
-  pub labels : Kept (n * 128) (n * 132) old new
-  pub rest : KeptFrom (n * 256) old new
+  pub labels : Kept (n * labelsAt) (n * activeAt) old new
+  pub rest : KeptFrom (n * cellWords) old new
   pub held : Held R n count new layers

@@ -4,6 +4,10 @@ ghost use mathlib.Core.Path.{_≡_};
 ghost use Rattle.plan.specs.Apart.{gap, apartBy};
 ghost use Rattle.budget.specs.Cone.{inCone};
 ghost use Rattle.reach.specs.Cone.{ListAsks, ListedInside, DropAsks, Dropped};
+use layout::ACTIVE;
+use layout::LISTED;
+use layout::NEXT;
+use layout::SEEDS;
 use lists::enlist;
 use lists::take_list;
 use rows::clear;
@@ -51,9 +55,9 @@ fn list_inside(
     let mut i = 0;
     let mut count = 0;
     while i < active {
-        let cell = scratch[n * 132 + i] as usize;
+        let cell = scratch[n * ACTIVE + i] as usize;
         if in_cone(width, from, most, u, cell) {
-            count = enlist(scratch, n, n * 133, count, cell);
+            count = enlist(scratch, n, n * NEXT, count, cell);
         }
         i += 1;
     }
@@ -77,7 +81,7 @@ pub fn drop_outside(
     if u as usize + p.width + p.height <= most + 2 {
         return active;
     }
-    clear(scratch, n * 134, n * 135);
+    clear(scratch, n * LISTED, n * SEEDS);
     let count = list_inside(scratch, n, active, p.width, from, most, u as usize);
     take_list(scratch, n, count);
     count

@@ -1,6 +1,7 @@
 // The start of a span: no budget, and the seeds that need no steps.
 ghost use Prim.Native.Nat.{_*_, _≤_, _<_};
 ghost use lib.ListN.{length};
+ghost use Rattle.layout.specs.Layout.{trailAt, cellWords};
 ghost use Rattle.table.specs.Problem.{rulesFor};
 ghost use Rattle.labels.specs.Labels.{orderOf, Ordered};
 ghost use Rattle.reach.specs.Reach.{FirstWith, NextSteps, Past, TableCleared, Cleared, Started, SpanAsks};
@@ -8,21 +9,26 @@ use crate::layers::Layers;
 use labels::arrive;
 use labels::plant;
 use labels::steps_of;
+use layout::ARRIVAL;
+use layout::LABELS;
+use layout::LISTED;
+use layout::ORDER;
+use layout::TRAIL;
 use rows::clear;
 use table::Problem;
 use trail::rewind;
 
 // The first place of the order, up to `count`, whose label has at least these registers to go.
 fn first_with(scratch: &[u16], n: usize, count: usize, registers: u16) -> usize
-    requires { ⌜ Ordered n (now scratch) count × ((n ≤ 1024) × (n * 136 ≤ length (now scratch))) ⌝ }
+    requires { ⌜ Ordered n (now scratch) count × ((n ≤ 1024) × (n * trailAt ≤ length (now scratch))) ⌝ }
     ensures { λ r. ⌜ FirstWith n (now (scratch .entry)) count registers r ⌝ }
 {
     let mut low = 0;
     let mut high = count;
     while low < high {
         let mid = (low + high) / 2;
-        let cell = scratch[n * 131 + mid] as usize;
-        if registers < scratch[n * 128 + cell] {
+        let cell = scratch[n * ORDER + mid] as usize;
+        if registers < scratch[n * LABELS + cell] {
             high = mid;
         } else {
             low = mid + 1;
@@ -33,13 +39,13 @@ fn first_with(scratch: &[u16], n: usize, count: usize, registers: u16) -> usize
 
 // The steps of the next label that waits, at most `steps`.
 pub fn next_steps(scratch: &[u16], n: usize, at: usize, end: usize, steps: u32) -> u32
-    requires { ⌜ (at < end → orderOf n (now scratch) at < n) × ((end ≤ n) × ((n ≤ 1024) × (n * 136 ≤ length (now scratch)))) ⌝ }
+    requires { ⌜ (at < end → orderOf n (now scratch) at < n) × ((end ≤ n) × ((n ≤ 1024) × (n * trailAt ≤ length (now scratch)))) ⌝ }
     ensures { λ r. ⌜ NextSteps n (now (scratch .entry)) at end steps r ⌝ }
 {
     if end <= at {
         return steps;
     }
-    let first = steps_of(scratch, n, scratch[n * 131 + at] as usize);
+    let first = steps_of(scratch, n, scratch[n * ORDER + at] as usize);
     if steps <= first {
         return steps;
     }
@@ -48,7 +54,7 @@ pub fn next_steps(scratch: &[u16], n: usize, at: usize, end: usize, steps: u32) 
 
 // The table becomes 0: on the trail, if that goes back to layer 0.
 fn clear_table(scratch: &mut [u16], n: usize, layers: Layers)
-    requires { ⌜ Past n (now scratch) (layers .steps) (layers .trail) × ((n ≤ 1024) × (n * 256 ≤ length (now scratch))) ⌝ }
+    requires { ⌜ Past n (now scratch) (layers .steps) (layers .trail) × ((n ≤ 1024) × (n * cellWords ≤ length (now scratch))) ⌝ }
     ensures { λ _. ⌜ TableCleared n (now (scratch .entry)) (now (scratch .exit)) ⌝ }
 {
     let trail = layers.trail;
@@ -56,16 +62,16 @@ fn clear_table(scratch: &mut [u16], n: usize, layers: Layers)
         rewind(scratch, n, trail, 0);
         return;
     }
-    clear(scratch, 0, n * 64);
+    clear(scratch, 0, n * ARRIVAL);
 }
 
 // The table, the flags and the seed flags become 0.
 fn clear_span(scratch: &mut [u16], n: usize, layers: Layers)
-    requires { ⌜ Past n (now scratch) (layers .steps) (layers .trail) × ((n ≤ 1024) × (n * 256 ≤ length (now scratch))) ⌝ }
+    requires { ⌜ Past n (now scratch) (layers .steps) (layers .trail) × ((n ≤ 1024) × (n * cellWords ≤ length (now scratch))) ⌝ }
     ensures { λ _. ⌜ Cleared n (now (scratch .entry)) (now (scratch .exit)) ⌝ }
 {
     clear_table(scratch, n, layers);
-    clear(scratch, n * 134, n * 136);
+    clear(scratch, n * LISTED, n * TRAIL);
 }
 
 // The labels of the order that wait, from `at` up to `end`, and the count of the active list.

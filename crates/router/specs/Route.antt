@@ -11,6 +11,7 @@ use Rattle.plan.specs.Check.{checkedPlan}
 use Rattle.plan.specs.declared.PlanCheck.{PlanCheck}
 use Rattle.plan.specs.declared.PlanCheck.the-variants.{Valid, Grid, Length, Mark}
 use Rattle.rules.specs.Rules.{Rules, rulesOf}
+pub use Rattle.layout.specs.Layout.{cellWords}
 use Rattle.rules.specs.Legal.{Route}
 use Rattle.rules.specs.Ranking.{registers, steps, latency, written}
 use Rattle.best.specs.Best.{Outcome, found, none, best}
@@ -44,10 +45,6 @@ rulesAsked q = rulesOf (planOf (q .width) (q .height) (q .marks)) (elementsOf (q
 
 unfoldable pub cellsAsked : Question → ℕ
 cellsAsked q = q .width * q .height
-
--- scratch words a cell
-abbrev pub cellWords : ℕ
-cellWords = 256
 
 -- Refusals 1 to 6, in this order, or none of them
 

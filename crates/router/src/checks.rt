@@ -16,6 +16,7 @@ use answers::check_tables;
 use answers::ends_fault;
 use answers::read_list;
 use costs::costs_of;
+use layout::CELL_WORDS;
 use plan::PlanCheck;
 use plan::check_plan;
 use table::Problem;
@@ -46,7 +47,7 @@ fn after_plan(
             if ends_fault(cells, source, sink) {
                 return Answer::Refused(Refusal::Ends);
             }
-            if scratch.len() < cells as usize * 256 {
+            if scratch.len() < cells as usize * CELL_WORDS {
                 return Answer::Refused(Refusal::Scratch);
             }
             let elements = checked.elements;

@@ -10,6 +10,10 @@ use answers::Figures;
 use answers::Refusal;
 use costs::COSTS;
 use emission::emit;
+use layout::ARRIVAL;
+use layout::CELL_WORDS;
+use layout::LABELS;
+use layout::TRAIL;
 use rows::clear;
 use search::Reached;
 use search::search;
@@ -38,11 +42,11 @@ fn write_route(
         latency: latency,
     };
     if visits.len() < 2 * (steps as usize + 1) {
-        clear(scratch, 0, n * 256);
+        clear(scratch, 0, n * CELL_WORDS);
         return Answer::NoRoom(figures);
     }
     emit(plan, scratch, p, costs, count, registers, steps, visits);
-    clear(scratch, 0, n * 256);
+    clear(scratch, 0, n * CELL_WORDS);
     Answer::Found(figures)
 }
 
@@ -58,15 +62,15 @@ pub fn route_ready(
     ensures { λ r. ⌜ RouteDone p (now (plan .entry)) (now (scratch .entry)) (now (scratch .exit)) (now (visits .entry)) (now (visits .exit)) r ⌝ }
 {
     let n = plan.len();
-    clear(scratch, 0, n * 64);
-    clear(scratch, n * 128, n * 136);
+    clear(scratch, 0, n * ARRIVAL);
+    clear(scratch, n * LABELS, n * TRAIL);
     let reached = search(plan, scratch, p, costs);
     match reached {
         Reached::Sink(registers, steps, count) => {
             return write_route(plan, scratch, p, costs, visits, registers, steps, count);
         }
         Reached::Nothing => {
-            clear(scratch, 0, n * 256);
+            clear(scratch, 0, n * CELL_WORDS);
             return Answer::Refused(Refusal::NoRoute);
         }
     }

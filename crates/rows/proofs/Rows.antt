@@ -43,9 +43,9 @@ module _ (words : List ℕ) (from to : ℕ) (costs : List ℕ) (base step : ℕ)
   row-stays e l h = omega (arith, max-none rowWords growth e l h)
 
 -- one cell's row is filled: another cell's lies before or after it
-pub row-elsewhere : {F : ℕ → ℕ} {cell : ℕ} {old new : List ℕ} → Filled F (cell * 64) rowWords old new → (c l : ℕ) → l < rowWords → (c ≡ cell → ⊥) → viewOf new c l ≡ viewOf old c l
+pub row-elsewhere : {F : ℕ → ℕ} {cell : ℕ} {old new : List ℕ} → Filled F (cell * rowWords) rowWords old new → (c l : ℕ) → l < rowWords → (c ≡ cell → ⊥) → viewOf new c l ≡ viewOf old c l
 row-elsewhere {cell = cell} {old} {new} f c l k q = go (split cell c)
   where
     go : (cell ≤ c) ⊎ (c < cell) → viewOf new c l ≡ viewOf old c l
-    go (inl h) = f .high (c * 64 + l) (omega arith)
-    go (inr h) = f .low (c * 64 + l) (omega arith)
+    go (inl h) = f .high (c * rowWords + l) (omega arith)
+    go (inr h) = f .low (c * rowWords + l) (omega arith)

@@ -10,7 +10,7 @@ use Rattle.costs.specs.Costs.{rowWords, costWords, wordMost}
 
 -- the table's word for a cell and a load
 abbrev pub viewOf : List ℕ → ℕ → ℕ → ℕ
-viewOf words cell load = getD words (cell * 64 + load) 0
+viewOf words cell load = getD words (cell * rowWords + load) 0
 
 -- what the costs at `base` leave of the cell's row
 unfoldable pub copied : List ℕ → ℕ → List ℕ → ℕ → ℕ → ℕ

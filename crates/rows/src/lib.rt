@@ -37,15 +37,15 @@ pub fn clear(scratch: &mut [u16], at: usize, end: usize)
 
 // The table's word for a cell and a load.
 pub fn view(scratch: &[u16], cell: usize, load: usize) -> u16
-    requires { ⌜ (load < rowWords) × (cell * 64 + rowWords ≤ length (now scratch)) ⌝ }
+    requires { ⌜ (load < rowWords) × (cell * rowWords + rowWords ≤ length (now scratch)) ⌝ }
     ensures { λ r. ⌜ r ≡ viewOf (now (scratch .entry)) cell load ⌝ }
 {
-    scratch[cell * 64 + load]
+    scratch[cell * ROW + load]
 }
 
 // The row at `to` becomes what the costs at `base` leave of the cell's row of the table.
 pub fn copy_row(scratch: &mut [u16], cell: usize, to: usize, costs: &[u16; COSTS], base: usize)
-    requires { ⌜ (base + rowWords ≤ costWords) × ((cell * 64 + rowWords ≤ to) × (to + rowWords ≤ length (now scratch))) ⌝ }
+    requires { ⌜ (base + rowWords ≤ costWords) × ((cell * rowWords + rowWords ≤ to) × (to + rowWords ≤ length (now scratch))) ⌝ }
     ensures { λ _. ⌜ Filled (copied (now (scratch .entry)) cell (now (costs .entry)) base) to rowWords (now (scratch .entry)) (now (scratch .exit)) ⌝ }
 {
     let mut l = 0;

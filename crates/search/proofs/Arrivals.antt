@@ -11,6 +11,7 @@ use Rattle.rules.specs.Rules.{Rules}
 use Rattle.plan.proofs.Truth.{equal}
 use Rattle.budget.specs.Table.{Table, arrival}
 use Rattle.budget.proofs.Active.{arrival-row, arrival-none, given-row, given-none}
+use Rattle.layout.specs.Layout.{arrivalAt, activeAt, listedAt, seedsAt, trailAt}
 use Rattle.lists.specs.Lists.{flagOf, Listed}
 use Rattle.lists.proofs.Lists.{listed-none}
 use Rattle.costs.specs.Costs.{rowWords}
@@ -20,12 +21,12 @@ use Rattle.table.proofs.Views.{inside, budget-at, budget-outside, budget-kept}
 use Rattle.labels.specs.Labels.{orderOf, Planted, Arrived}
 
 module _ (R : Rules) (n : ℕ) (old new : List ℕ) where
-  same-seed : (c : ℕ) → getD new (n * 135 + c) 0 ≡ getD old (n * 135 + c) 0 → seedOf n new c ≡ seedOf n old c
+  same-seed : (c : ℕ) → getD new (n * seedsAt + c) 0 ≡ getD old (n * seedsAt + c) 0 → seedOf n new c ≡ seedOf n old c
   unfolding seedOf
   same-seed c e = rw e
 
   -- a cell with the same row and seed stays settled in the same table
-  settled-kept : (c : ℕ) → ((k : ℕ) → k < n * 64 → getD new k 0 ≡ getD old k 0) → seedOf n new c ≡ seedOf n old c → Settled R n old c → Settled R n new c
+  settled-kept : (c : ℕ) → ((k : ℕ) → k < n * arrivalAt → getD new k 0 ≡ getD old k 0) → seedOf n new c ≡ seedOf n old c → Settled R n old c → Settled R n new c
   settled-kept c kept seed settled m l =
       let same = budget-kept n old new (λ k lo hi. kept k hi) in
       omega (
@@ -37,7 +38,7 @@ module _ (R : Rules) (n : ℕ) (old new : List ℕ) where
       )
 
   -- with the same table the list stays right in Q, if each cell of Q that is not listed was settled and has its seed as before
-  pub active-kept : {P Q : ℕ → Bool} {before after : ℕ} → ActiveIn R n P old before → Listed n new (n * 132) after → ((k : ℕ) → k < n * 64 → getD new k 0 ≡ getD old k 0) → ((c : ℕ) → c < n → T (Q c) → flagOf n new c ≡ 0 → T (P c) × ((flagOf n old c ≡ 0) × (seedOf n new c ≡ seedOf n old c))) → ActiveIn R n Q new after
+  pub active-kept : {P Q : ℕ → Bool} {before after : ℕ} → ActiveIn R n P old before → Listed n new (n * activeAt) after → ((k : ℕ) → k < n * arrivalAt → getD new k 0 ≡ getD old k 0) → ((c : ℕ) → c < n → T (Q c) → flagOf n new c ≡ 0 → T (P c) × ((flagOf n old c ≡ 0) × (seedOf n new c ≡ seedOf n old c))) → ActiveIn R n Q new after
   active-kept a listed kept was =
       record {
         listed = listed;
@@ -63,23 +64,23 @@ module _ (R : Rules) (n : ℕ) (old new : List ℕ) where
           none i lo hi e = let w : flagOf n new c ≡ 1 = rw e at (r .flags i lo hi) in omega arith
 
 -- rows of zeros are a table of zeros
-pub cleared-table : (n : ℕ) (words : List ℕ) → ((i : ℕ) → i < n * 64 → getD words i 0 ≡ 0) → (c l : ℕ) → budgetOf n words c l ≡ 0
+pub cleared-table : (n : ℕ) (words : List ℕ) → ((i : ℕ) → i < n * arrivalAt → getD words i 0 ≡ 0) → (c l : ℕ) → budgetOf n words c l ≡ 0
 cleared-table n words rows c l = go (inside n c l)
   where
     go : ((c < n) × (l < rowWords)) ⊎ (c < n → l < rowWords → ⊥) → budgetOf n words c l ≡ 0
-    go (inl h) = budget-at n words c l (h .0) (h .1) ∙ rows (c * 64 + l) (omega arith)
+    go (inl h) = budget-at n words c l (h .0) (h .1) ∙ rows (c * rowWords + l) (omega arith)
     go (inr f) = budget-outside n words c l f
 
-pub cleared-seed : (n : ℕ) (words : List ℕ) (c : ℕ) → getD words (n * 135 + c) 0 ≡ 0 → seedOf n words c ≡ false
+pub cleared-seed : (n : ℕ) (words : List ℕ) (c : ℕ) → getD words (n * seedsAt + c) 0 ≡ 0 → seedOf n words c ≡ false
 unfolding seedOf
 cleared-seed n words c e = rw e
 
 -- with no flag and no seed either, no cell gives anything
-pub cleared-active : (R : Rules) (n : ℕ) {P : ℕ → Bool} (words : List ℕ) → ((i : ℕ) → i < n * 64 → getD words i 0 ≡ 0) → ((i : ℕ) → n * 134 ≤ i → i < n * 136 → getD words i 0 ≡ 0) → ActiveIn R n P words 0
+pub cleared-active : (R : Rules) (n : ℕ) {P : ℕ → Bool} (words : List ℕ) → ((i : ℕ) → i < n * arrivalAt → getD words i 0 ≡ 0) → ((i : ℕ) → n * listedAt ≤ i → i < n * trailAt → getD words i 0 ≡ 0) → ActiveIn R n P words 0
 cleared-active R n words rows flags =
     record {
-      listed = listed-none n words (n * 132) (λ c h. flags (n * 134 + c) (omega arith) (omega arith));
-      settled = λ c h t z m l. omega (arith, given-none R B c (arrival-none R (seedOf n words) (R .bound 0) (budgetOf n words) c (cleared-table n words rows c) (cleared-seed n words c (flags (n * 135 + c) (omega arith) (omega arith)))) m l);
+      listed = listed-none n words (n * activeAt) (λ c h. flags (n * listedAt + c) (omega arith) (omega arith));
+      settled = λ c h t z m l. omega (arith, given-none R B c (arrival-none R (seedOf n words) (R .bound 0) (budgetOf n words) c (cleared-table n words rows c) (cleared-seed n words c (flags (n * seedsAt + c) (omega arith) (omega arith)))) m l);
     }
   where
     B : Table

@@ -16,6 +16,7 @@ use Rattle.budget.proofs.Done.{not-after-trans}
 use Rattle.budget.proofs.Active.{max-same, arrival-row, given-row, layer-least}
 use Rattle.budget.proofs.Search.{Arrived, seed-cases, seed-source, seed-arrived, same-table}
 use Rattle.budget.proofs.Turns.{layer-found, pending-turn, wave-turn, none-turn}
+use Rattle.layout.specs.Layout.{labelsAt, orderAt, activeAt}
 use Rattle.lists.specs.Lists.{Place}
 use Rattle.lists.proofs.Lists.{empty-flags}
 use Rattle.rows.specs.Words.{Kept}
@@ -46,13 +47,13 @@ layer-seeds R seed seed′ bound A same c l =
     (λ n h. given-row R (arrival R seed′ bound A) (arrival R seed bound A) n (arrival-row R seed′ seed bound A A n (λ l. refl) (same n h)) c l))
 
 -- the order and its labels stay with their words
-module _ (n : ℕ) (old new : List ℕ) (count : ℕ) (o : Ordered n old count) (kept : Kept (n * 128) (n * 132) old new) where
+module _ (n : ℕ) (old new : List ℕ) (count : ℕ) (o : Ordered n old count) (kept : Kept (n * labelsAt) (n * activeAt) old new) where
   pub order-same : (i : ℕ) → i < count → orderOf n new i ≡ orderOf n old i
-  order-same i h = kept (n * 131 + i) (omega arith) (omega (arith, ordered-count o))
+  order-same i h = kept (n * orderAt + i) (omega arith) (omega (arith, ordered-count o))
 
   pub order-registers : (i : ℕ) → i < count → registersOf n new (orderOf n new i) ≡ registersOf n old (orderOf n old i)
   order-registers i h =
-      rw (order-same i h) (ap (λ (x : ℕ). x - 1) (kept (n * 128 + orderOf n old i) (omega arith) (omega (arith, o .cells i h))))
+      rw (order-same i h) (ap (λ (x : ℕ). x - 1) (kept (n * labelsAt + orderOf n old i) (omega arith) (omega (arith, o .cells i h))))
 
   pub order-steps : (i : ℕ) → i < count → stepsOf n new (orderOf n new i) ≡ stepsOf n old (orderOf n old i)
   order-steps i h =
@@ -70,7 +71,7 @@ module _ (R : Rules) (law : Lawful R) (n : ℕ) (cells : R .cellCount ≡ n) whe
     w : Waiting R n words k s active at end count
     w = f .waiting
 
-    place-seed : (c : ℕ) → Place n words (n * 131) count c → Arrived (labelsOf n words) k s c → T (seedOf n words c)
+    place-seed : (c : ℕ) → Place n words (n * orderAt) count c → Arrived (labelsOf n words) k s c → T (seedOf n words c)
     place-seed c p a = go (split at (p .at)) (split end (p .at))
       where
         registers-are : registersOf n words (orderOf n words (p .at)) ≡ registersOf n words c
@@ -96,13 +97,13 @@ module _ (R : Rules) (law : Lawful R) (n : ℕ) (cells : R .cellCount ≡ n) whe
     pub front-seeds : (c : ℕ) → c < n → seedOf n words c ≡ seedAt R (labelsOf n words) k s c
     front-seeds c h = bool-same (seedOf n words c) (seedAt R (labelsOf n words) k s c) (λ t. to (w .seeds c h t)) (λ t. back (seed-cases R (labelsOf n words) k s c t))
       where
-        arrived : Place n words (n * 131) at c → Arrived (labelsOf n words) k s c
+        arrived : Place n words (n * orderAt) at c → Arrived (labelsOf n words) k s c
         arrived p = rw (p .holds) at early
           where
             early : Arrived (labelsOf n words) k s (orderOf n words (p .at))
             early = record { known = w .ordered .known (p .at) (omega (arith, p .below, w .atEnd, w .endCount)); early = w .past (p .at) (p .below) }
 
-        to : (c ≡ R .source) ⊎ Place n words (n * 131) at c → T (seedAt R (labelsOf n words) k s c)
+        to : (c ≡ R .source) ⊎ Place n words (n * orderAt) at c → T (seedAt R (labelsOf n words) k s c)
         to (inl e) = seed-source R (labelsOf n words) k s c e
         to (inr p) = seed-arrived R (labelsOf n words) k s c (arrived p)
 
@@ -122,8 +123,8 @@ module _ (R : Rules) (law : Lawful R) (n : ℕ) (cells : R .cellCount ≡ n) whe
       -- a layer that lists a cell has raised the table
       pub front-grows : 0 < next .count → total n words < total n new
       front-grows h =
-          total-grows n words new front-least (getD new (n * 132 + 0) 0)
-          (l .grew (getD new (n * 132 + 0) 0) (l .listed .cells 0 h) (l .listed .flagged 0 h))
+          total-grows n words new front-least (getD new (n * activeAt + 0) 0)
+          (l .grew (getD new (n * activeAt + 0) 0) (l .listed .cells 0 h) (l .listed .flagged 0 h))
 
       pub front-sink : R .start .delay < budgetOf n new (R .sink) (R .start .load) → Least R k (suc s) (R .sink) (R .start .load) (R .start .delay)
       front-sink h = layer-found R law (w .searching) front-next h
@@ -141,7 +142,7 @@ module _ (R : Rules) (law : Lawful R) (n : ℕ) (cells : R .cellCount ≡ n) whe
             go (inl h) = Rattle.table.proofs.Views.budget-outside n new c d (λ a b. omega arith) ∙ sym (Rattle.table.proofs.Views.budget-outside n words c d (λ a b. omega arith))
             go (inr h) = l .quiet c h (empty-flags (l .listed) none c h) d
 
-        same-total : total n new ≡ total n words
+        pub same-total : total n new ≡ total n words
         same-total = omega (arith, total-least n words new (λ c d. omega (arith, still c d)), total-least n new words (λ c d. omega (arith, still c d)))
 
         pub quiet-front : Front R n new k s (next .count) at end count
@@ -178,10 +179,10 @@ module _ (R : Rules) (law : Lawful R) (n : ℕ) (cells : R .cellCount ≡ n) whe
             later : at < end → s < stepsOf n new (orderOf n new at)
             later h = rw (order-steps n words new count (w .ordered) (l .labels) at (omega (arith, w .endCount))) (f .late h)
 
-            seeds : (c : ℕ) → c < n → T (seedOf n words c) → (c ≡ R .source) ⊎ Place n new (n * 131) at c
+            seeds : (c : ℕ) → c < n → T (seedOf n words c) → (c ≡ R .source) ⊎ Place n new (n * orderAt) at c
             seeds c h t = go (w .seeds c h t)
               where
-                go : (c ≡ R .source) ⊎ Place n words (n * 131) at c → (c ≡ R .source) ⊎ Place n new (n * 131) at c
+                go : (c ≡ R .source) ⊎ Place n words (n * orderAt) at c → (c ≡ R .source) ⊎ Place n new (n * orderAt) at c
                 go (inl e) = inl e
                 go (inr p) = inr (record { at = p .at; below = p .below; holds = order-same n words new count (w .ordered) (l .labels) (p .at) (omega (arith, p .below, w .atEnd, w .endCount)) ∙ p .holds })
 
@@ -191,17 +192,17 @@ module _ (R : Rules) (law : Lawful R) (n : ℕ) (cells : R .cellCount ≡ n) whe
     -- After a layer that changed nothing: the next label that waits, the next wave, or no route.
     module _ (quiet : Next R (labelsOf n words) k s (budgetOf n words) (budgetOf n words)) where
       -- the place of a labelled cell in the order
-      place : (c : ℕ) → T (knownOf n words c) → Place n words (n * 131) count c
+      place : (c : ℕ) → T (knownOf n words c) → Place n words (n * orderAt) count c
       place c t = w .ordered .covered c t
 
-      label-at : (c : ℕ) (p : Place n words (n * 131) count c) → (registersOf n words (orderOf n words (p .at)) ≡ registersOf n words c) × (stepsOf n words (orderOf n words (p .at)) ≡ stepsOf n words c)
+      label-at : (c : ℕ) (p : Place n words (n * orderAt) count c) → (registersOf n words (orderOf n words (p .at)) ≡ registersOf n words c) × (stepsOf n words (orderOf n words (p .at)) ≡ stepsOf n words c)
       label-at c p = (ap (registersOf n words) (p .holds), ap (stepsOf n words) (p .holds))
 
       -- labels with registers and a place before `end` that wait have at least the steps of the first that waits
       idle : at < end → IdleUntil (labelsOf n words) k s (stepsOf n words (orderOf n words at))
       idle h c t e = go (place c t)
         where
-          go : Place n words (n * 131) count c → (stepsOf n words c ≤ s) ⊎ (stepsOf n words (orderOf n words at) ≤ stepsOf n words c)
+          go : Place n words (n * orderAt) count c → (stepsOf n words c ≤ s) ⊎ (stepsOf n words (orderOf n words at) ≤ stepsOf n words c)
           go p = pick (split at (p .at)) (split end (p .at))
             where
               early : NotAfter (suc (registersOf n words (orderOf n words (p .at)))) (stepsOf n words (orderOf n words (p .at))) k s → stepsOf n words c ≤ s
@@ -239,7 +240,7 @@ module _ (R : Rules) (law : Lawful R) (n : ℕ) (cells : R .cellCount ≡ n) whe
       none-waits : at ≡ end → NonePending (labelsOf n words) k s
       none-waits e c t q = go (place c t)
         where
-          go : Place n words (n * 131) count c → stepsOf n words c ≤ s
+          go : Place n words (n * orderAt) count c → stepsOf n words c ≤ s
           go p = pick (split at (p .at))
             where
               early : NotAfter (suc (registersOf n words (orderOf n words (p .at)))) (stepsOf n words (orderOf n words (p .at))) k s → stepsOf n words c ≤ s
@@ -251,7 +252,7 @@ module _ (R : Rules) (law : Lawful R) (n : ℕ) (cells : R .cellCount ≡ n) whe
               pick (inl z) = absurd (omega (arith, w .own (p .at) (omega arith) (p .below), label-at c p))
 
       -- a label with k registers is this wave's own
-      own-place : (c : ℕ) → T (knownOf n words c) → registersOf n words c ≡ k → (p : Place n words (n * 131) count c) → at ≡ end → end ≤ p .at
+      own-place : (c : ℕ) → T (knownOf n words c) → registersOf n words c ≡ k → (p : Place n words (n * orderAt) count c) → at ≡ end → end ≤ p .at
       own-place c t q p e = pick (split end (p .at))
         where
           never : NotAfter (suc (registersOf n words (orderOf n words (p .at)))) (stepsOf n words (orderOf n words (p .at))) k s → ⊥
@@ -287,7 +288,7 @@ module _ (R : Rules) (law : Lawful R) (n : ℕ) (cells : R .cellCount ≡ n) whe
           first : (c : ℕ) → T (knownOf n words c) → registersOf n words c ≡ k → stepsOf n words (orderOf n words at) ≤ stepsOf n words c
           first c t q = go (place c t)
             where
-              go : Place n words (n * 131) count c → stepsOf n words (orderOf n words at) ≤ stepsOf n words c
+              go : Place n words (n * orderAt) count c → stepsOf n words (orderOf n words at) ≤ stepsOf n words c
               go p = sorted (w .ordered .ascending at (p .at) (omega (arith, own-place c t q p e)) (p .below))
                 where
                   sorted : NotAfter (registersOf n words (orderOf n words at)) (stepsOf n words (orderOf n words at)) (registersOf n words (orderOf n words (p .at))) (stepsOf n words (orderOf n words (p .at))) → stepsOf n words (orderOf n words at) ≤ stepsOf n words c
@@ -297,5 +298,5 @@ module _ (R : Rules) (law : Lawful R) (n : ℕ) (cells : R .cellCount ≡ n) whe
       pub none-front : at ≡ end → end ≡ count → (p q : ℕ) → FromSink R p q → ⊥
       none-front e g = none-turn R law (w .searching) quiet (none-waits e) (λ c t q. go c t q (place c t))
         where
-          go : (c : ℕ) → T (knownOf n words c) → registersOf n words c ≡ k → Place n words (n * 131) count c → ⊥
+          go : (c : ℕ) → T (knownOf n words c) → registersOf n words c ≡ k → Place n words (n * orderAt) count c → ⊥
           go c t q p = omega (arith, own-place c t q p e, p .below)

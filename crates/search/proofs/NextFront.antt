@@ -17,6 +17,7 @@ use Rattle.budget.proofs.Done.{not-after-trans}
 use Rattle.budget.proofs.Search.{same-table}
 use Rattle.budget.proofs.Turns.{search-start, layer-turn}
 use Rattle.budget.proofs.Colours.{source-in-step, label-in-step}
+use Rattle.layout.specs.Layout.{labelsAt, orderAt, activeAt, listedAt, seedsAt}
 use Rattle.lists.specs.Lists.{flagOf, Place}
 use Rattle.lists.proofs.Lists.{bit-cases, listed-kept}
 use Rattle.rows.specs.Words.{Kept}
@@ -36,11 +37,11 @@ use Rattle.search.proofs.Total.{total-kept}
 use Rattle.search.proofs.Arrivals.{active-kept, active-planted, active-arrived, cleared-table, cleared-active}
 use Rattle.search.proofs.Fronts.{order-same, order-registers, order-steps, waiting-ascend, front-next, front-grows}
 
-pub seed-word : (n : ℕ) (words : List ℕ) (c : ℕ) → T (seedOf n words c) → getD words (n * 135 + c) 0 ≡ 1
+pub seed-word : (n : ℕ) (words : List ℕ) (c : ℕ) → T (seedOf n words c) → getD words (n * seedsAt + c) 0 ≡ 1
 unfolding seedOf
 seed-word n words c t = eqb→eq _ _ t
 
-pub word-seed : (n : ℕ) (words : List ℕ) (c : ℕ) → getD words (n * 135 + c) 0 ≡ 1 → T (seedOf n words c)
+pub word-seed : (n : ℕ) (words : List ℕ) (c : ℕ) → getD words (n * seedsAt + c) 0 ≡ 1 → T (seedOf n words c)
 unfolding seedOf
 word-seed n words c e = eq→eqb _ _ e
 
@@ -86,7 +87,7 @@ module _ (R : Rules) (law : Lawful R) (n : ℕ) (cells : R .cellCount ≡ n) (wo
   last-seed : (c : ℕ) → c < n → seedOf n last c ≡ seedOf n words c
   last-seed c h = seeds-kept n new last (λ i lo hi. added .high i (omega arith)) c h ∙ seeds-kept n words new (l .seeds) c h
 
-  kept-words : (i : ℕ) → n * 128 ≤ i → i < n * 131 → getD new i 0 ≡ getD words i 0
+  kept-words : (i : ℕ) → n * labelsAt ≤ i → i < n * orderAt → getD new i 0 ≡ getD words i 0
   kept-words i lo hi = l .labels i lo (omega arith)
 
   known-new : (c : ℕ) → T (knownOf n words c) → T (knownOf n new c)
@@ -137,9 +138,9 @@ module _ (R : Rules) (law : Lawful R) (n : ℕ) (cells : R .cellCount ≡ n) (wo
   list-last : Active R n last (next .count)
   list-last =
       active-kept R n new last (l .active (w .list))
-      (listed-kept (l .listed) last (λ c h. added .high (n * 134 + c) (omega arith)) (λ i h. added .high (n * 132 + i) (omega arith)))
+      (listed-kept (l .listed) last (λ c h. added .high (n * listedAt + c) (omega arith)) (λ i h. added .high (n * activeAt + i) (omega arith)))
       (λ i q. added .low i (omega arith))
-      (λ c h t z. (t, (sym (added .high (n * 134 + c) (omega arith)) ∙ z, seeds-kept n new last (λ i lo hi. added .high i (omega arith)) c h)))
+      (λ c h t z. (t, (sym (added .high (n * listedAt + c) (omega arith)) ∙ z, seeds-kept n new last (λ i lo hi. added .high i (omega arith)) c h)))
 
   pub grown-front : (R .start .delay < budgetOf n new (R .sink) (R .start .load) → ⊥) → Waiting R n last k (suc s) (next .count) at end count′
   grown-front not-yet =
@@ -160,12 +161,12 @@ module _ (R : Rules) (law : Lawful R) (n : ℕ) (cells : R .cellCount ≡ n) (wo
         endCount = omega (arith, w .endCount, added .more);
         waves = w .waves;
         soon = λ h. omega (arith, steps-last at (omega (arith, w .endCount)), f .late h);
-        coloured = coloured-kept (coloured-layer l (w .coloured)) last (λ c h o. omega (arith, added .high (n * 134 + c) (omega arith)));
+        coloured = coloured-kept (coloured-layer l (w .coloured)) last (λ c h o. omega (arith, added .high (n * listedAt + c) (omega arith)));
         stepsLow = omega (arith, w .stepsLow, total-last);
         labelsLow = λ c t. low c t (decided (knownOf n words c));
       }
     where
-      seeds : (c : ℕ) → (c ≡ R .source) ⊎ Place n words (n * 131) at c → (c ≡ R .source) ⊎ Place n last (n * 131) at c
+      seeds : (c : ℕ) → (c ≡ R .source) ⊎ Place n words (n * orderAt) at c → (c ≡ R .source) ⊎ Place n last (n * orderAt) at c
       seeds c (inl e) = inl e
       seeds c (inr p) = inr (record { at = p .at; below = p .below; holds = order-last (p .at) (omega (arith, p .below, w .atEnd, w .endCount)) ∙ p .holds })
 
@@ -185,10 +186,10 @@ module _ (R : Rules) (law : Lawful R) (n : ℕ) (cells : R .cellCount ≡ n) (wo
 
 -- labels whose steps have come become seeds
 module _ (R : Rules) (n : ℕ) (inPlan : R .source < n) (words : List ℕ) (k s active at end count : ℕ) (w : Waiting R n words k s active at end count) (new : List ℕ) (to active′ : ℕ) (a : ArrivedAll n at end s words new to active′) where
-  low : (i : ℕ) → i < n * 132 → getD new i 0 ≡ getD words i 0
+  low : (i : ℕ) → i < n * activeAt → getD new i 0 ≡ getD words i 0
   low = a .arrived .low
 
-  labels-kept : Kept (n * 128) (n * 132) words new
+  labels-kept : Kept (n * labelsAt) (n * activeAt) words new
   labels-kept i lo hi = low i hi
 
   pub arrive-front : Front R n new k s active′ to end count
@@ -240,14 +241,14 @@ module _ (R : Rules) (n : ℕ) (inPlan : R .source < n) (words : List ℕ) (k s 
           rw (order-same n words new count (w .ordered) labels-kept i (before i h))
           (word-seed n new (orderOf n words i) (a .arrived .seedsStay (orderOf n words i) (w .ordered .cells i (before i h)) (seed-word n words (orderOf n words i) (w .orderSeed i q))))
 
-      place : (c i : ℕ) → i < to → orderOf n words i ≡ c → Place n new (n * 131) to c
+      place : (c i : ℕ) → i < to → orderOf n words i ≡ c → Place n new (n * orderAt) to c
       place c i h e = record { at = i; below = h; holds = order-same n words new count (w .ordered) labels-kept i (before i h) ∙ e }
 
-      seeds : (c : ℕ) → c < n → T (seedOf n new c) → ((i : ℕ) × (at ≤ i) × (i < to) × (orderOf n words i ≡ c)) ⊎ ((i : ℕ) → at ≤ i → i < to → orderOf n words i ≡ c → ⊥) → (c ≡ R .source) ⊎ Place n new (n * 131) to c
+      seeds : (c : ℕ) → c < n → T (seedOf n new c) → ((i : ℕ) × (at ≤ i) × (i < to) × (orderOf n words i ≡ c)) ⊎ ((i : ℕ) → at ≤ i → i < to → orderOf n words i ≡ c → ⊥) → (c ≡ R .source) ⊎ Place n new (n * orderAt) to c
       seeds c h t (inl p) = inr (place c (p .0) (p .2) (p .3))
       seeds c h t (inr f) = old (w .seeds c h (word-seed n words c (sym (a .arrived .otherSeeds c h f) ∙ seed-word n new c t)))
         where
-          old : (c ≡ R .source) ⊎ Place n words (n * 131) at c → (c ≡ R .source) ⊎ Place n new (n * 131) to c
+          old : (c ≡ R .source) ⊎ Place n words (n * orderAt) at c → (c ≡ R .source) ⊎ Place n new (n * orderAt) to c
           old (inl e) = inl e
           old (inr p) = inr (place c (p .at) (omega (arith, p .below, a .arrived .forth)) (p .holds))
 
@@ -274,7 +275,7 @@ module _ (R : Rules) (n : ℕ) (inPlan : R .source < n) (words : List ℕ) (blan
             record {
               searching = search-start R (budgetOf n new) (labelsOf n new) (λ c l. budget-kept n words new (λ i lo hi. p .low i (omega arith)) c l ∙ cleared-table n words (λ i h. blank .table i (omega arith)) c l) (λ c t. unknown c t);
               list = active-planted R n words new (R .source) 0 active start-active p;
-              ordered = ordered-none n new (λ c h. p .low (n * 128 + c) (omega arith) ∙ blank .labels (n * 128 + c) (omega arith) (omega arith));
+              ordered = ordered-none n new (λ c h. p .low (n * labelsAt + c) (omega arith) ∙ blank .labels (n * labelsAt + c) (omega arith) (omega arith));
               sourceIn = inPlan;
               sourceSeed = word-seed n new (R .source) (p .nowSeed);
               orderSeed = λ i h. absurd (omega arith);
@@ -295,8 +296,8 @@ module _ (R : Rules) (n : ℕ) (inPlan : R .source < n) (words : List ℕ) (blan
     where
       unknown : (c : ℕ) → T (knownOf n new c) → ⊥
       unknown c t =
-          unknown-not (word-unknown n new c (p .low (n * 128 + c) (omega (arith, known-below n new c t)) ∙ blank .labels (n * 128 + c) (omega arith) (omega (arith, known-below n new c t)))) t
+          unknown-not (word-unknown n new c (p .low (n * labelsAt + c) (omega (arith, known-below n new c t)) ∙ blank .labels (n * labelsAt + c) (omega arith) (omega (arith, known-below n new c t)))) t
 
-      seeds : (c : ℕ) → c < n → T (seedOf n new c) → (c ≡ R .source) ⊎ (c ≡ R .source → ⊥) → (c ≡ R .source) ⊎ Place n new (n * 131) 0 c
+      seeds : (c : ℕ) → c < n → T (seedOf n new c) → (c ≡ R .source) ⊎ (c ≡ R .source → ⊥) → (c ≡ R .source) ⊎ Place n new (n * orderAt) 0 c
       seeds c h t (inl e) = inl e
-      seeds c h t (inr e) = absurd (omega (arith, seed-word n new c t, p .otherSeeds c h e, blank .labels (n * 135 + c) (omega arith) (omega arith)))
+      seeds c h t (inr e) = absurd (omega (arith, seed-word n new c t, p .otherSeeds c h e, blank .labels (n * seedsAt + c) (omega arith) (omega arith)))

@@ -11,6 +11,7 @@ use Rattle.plan.proofs.Truth.{equal}
 use Rattle.budget.specs.Done.{NotAfter, Lawful, seedAt}
 use Rattle.budget.specs.Search.{Next}
 use Rattle.budget.proofs.Done.{not-after-trans}
+use Rattle.layout.specs.Layout.{trailAt}
 use Rattle.rows.specs.Words.{KeptFrom}
 use Rattle.table.specs.Problem.{budgetOf, seedOf}
 use Rattle.trail.specs.Trail.{noTrail}
@@ -24,8 +25,8 @@ use Rattle.search.specs.declared.turns.Progress.{Progress}
 use Rattle.search.specs.declared.turns.Turn.{Turn}
 use Rattle.search.specs.Front.{total, Front}
 use Rattle.search.specs.Turn.{FrontOf, WaitingOf, quietTurn, Advance, TurnDone, TurnEffect}
-use Rattle.search.proofs.Total.{total-least, total-kept}
-use Rattle.search.proofs.Fronts.{layer-seeds, front-seeds, front-grows, front-sink, still, quiet-front, pending-front, wave-front, none-front}
+use Rattle.search.proofs.Total.{total-kept}
+use Rattle.search.proofs.Fronts.{layer-seeds, front-seeds, front-grows, front-sink, same-total, quiet-front, pending-front, wave-front, none-front}
 use Rattle.search.proofs.NextFront.{grown-front}
 use Rattle.search.proofs.Quiet.{quiet-nothing, quiet-wave, quiet-pending}
 
@@ -44,17 +45,15 @@ module _ (R : Rules) (law : Lawful R) (n : ℕ) (cells : R .cellCount ≡ n) whe
     abbrev s : ℕ
     s = f .steps
 
-    rest : KeptFrom (n * 136) words new
+    rest : KeptFrom (n * trailAt) words new
     rest i h = l .beyond i (omega arith)
 
     module _ (none : next .count ≡ 0) where
       front′ : Front R n new k s 0 (f .at) (f .end) (f .count)
       front′ = rw none at (quiet-front R law n cells words k s (f .active) (f .at) (f .end) (f .count) front new next l none)
 
-      same-total : total n new ≡ total n words
-      same-total =
-          let e = still R law n cells words k s (f .active) (f .at) (f .end) (f .count) front new next l none in
-          omega (arith, total-least n words new (λ c d. omega (arith, e c d)), total-least n new words (λ c d. omega (arith, e c d)))
+      total-stays : total n new ≡ total n words
+      total-stays = same-total R law n cells words k s (f .active) (f .at) (f .end) (f .count) front new next l none
 
       quiet : Next R (labelsOf n new) k s (budgetOf n new) (budgetOf n new)
       quiet = quiet-next new k s (f .at) (f .end) (f .count) front′
@@ -68,11 +67,11 @@ module _ (R : Rules) (law : Lawful R) (n : ℕ) (cells : R .cellCount ≡ n) whe
               let h : f .end < f .count = omega (arith, front .waiting .endCount) in
               rw (e ∙ quiet-wave n new f a b)
               (TurnDone.on _ (rw (← add-one k) at (wave-front R law n cells new k s 0 (f .at) (f .end) (f .count) front′ quiet refl a h))
-              (Advance.comes same-total refl (omega arith) (omega arith)))
+              (Advance.comes total-stays refl (omega arith) (omega arith)))
           go (inr a) b =
               let h : f .at < f .end = omega (arith, front .waiting .atEnd) in
               rw (e ∙ quiet-pending n new f a)
-              (TurnDone.on _ (pending-front R law n cells new k s 0 (f .at) (f .end) (f .count) front′ quiet refl h) (Advance.comes same-total refl h (omega arith)))
+              (TurnDone.on _ (pending-front R law n cells new k s 0 (f .at) (f .end) (f .count) front′ quiet refl h) (Advance.comes total-stays refl h (omega arith)))
 
     pub turn-sink : R .start .delay < budgetOf n new (R .sink) (R .start .load) → TurnEffect R n words f new (Turn.Sink k (s + 1) (f .count))
     turn-sink h =

@@ -8,6 +8,7 @@ use lib.ListN.{getD}
 use Rattle.rules.specs.Rules.{Rules}
 use Rattle.budget.specs.Done.{NotAfter}
 use Rattle.budget.specs.Search.{Searching}
+use Rattle.layout.specs.Layout.{arrivalAt, orderAt}
 use Rattle.lists.specs.Lists.{sumBelow, Place}
 use Rattle.table.specs.Problem.{budgetOf, seedOf}
 use Rattle.table.specs.Layer.{Active}
@@ -16,7 +17,7 @@ use Rattle.labels.specs.Labels.{knownOf, registersOf, stepsOf, labelsOf, orderO
 
 -- the sum of the budget table; every layer that changes it raises it
 unfoldable pub total : ℕ → List ℕ → ℕ
-total n words = sumBelow (n * 64) (λ i. getD words i 0)
+total n words = sumBelow (n * arrivalAt) (λ i. getD words i 0)
 
 -- The labels of the order are seeds up to `at`; from there up to `end` they wait for their steps in this wave; from `end` up to `count` they are this wave's own.
 pub record Waiting (R : Rules) (n : ℕ) (words : List ℕ) (k s active at end count : ℕ) : Type 0 where
@@ -26,7 +27,7 @@ pub record Waiting (R : Rules) (n : ℕ) (words : List ℕ) (k s active at end c
   pub sourceIn : R .source < n
   pub sourceSeed : T (seedOf n words (R .source))
   pub orderSeed : (i : ℕ) → i < at → T (seedOf n words (orderOf n words i))
-  pub seeds : (c : ℕ) → c < n → T (seedOf n words c) → (c ≡ R .source) ⊎ Place n words (n * 131) at c
+  pub seeds : (c : ℕ) → c < n → T (seedOf n words c) → (c ≡ R .source) ⊎ Place n words (n * orderAt) at c
   pub past : (i : ℕ) → i < at → NotAfter (suc (registersOf n words (orderOf n words i))) (stepsOf n words (orderOf n words i)) k s
   pub waits : (i : ℕ) → at ≤ i → i < end → suc (registersOf n words (orderOf n words i)) ≡ k
   pub own : (i : ℕ) → end ≤ i → i < count → registersOf n words (orderOf n words i) ≡ k

@@ -8,6 +8,7 @@ use lib.ListN.{length}
 use Rattle.rules.specs.Rules.{Rules}
 use Rattle.budget.specs.Done.{Least, Labelled}
 use Rattle.budget.specs.Search.{FromSink}
+use Rattle.layout.specs.Layout.{trailAt}
 use Rattle.rows.specs.Words.{KeptFrom}
 use Rattle.labels.specs.Labels.{stepsOf, labelsOf, orderOf, Ordered}
 use Rattle.search.specs.Front.{total, Waiting, Front}
@@ -63,5 +64,5 @@ pub data TurnDone (R : Rules) (n : ℕ) (old : List ℕ) (f : Progress) (new : L
 
 pub record TurnEffect (R : Rules) (n : ℕ) (old : List ℕ) (f : Progress) (new : List ℕ) (t : Turn) : Type 0 where
   pub same : length new ≡ length old
-  pub rest : KeptFrom (n * 136) old new
+  pub rest : KeptFrom (n * trailAt) old new
   pub done : TurnDone R n old f new t

@@ -3,6 +3,7 @@ ghost use mathlib.Core.Path.{_≡_};
 ghost use Prim.Native.Nat.{_+_, _*_, _≤_};
 ghost use lib.ListN.{length};
 ghost use Rattle.costs.specs.Costs.{CostsOf};
+ghost use Rattle.layout.specs.Layout.{trailAt};
 ghost use Rattle.table.specs.Problem.{Ready, Room, rulesFor};
 ghost use Rattle.labels.specs.Labels.{Ordered};
 ghost use Rattle.search.specs.Turn.{FrontOf, quietTurn, TurnEffect};
@@ -10,6 +11,7 @@ use costs::COSTS;
 use labels::fresh_in;
 use labels::label_active;
 use labels::steps_of;
+use layout::ORDER;
 use table::Problem;
 use table::next_layer;
 use trail::no_trail;
@@ -35,7 +37,7 @@ pub enum Turn {
 
 // After a layer that changed nothing.
 fn after_quiet(scratch: &[u16], n: usize, f: Progress) -> Turn
-    requires { ⌜ Ordered n (now scratch) (f .count) × ((f .at ≤ f .end) × ((f .end ≤ f .count) × ((f .registers ≤ f .end) × ((n ≤ 1024) × (n * 136 ≤ length (now scratch)))))) ⌝ }
+    requires { ⌜ Ordered n (now scratch) (f .count) × ((f .at ≤ f .end) × ((f .end ≤ f .count) × ((f .registers ≤ f .end) × ((n ≤ 1024) × (n * trailAt ≤ length (now scratch)))))) ⌝ }
     ensures { λ r. ⌜ r ≡ quietTurn n (now (scratch .entry)) f ⌝ }
 {
     let at = f.at;
@@ -45,7 +47,7 @@ fn after_quiet(scratch: &[u16], n: usize, f: Progress) -> Turn
         if end == count {
             return Turn::Nothing;
         }
-        let first = scratch[n * 131 + at] as usize;
+        let first = scratch[n * ORDER + at] as usize;
         let steps = steps_of(scratch, n, first);
         return Turn::On(Progress {
             registers: f.registers + 1,
@@ -56,7 +58,7 @@ fn after_quiet(scratch: &[u16], n: usize, f: Progress) -> Turn
             count: count,
         });
     }
-    let first = scratch[n * 131 + at] as usize;
+    let first = scratch[n * ORDER + at] as usize;
     let steps = steps_of(scratch, n, first);
     Turn::On(Progress {
         registers: f.registers,

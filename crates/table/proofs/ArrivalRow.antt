@@ -21,7 +21,7 @@ use Rattle.costs.specs.Costs.{rowWords, bufferAt}
 use Rattle.rows.proofs.Leaves.{limited, driven}
 use Rattle.table.specs.declared.problem.Problem.{Problem}
 use Rattle.table.specs.Problem.{planFor, rulesFor, Ready, budgetOf, seedOf}
-use Rattle.table.specs.ArrivalRow.{takesBuffers, behind, buffered}
+use Rattle.table.specs.ArrivalRow.{takesBuffers, behind, raisedByBuffers}
 use Rattle.table.proofs.Views.{budget-at, buffer-named, limit-named}
 
 -- A word that is raised within the limit: x within it, z past it
@@ -37,9 +37,9 @@ raised-twice false word x y z d h = h
 -- Buffer by buffer
 
 module _ (words : List ℕ) (cell to : ℕ) (e : Elements) where
-  pub buffered-none : (l : ℕ) → buffered words cell to e 0 l ≡ getD words (to + l) 0
-  unfolding buffered maxBelow
-  buffered-none l = go (leb l (e .limit .0))
+  pub raised-by-none : (l : ℕ) → raisedByBuffers words cell to e 0 l ≡ getD words (to + l) 0
+  unfolding raisedByBuffers maxBelow
+  raised-by-none l = go (leb l (e .limit .0))
     where
       go : (b : Bool) → cond b (max (getD words (to + l) 0) 0) (getD words (to + l) 0) ≡ getD words (to + l) 0
       go true = omega arith
@@ -47,15 +47,15 @@ module _ (words : List ℕ) (cell to : ℕ) (e : Elements) where
 
   module _ (i l : ℕ) where
     -- a buffer whose load is past the limit adds nothing
-    pub buffered-past : e .limit .0 < bufferLoad (bufferAt e i) → buffered words cell to e i l ≡ buffered words cell to e (suc i) l
-    unfolding buffered maxBelow behind only
-    buffered-past h =
+    pub raised-by-past : e .limit .0 < bufferLoad (bufferAt e i) → raisedByBuffers words cell to e i l ≡ raisedByBuffers words cell to e (suc i) l
+    unfolding raisedByBuffers maxBelow behind only
+    raised-by-past h =
         simp (lt-leb _ _ h) (ap (λ (x : ℕ). cond (leb l (e .limit .0)) x (getD words (to + l) 0)) (omega arith))
 
     -- any other raises the row so far
-    pub buffered-more : (so-far : List ℕ) → getD so-far (to + l) 0 ≡ buffered words cell to e i l → getD so-far (cell * 64 + bufferLoad (bufferAt e i)) 0 ≡ getD words (cell * 64 + bufferLoad (bufferAt e i)) 0 → bufferLoad (bufferAt e i) ≤ e .limit .0 → driven so-far to (getD so-far (cell * 64 + bufferLoad (bufferAt e i)) 0) (bufferDriver (bufferAt e i)) (e .limit .0) l ≡ buffered words cell to e (suc i) l
-    unfolding buffered maxBelow behind only
-    buffered-more so-far here top h =
+    pub raised-by-more : (so-far : List ℕ) → getD so-far (to + l) 0 ≡ raisedByBuffers words cell to e i l → getD so-far (cell * rowWords + bufferLoad (bufferAt e i)) 0 ≡ getD words (cell * rowWords + bufferLoad (bufferAt e i)) 0 → bufferLoad (bufferAt e i) ≤ e .limit .0 → driven so-far to (getD so-far (cell * rowWords + bufferLoad (bufferAt e i)) 0) (bufferDriver (bufferAt e i)) (e .limit .0) l ≡ raisedByBuffers words cell to e (suc i) l
+    unfolding raisedByBuffers maxBelow behind only
+    raised-by-more so-far here top h =
         rw top (simp (le-leb _ _ h) (raised-twice (leb l (e .limit .0)) _ _ _ _ _ here))
 
 -- Where a buffer may stand, by the code's test and by the rules
@@ -93,7 +93,7 @@ module _ (p : Problem) (marks words : List ℕ) (cell : ℕ) (ready : Ready p ma
   abbrev A : Table
   A = budgetOf (length marks) words
 
-  budget-word : (l : ℕ) → l < rowWords → A cell l ≡ getD words (cell * 64 + l) 0
+  budget-word : (l : ℕ) → l < rowWords → A cell l ≡ getD words (cell * rowWords + l) 0
   budget-word l h = budget-at (length marks) words cell l inside h
 
   buffer-load : (i : ℕ) → i < e .count → bufferLoad (bufferAt e i) < rowWords
@@ -124,10 +124,10 @@ module _ (p : Problem) (marks words : List ℕ) (cell : ℕ) (ready : Ready p ma
 
   -- the row before a register is tried
   unfoldable pub through : ℕ → ℕ
-  through l = only (leb l (e .limit .0)) (max (getD words (cell * 64 + l) 0) (maxBelow 6 (λ i. viaBuffer R A cell l (suc i))))
+  through l = only (leb l (e .limit .0)) (max (getD words (cell * rowWords + l) 0) (maxBelow 6 (λ i. viaBuffer R A cell l (suc i))))
 
   -- `arrival` at a cell of the plan
-  whole : (l : ℕ) → l < rowWords → arrival R (seedOf (length marks) words) (R .bound 0) A cell l ≡ only (leb l (e .limit .0)) (max (getD words (cell * 64 + l) 0) (max (maxBelow 6 (λ i. viaBuffer R A cell l (suc i))) (only (seedOf (length marks) words cell) (2 * e .period + 1 - gateDelay (registerDriver (e .register)) l))))
+  whole : (l : ℕ) → l < rowWords → arrival R (seedOf (length marks) words) (R .bound 0) A cell l ≡ only (leb l (e .limit .0)) (max (getD words (cell * rowWords + l) 0) (max (maxBelow 6 (λ i. viaBuffer R A cell l (suc i))) (only (seedOf (length marks) words cell) (2 * e .period + 1 - gateDelay (registerDriver (e .register)) l))))
   unfolding arrival closeCost rulesFor rulesOf only
   whole l h =
       simp
@@ -142,9 +142,9 @@ module _ (p : Problem) (marks words : List ℕ) (cell : ℕ) (ready : Ready p ma
   through-arrival s l h = rw (whole l h) (simp s (ap (only (leb l (e .limit .0))) (omega arith)))
 
   module _ (mid : List ℕ) (to l : ℕ) where
-    pub buffered-through : site p marks cell ≡ true → ((k : ℕ) → k < rowWords → getD mid (cell * 64 + k) 0 ≡ getD words (cell * 64 + k) 0) → getD mid (to + l) 0 ≡ limited words cell (e .limit .0) l → buffered mid cell to e (e .count) l ≡ through l
-    unfolding through buffered only behind
-    buffered-through s row here =
+    pub raised-by-through : site p marks cell ≡ true → ((k : ℕ) → k < rowWords → getD mid (cell * rowWords + k) 0 ≡ getD words (cell * rowWords + k) 0) → getD mid (to + l) 0 ≡ limited words cell (e .limit .0) l → raisedByBuffers mid cell to e (e .count) l ≡ through l
+    unfolding through raisedByBuffers only behind
+    raised-by-through s row here =
         rw (buffers-listed s l, ← same) (raised-once (leb l (e .limit .0)) _ _ _ _ here)
       where
         same : maxBelow (e .count) (behind mid cell e l) ≡ maxBelow (e .count) (behind words cell e l)

@@ -7,6 +7,7 @@ use native.Mathlib.Omega.{arith}
 use lib.ListN.{length, getD, set, length-set}
 use lib.Seq.{getD-set-same, getD-set-other}
 use Rattle.plan.proofs.Truth.{split, equal}
+use Rattle.layout.specs.Layout.{activeAt, listedAt, seedsAt, cellWords}
 use Rattle.rows.specs.Words.{Kept, KeptFrom}
 use Rattle.costs.specs.Costs.{CostsOf}
 use Rattle.lists.specs.Lists.{flagOf, Place, Listed}
@@ -22,10 +23,10 @@ use Rattle.table.specs.Layer.{FlagsCleared, SpreadAllAsks}
 -- the flags of the first i cells of the list are cleared
 pub record Clearing (n i : ℕ) (old now : List ℕ) : Type 0 where
   pub same : length now ≡ length old
-  pub cleared : (j : ℕ) → j < i → flagOf n now (getD old (n * 132 + j) 0) ≡ 0
+  pub cleared : (j : ℕ) → j < i → flagOf n now (getD old (n * activeAt + j) 0) ≡ 0
   pub flags : (c : ℕ) → c < n → (flagOf n now c ≡ 0) ⊎ (flagOf n now c ≡ flagOf n old c)
-  pub low : Kept 0 (n * 134) old now
-  pub rest : KeptFrom (n * 135) old now
+  pub low : Kept 0 (n * listedAt) old now
+  pub rest : KeptFrom (n * seedsAt) old now
 
 pub clear-none : (n : ℕ) (old : List ℕ) → Clearing n 0 old old
 clear-none n old =
@@ -38,7 +39,7 @@ clear-none n old =
     }
 
 -- all are
-pub clear-all : {n active : ℕ} {old now : List ℕ} → Listed n old (n * 132) active → Clearing n active old now → FlagsCleared n old now
+pub clear-all : {n active : ℕ} {old now : List ℕ} → Listed n old (n * activeAt) active → Clearing n active old now → FlagsCleared n old now
 clear-all {n} {active} {old} {now} listed f =
     record {
       same = f .same;
@@ -47,7 +48,7 @@ clear-all {n} {active} {old} {now} listed f =
       rest = f .rest;
     }
   where
-    listed-clear : (c : ℕ) → Place n old (n * 132) active c → flagOf n now c ≡ 0
+    listed-clear : (c : ℕ) → Place n old (n * activeAt) active c → flagOf n now c ≡ 0
     listed-clear c p = rw (p .holds) at (f .cleared (p .at) (p .below))
 
     clear : (c : ℕ) → c < n → (flagOf n old c ≡ 0) ⊎ (flagOf n old c ≡ 1) → (flagOf n now c ≡ 0) ⊎ (flagOf n now c ≡ flagOf n old c) → flagOf n now c ≡ 0
@@ -56,43 +57,43 @@ clear-all {n} {active} {old} {now} listed f =
     clear c h (inr a) (inr z) = listed-clear c (listed .covered c h a)
 
 -- one more
-module _ (n active i : ℕ) (old now : List ℕ) (listed : Listed n old (n * 132) active) (room : n * 256 ≤ length old) (short : i < active) (before : Clearing n i old now) where
-  same-cell : getD now (n * 132 + i) 0 ≡ getD old (n * 132 + i) 0
-  same-cell = before .low (n * 132 + i) (omega arith) (omega (arith, listed-count listed))
+module _ (n active i : ℕ) (old now : List ℕ) (listed : Listed n old (n * activeAt) active) (room : n * cellWords ≤ length old) (short : i < active) (before : Clearing n i old now) where
+  same-cell : getD now (n * activeAt + i) 0 ≡ getD old (n * activeAt + i) 0
+  same-cell = before .low (n * activeAt + i) (omega arith) (omega (arith, listed-count listed))
 
-  pub cell-in : getD now (n * 132 + i) 0 < n
+  pub cell-in : getD now (n * activeAt + i) 0 < n
   cell-in = omega (arith, same-cell, listed .cells i short)
 
   abbrev cell : ℕ
-  cell = getD now (n * 132 + i) 0
+  cell = getD now (n * activeAt + i) 0
 
   abbrev last : List ℕ
-  last = set now (n * 134 + cell) 0
+  last = set now (n * listedAt + cell) 0
 
-  other : (k : ℕ) → (k ≡ n * 134 + cell → ⊥) → getD last k 0 ≡ getD now k 0
-  other k f = getD-set-other now (n * 134 + cell) k 0 0 f
+  other : (k : ℕ) → (k ≡ n * listedAt + cell → ⊥) → getD last k 0 ≡ getD now k 0
+  other k f = getD-set-other now (n * listedAt + cell) k 0 0 f
 
   clear-now : flagOf n last cell ≡ 0
-  clear-now = getD-set-same now (n * 134 + cell) 0 0 (omega (arith, cell-in, before .same))
+  clear-now = getD-set-same now (n * listedAt + cell) 0 0 (omega (arith, cell-in, before .same))
 
   flag-other : (c : ℕ) → (c ≡ cell → ⊥) → flagOf n last c ≡ flagOf n now c
-  flag-other c e = other (n * 134 + c) (λ z. e (omega arith))
+  flag-other c e = other (n * listedAt + c) (λ z. e (omega arith))
 
   pub clear-more : Clearing n (i + 1) old last
   clear-more =
       record {
-        same = length-set now (n * 134 + cell) 0 ∙ before .same;
-        cleared = λ j h. cleared j h (equal (getD old (n * 132 + j) 0) cell);
+        same = length-set now (n * listedAt + cell) 0 ∙ before .same;
+        cleared = λ j h. cleared j h (equal (getD old (n * activeAt + j) 0) cell);
         flags = λ c h. flags c (equal c cell) (before .flags c h);
         low = λ k lo hi. other k (λ e. omega arith) ∙ before .low k lo hi;
         rest = λ k lo. other k (λ e. omega (arith, cell-in)) ∙ before .rest k lo;
       }
     where
-      cleared : (j : ℕ) → j < i + 1 → (getD old (n * 132 + j) 0 ≡ cell) ⊎ (getD old (n * 132 + j) 0 ≡ cell → ⊥) → flagOf n last (getD old (n * 132 + j) 0) ≡ 0
+      cleared : (j : ℕ) → j < i + 1 → (getD old (n * activeAt + j) 0 ≡ cell) ⊎ (getD old (n * activeAt + j) 0 ≡ cell → ⊥) → flagOf n last (getD old (n * activeAt + j) 0) ≡ 0
       cleared j h (inl e) = rw e clear-now
       cleared j h (inr e) = out (split i j)
         where
-          out : (i ≤ j) ⊎ (j < i) → flagOf n last (getD old (n * 132 + j) 0) ≡ 0
+          out : (i ≤ j) ⊎ (j < i) → flagOf n last (getD old (n * activeAt + j) 0) ≡ 0
           out (inl g) = absurd (e (let z : j ≡ i = omega arith in rw z (sym same-cell)))
           out (inr g) = flag-other _ e ∙ before .cleared j g
 
@@ -102,7 +103,7 @@ module _ (n active i : ℕ) (old now : List ℕ) (listed : Listed n old (n * 132
       flags c (inr e) (inr z) = inr (flag-other c e ∙ z)
 
 -- the pushes may begin
-pub cleared-asks : (p : Problem) (marks costs : List ℕ) (active : ℕ) (t : Trail) (old mid : List ℕ) → Ready p marks → length marks * 256 ≤ length old → Sound (length marks) old t → Listed (length marks) old (length marks * 132) active → Unlinked (rulesFor p marks) (length marks) old → CostsOf (p .elements) costs → FlagsCleared (length marks) old mid → SpreadAllAsks p marks costs active t mid
+pub cleared-asks : (p : Problem) (marks costs : List ℕ) (active : ℕ) (t : Trail) (old mid : List ℕ) → Ready p marks → length marks * cellWords ≤ length old → Sound (length marks) old t → Listed (length marks) old (length marks * activeAt) active → Unlinked (rulesFor p marks) (length marks) old → CostsOf (p .elements) costs → FlagsCleared (length marks) old mid → SpreadAllAsks p marks costs active t mid
 cleared-asks p marks costs active t old mid ready room sound listed unlinked costed f =
     record {
       ready = ready;
@@ -115,5 +116,5 @@ cleared-asks p marks costs active t old mid ready room sound listed unlinked cos
       unlinked = λ i j h k. rw (same i h, same j k) (unlinked _ _ (listed .cells i h) (listed .cells j k) (listed .flagged i h) (listed .flagged j k));
     }
   where
-    same : (i : ℕ) → i < active → getD mid (length marks * 132 + i) 0 ≡ getD old (length marks * 132 + i) 0
-    same i h = f .low (length marks * 132 + i) (omega arith) (omega (arith, listed-count listed))
+    same : (i : ℕ) → i < active → getD mid (length marks * activeAt + i) 0 ≡ getD old (length marks * activeAt + i) 0
+    same i h = f .low (length marks * activeAt + i) (omega arith) (omega (arith, listed-count listed))

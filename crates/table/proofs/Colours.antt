@@ -10,6 +10,7 @@ use Rattle.budget.specs.Colours.{Colouring}
 use Rattle.budget.proofs.Max.{Above, below-max, only-test}
 use Rattle.budget.proofs.Active.{max-at}
 use Rattle.budget.proofs.Colours.{rules-colouring, linked-in-step, same-unlinked}
+use Rattle.layout.specs.Layout.{activeAt}
 use Rattle.lists.specs.Lists.{flagOf, Listed}
 use Rattle.lists.proofs.Lists.{empty-flags}
 use Rattle.trail.specs.declared.Trail.{Trail}
@@ -17,7 +18,7 @@ use Rattle.table.specs.declared.problem.Problem.{Problem}
 use Rattle.table.specs.declared.pushes.Grown.{Grown}
 use Rattle.table.specs.Problem.{planFor, rulesFor, budgetOf}
 use Rattle.table.specs.Layer.{arrivals, SpreadAll, Layered}
-use Rattle.table.specs.Colours.{Giver, Coloured, Unlinked}
+use Rattle.table.specs.Colours.{ActiveNeighbour, Coloured, Unlinked}
 
 -- the rules of a problem have a colouring
 pub problem-colouring : (p : Problem) (marks : List ℕ) → Colouring (rulesFor p marks)
@@ -36,27 +37,27 @@ pub coloured-kept : {R : Rules} {n s : ℕ} {old : List ℕ} → Coloured R n s 
 coloured-kept k new old = record { inStep = λ c h f. k .inStep c h (old c h f) }
 
 -- Proof: what is in the table after the pushes was there or is given by a listed cell, and a cell gives only over a wire. Qed.
-pub pushes-giver : (R : Rules) (n : ℕ) (t : Trail) (old mid pushed : List ℕ) (active : ℕ) (next : Grown) → Listed n old (n * 132) active → ((i : ℕ) → i < active → getD mid (n * 132 + i) 0 ≡ getD old (n * 132 + i) 0) → SpreadAll R n active t mid pushed next → (c l : ℕ) → budgetOf n mid c l < budgetOf n pushed c l → Giver R n old c
+pub pushes-neighbour : (R : Rules) (n : ℕ) (t : Trail) (old mid pushed : List ℕ) (active : ℕ) (next : Grown) → Listed n old (n * activeAt) active → ((i : ℕ) → i < active → getD mid (n * activeAt + i) 0 ≡ getD old (n * activeAt + i) 0) → SpreadAll R n active t mid pushed next → (c l : ℕ) → budgetOf n mid c l < budgetOf n pushed c l → ActiveNeighbour R n old c
 unfolding given
-pushes-giver R n t old mid pushed active next listed same spread c l more =
-    from (below-max active gift (budgetOf n mid c l) (omega (arith, spread .most (max (budgetOf n mid c l) (maxBelow active gift)) c l (omega arith) (λ i h. omega (arith, max-at active gift i h)))))
+pushes-neighbour R n t old mid pushed active next listed same spread c l more =
+    from (below-max active offered (budgetOf n mid c l) (omega (arith, spread .most (max (budgetOf n mid c l) (maxBelow active offered)) c l (omega arith) (λ i h. omega (arith, max-at active offered i h)))))
   where
-    gift : ℕ → ℕ
-    gift i = given R (arrivals R n mid) (getD mid (n * 132 + i) 0) c l
+    offered : ℕ → ℕ
+    offered i = given R (arrivals R n mid) (getD mid (n * activeAt + i) 0) c l
 
-    from : Above active gift (budgetOf n mid c l) → Giver R n old c
+    from : Above active offered (budgetOf n mid c l) → ActiveNeighbour R n old c
     from x =
         record {
-          cell = getD old (n * 132 + x .at) 0;
+          cell = getD old (n * activeAt + x .at) 0;
           inside = listed .cells (x .at) (x .below);
           flagged = listed .flagged (x .at) (x .below);
-          link = rw (same (x .at) (x .below)) at (only-test (R .linked c (getD mid (n * 132 + x .at) 0)) _ (budgetOf n mid c l) (x .above));
+          link = rw (same (x .at) (x .below)) at (only-test (R .linked c (getD mid (n * activeAt + x .at) 0)) _ (budgetOf n mid c l) (x .above));
         }
 
 pub coloured-layer : {R : Rules} {n s : ℕ} {t : Trail} {old new : List ℕ} {next : Grown} → Layered R n t old new next → Coloured R n s old → Coloured R n (suc s) new
 coloured-layer {R} {n} {s} {t} {old} l k =
     record {
       inStep = λ c h f.
-          let g : Giver R n old c = l .giver c h f in
+          let g : ActiveNeighbour R n old c = l .neighbour c h f in
           linked-in-step c (g .link) (k .inStep (g .cell) (g .inside) (g .flagged));
     }

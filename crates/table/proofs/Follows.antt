@@ -5,6 +5,8 @@ use mathlib.Core.Logic.{_⊎_, inl, inr}
 use mathlib.Core.List.{List}
 use native.Mathlib.Omega.{arith}
 use Rattle.plan.proofs.Truth.{equal}
+use Rattle.costs.specs.Costs.{rowWords}
+use Rattle.layout.specs.Layout.{arrivalAt, labelsAt, listedAt, trailAt}
 use Rattle.rows.specs.Words.{Kept, KeptFrom}
 use Rattle.lists.specs.Lists.{flagOf}
 use Rattle.trail.specs.declared.Trail.{Trail}
@@ -37,7 +39,7 @@ follows-more f g =
     }
 
 -- table, flags and trail stay
-pub follows-kept : {n : ℕ} {t : Trail} {old new : List ℕ} → 0 < n → Sound n old t → Kept 0 (n * 64) old new → KeptFrom (n * 64 + 64) old new → Follows n t old t new
+pub follows-kept : {n : ℕ} {t : Trail} {old new : List ℕ} → 0 < n → Sound n old t → Kept 0 (n * arrivalAt) old new → KeptFrom (n * arrivalAt + rowWords) old new → Follows n t old t new
 follows-kept {n} {t} {old} {new} some s low high =
     record {
       sound = sound-kept n old t new s kept;
@@ -45,8 +47,8 @@ follows-kept {n} {t} {old} {new} some s low high =
       stamp = refl;
       near = λ few k lo hi. high k lo;
       beyond = λ k h. high k (omega arith);
-      noted = λ f c h e. noted-kept n old t new s kept c (f c h (sym (high (n * 134 + c) (omega arith)) ∙ e));
-      history = λ f u Z below past. history-kept n old t new s kept u Z (λ c h l k. low (c * 64 + l) (omega arith) (omega arith)) past;
+      noted = λ f c h e. noted-kept n old t new s kept c (f c h (sym (high (n * listedAt + c) (omega arith)) ∙ e));
+      history = λ f u Z below past. history-kept n old t new s kept u Z (λ c h l k. low (c * rowWords + l) (omega arith) (omega arith)) past;
     }
   where
     kept : TrailKept n old new
@@ -70,14 +72,14 @@ noted-saved {n} {cell} {old} {new} {t} {r} x =
             stamp = x .stamp;
             near = x .near;
             beyond = x .high;
-            noted = λ f c h e. x .others c (f c h (sym (x .labels (n * 134 + c) (omega arith) (omega arith)) ∙ e));
+            noted = λ f c h e. x .others c (f c h (sym (x .labels (n * listedAt + c) (omega arith) (omega arith)) ∙ e));
             history = λ f u Z below past. x .history u Z below past;
           };
       noted = λ f. x .noted;
     }
 
 -- then its row and its flag change
-module _ (n cell : ℕ) (old : List ℕ) (t : Trail) (mid : List ℕ) (r : Trail) (note : NotedRow n cell old t mid r) (new : List ℕ) (near : Kept (n * 64 + 64) (n * 128) mid new) (high : KeptFrom (n * 136) mid new) (rows : (c : ℕ) → c < n → (c ≡ cell → ⊥) → SameView mid new c) (flags : (c : ℕ) → c < n → (c ≡ cell → ⊥) → flagOf n new c ≡ flagOf n mid c) where
+module _ (n cell : ℕ) (old : List ℕ) (t : Trail) (mid : List ℕ) (r : Trail) (note : NotedRow n cell old t mid r) (new : List ℕ) (near : Kept (n * arrivalAt + rowWords) (n * labelsAt) mid new) (high : KeptFrom (n * trailAt) mid new) (rows : (c : ℕ) → c < n → (c ≡ cell → ⊥) → SameView mid new c) (flags : (c : ℕ) → c < n → (c ≡ cell → ⊥) → flagOf n new c ≡ flagOf n mid c) where
   kept : TrailKept n mid new
   kept = record { near = near; far = λ k lo hi. high k lo }
 

@@ -16,10 +16,11 @@ use Rattle.timing.specs.Formulas.{wireDelay, wireLoad}
 use Rattle.plan.proofs.Truth.{split}
 use Rattle.rules.specs.Rules.{Rules}
 use Rattle.budget.specs.Table.{Table, only, given}
-use Rattle.budget.specs.Sides.{gift, isSide}
+use Rattle.budget.specs.Sides.{viaWire, isSide}
 use Rattle.budget.proofs.Sides.{four-sides}
 use Rattle.budget.proofs.Max.{only-false}
 use Rattle.budget.proofs.Active.{arrival-row, arrival-past, given-row}
+use Rattle.layout.specs.Layout.{arrivalAt, labelsAt, activeAt, nextAt, listedAt}
 use Rattle.rows.specs.Words.{Filled, KeptFrom}
 use Rattle.lists.specs.Lists.{Listed}
 use Rattle.lists.proofs.Lists.{listed-none, listed-kept}
@@ -31,7 +32,7 @@ use Rattle.costs.specs.Costs.{rowWords, costWords, stepCost, horizontalAt, vert
 use Rattle.rows.specs.Rows.{StepRow}
 use Rattle.rows.proofs.Leaves.{step-leaves}
 use Rattle.table.specs.Problem.{planFor, rulesFor, Ready, budgetOf, seedOf}
-use Rattle.table.specs.Layer.{arrivalOf, rowGift, arrivals, Raised, Follows, Offered, OfferAsks, Spread, SpreadAsks, SpreadAll, SpreadAllAsks}
+use Rattle.table.specs.Layer.{arrivalOf, viaStep, arrivals, Raised, Follows, Offered, OfferAsks, Spread, SpreadAsks, SpreadAll, SpreadAllAsks}
 use Rattle.table.proofs.Views.{budget-kept, seeds-kept, arrival-at, arrival-outside, limit-named}
 use Rattle.table.proofs.Follows.{follows-same, follows-kept, follows-more}
 use Rattle.table.proofs.WholeLayer.{raised-more}
@@ -74,7 +75,7 @@ module _ (p : Problem) (marks costs : List ℕ) (cell : ℕ) (next : Grown) (wor
       }
 
   -- what each offer asks
-  pub offer-asks : (to base step : ℕ) (now : List ℕ) (from : Grown) → StepRow costs base step → to ≤ cells P → length now ≡ length words → Listed n now (n * 133) (from .count) → Sound n now (from .trail) → OfferAsks n to costs base step from now
+  pub offer-asks : (to base step : ℕ) (now : List ℕ) (from : Grown) → StepRow costs base step → to ≤ cells P → length now ≡ length words → Listed n now (n * nextAt) (from .count) → Sound n now (from .trail) → OfferAsks n to costs base step from now
   offer-asks to base step now from row h same listed sound =
       record {
         toIn = omega (arith, cells-are p marks (asks .ready));
@@ -85,7 +86,7 @@ module _ (p : Problem) (marks costs : List ℕ) (cell : ℕ) (next : Grown) (wor
         sound = sound;
       }
 
-  sides : (B : Table) → ((l : ℕ) → p .elements .limit .0 < l → B cell l ≡ 0) → (c l x : ℕ) → max (max (max (max x (only (isSide n (neighboursOf P cell .up) c) (gift (p .elements .vertical) (p .elements .limit .0) B cell l))) (only (isSide n (neighboursOf P cell .left) c) (gift (p .elements .horizontal) (p .elements .limit .0) B cell l))) (only (isSide n (neighboursOf P cell .right) c) (gift (p .elements .horizontal) (p .elements .limit .0) B cell l))) (only (isSide n (neighboursOf P cell .down) c) (gift (p .elements .vertical) (p .elements .limit .0) B cell l)) ≡ max x (given (rulesFor p marks) B cell c l)
+  sides : (B : Table) → ((l : ℕ) → p .elements .limit .0 < l → B cell l ≡ 0) → (c l x : ℕ) → max (max (max (max x (only (isSide n (neighboursOf P cell .up) c) (viaWire (p .elements .vertical) (p .elements .limit .0) B cell l))) (only (isSide n (neighboursOf P cell .left) c) (viaWire (p .elements .horizontal) (p .elements .limit .0) B cell l))) (only (isSide n (neighboursOf P cell .right) c) (viaWire (p .elements .horizontal) (p .elements .limit .0) B cell l))) (only (isSide n (neighboursOf P cell .down) c) (viaWire (p .elements .vertical) (p .elements .limit .0) B cell l)) ≡ max x (given (rulesFor p marks) B cell c l)
   unfolding rulesFor
   sides B past c l x =
       rw (cells-are p marks (asks .ready))
@@ -95,8 +96,8 @@ module _ (p : Problem) (marks costs : List ℕ) (cell : ℕ) (next : Grown) (wor
   R = rulesFor p marks
 
   -- first the arrival row is made
-  module _ (w₀ : List ℕ) (fill : Filled (arrivals R n words cell) (n * 64) rowWords words w₀) where
-    high : KeptFrom (n * 128) words w₀
+  module _ (w₀ : List ℕ) (fill : Filled (arrivals R n words cell) (n * arrivalAt) rowWords words w₀) where
+    high : KeptFrom (n * labelsAt) words w₀
     high k h = fill .high k (omega (arith, asks .cellIn))
 
     filled-budget : (c l : ℕ) → budgetOf n w₀ c l ≡ budgetOf n words c l
@@ -111,9 +112,9 @@ module _ (p : Problem) (marks costs : List ℕ) (cell : ℕ) (next : Grown) (wor
             ∙ sym (arrival-past R (seedOf n words) (R .bound 0) (budgetOf n words) cell l (omega (arith, limit-named p marks, asks .ready .valid .limit)))
         go (inr h) = arrival-at n w₀ l h ∙ fill .done l h
 
-    pub filled-listed : Listed n w₀ (n * 133) (next .count)
+    pub filled-listed : Listed n w₀ (n * nextAt) (next .count)
     filled-listed =
-        listed-kept (asks .listed) w₀ (λ c h. high (n * 134 + c) (omega arith)) (λ i h. high (n * 133 + i) (omega arith))
+        listed-kept (asks .listed) w₀ (λ c h. high (n * listedAt + c) (omega arith)) (λ i h. high (n * nextAt + i) (omega arith))
 
     pub filled-follows : Follows n (next .trail) words (next .trail) w₀
     filled-follows = follows-kept (omega (arith, asks .cellIn)) (asks .sound) (λ k lo hi. fill .low k hi) (fill .high)
@@ -123,7 +124,7 @@ module _ (p : Problem) (marks costs : List ℕ) (cell : ℕ) (next : Grown) (wor
         record {
           same = fill .same;
           listed = filled-listed;
-          flags = λ c h. inl (high (n * 134 + c) (omega arith));
+          flags = λ c h. inl (high (n * listedAt + c) (omega arith));
           quiet = λ c h z. filled-budget c;
           kept = λ k lo hi. high k lo;
           seeds = λ k lo hi. high k (omega arith);
@@ -144,10 +145,10 @@ module _ (p : Problem) (marks costs : List ℕ) (cell : ℕ) (next : Grown) (wor
       past : (l : ℕ) → p .elements .limit .0 < l → arrivals R n words cell l ≡ 0
       past l h = arrival-past R (seedOf n words) (R .bound 0) (budgetOf n words) cell l (omega (arith, limit-named p marks))
 
-      -- one gift, of the cell's arrival row
-      gift-row : (wire : Wire) (base : ℕ) → RowAt (stepCost wire (p .elements .limit .0)) base costs → (old : List ℕ) → ((l : ℕ) → arrivalOf n old l ≡ arrivals R n words cell l) → (l : ℕ) → rowGift n old costs base (wireLoad wire) l ≡ gift wire (p .elements .limit .0) (arrivals R n words) cell l
-      unfolding gift
-      gift-row wire base row old e l = go (split (l + wireLoad wire) (p .elements .limit .0))
+      -- what one wire leaves of the cell's arrival row
+      via-wire-row : (wire : Wire) (base : ℕ) → RowAt (stepCost wire (p .elements .limit .0)) base costs → (old : List ℕ) → ((l : ℕ) → arrivalOf n old l ≡ arrivals R n words cell l) → (l : ℕ) → viaStep n old costs base (wireLoad wire) l ≡ viaWire wire (p .elements .limit .0) (arrivals R n words) cell l
+      unfolding viaWire
+      via-wire-row wire base row old e l = go (split (l + wireLoad wire) (p .elements .limit .0))
         where
           go : (l + wireLoad wire ≤ p .elements .limit .0) ⊎ (p .elements .limit .0 < l + wireLoad wire) → arrivalOf n old (l + wireLoad wire) - getD costs (base + l) 0 ≡ only (leb (l + wireLoad wire) (p .elements .limit .0)) (arrivals R n words cell (l + wireLoad wire) - wireDelay wire l)
           go (inl h) =
@@ -157,8 +158,8 @@ module _ (p : Problem) (marks costs : List ℕ) (cell : ℕ) (next : Grown) (wor
               omega (arith, e (l + wireLoad wire), past (l + wireLoad wire) h, only-false (leb (l + wireLoad wire) (p .elements .limit .0)) (arrivals R n words cell (l + wireLoad wire) - wireDelay wire l) (λ t. omega (arith, leb→le (l + wireLoad wire) (p .elements .limit .0) t)))
 
       -- and one offer
-      at-start : (to : ℕ) (wire : Wire) (base : ℕ) → RowAt (stepCost wire (p .elements .limit .0)) base costs → (t : Trail) (old new : List ℕ) (k : Grown) → Offered n to costs base (wireLoad wire) t old new k → ((l : ℕ) → arrivalOf n old l ≡ arrivals R n words cell l) → (c l : ℕ) → budgetOf n new c l ≡ max (budgetOf n old c l) (only (isSide n to c) (gift wire (p .elements .limit .0) (arrivals R n words) cell l))
-      at-start to wire base row t old new k o e c l = o .table c l ∙ rw (gift-row wire base row old e l)
+      at-start : (to : ℕ) (wire : Wire) (base : ℕ) → RowAt (stepCost wire (p .elements .limit .0)) base costs → (t : Trail) (old new : List ℕ) (k : Grown) → Offered n to costs base (wireLoad wire) t old new k → ((l : ℕ) → arrivalOf n old l ≡ arrivals R n words cell l) → (c l : ℕ) → budgetOf n new c l ≡ max (budgetOf n old c l) (only (isSide n to c) (viaWire wire (p .elements .limit .0) (arrivals R n words) cell l))
+      at-start to wire base row t old new k o e c l = o .table c l ∙ rw (via-wire-row wire base row old e l)
 
       spread-table : (c l : ℕ) → budgetOf n w₄ c l ≡ max (budgetOf n words c l) (given R (arrivals R n words) cell c l)
       spread-table c l =
@@ -201,8 +202,8 @@ module _ (p : Problem) (marks costs : List ℕ) (active : ℕ) (t : Trail) (word
   Q = rulesFor p marks
 
   -- the cell at place i of the list
-  abbrev giver : ℕ → ℕ
-  giver i = getD words (m * 132 + i) 0
+  abbrev activeCell : ℕ → ℕ
+  activeCell i = getD words (m * activeAt + i) 0
 
   pub spread-none : SpreadAll Q m 0 t words words (record { count = 0; trail = t })
   spread-none =
@@ -210,7 +211,7 @@ module _ (p : Problem) (marks costs : List ℕ) (active : ℕ) (t : Trail) (word
         raised =
             record {
               same = refl;
-              listed = listed-none m words (m * 133) (asks .unflagged);
+              listed = listed-none m words (m * nextAt) (asks .unflagged);
               flags = λ c h. inl refl;
               quiet = λ c h z l. refl;
               kept = λ k lo hi. refl;
@@ -223,24 +224,24 @@ module _ (p : Problem) (marks costs : List ℕ) (active : ℕ) (t : Trail) (word
       }
 
   -- no cell of the list gives to another
-  gives-none : (B : Table) (i j l : ℕ) → i < active → j < active → given Q B (giver j) (giver i) l ≡ 0
+  gives-none : (B : Table) (i j l : ℕ) → i < active → j < active → given Q B (activeCell j) (activeCell i) l ≡ 0
   unfolding given
-  gives-none B i j l h k = only-false (Q .linked (giver i) (giver j)) _ (asks .unlinked i j h k)
+  gives-none B i j l h k = only-false (Q .linked (activeCell i) (activeCell j)) _ (asks .unlinked i j h k)
 
   module _ (now : List ℕ) (i : ℕ) (next : Grown) (short : i < active) (before : SpreadAll Q m i t words now next) where
-    same-cell : getD now (m * 132 + i) 0 ≡ giver i
-    same-cell = before .raised .kept (m * 132 + i) (omega arith) (omega (arith, asks .short))
+    same-cell : getD now (m * activeAt + i) 0 ≡ activeCell i
+    same-cell = before .raised .kept (m * activeAt + i) (omega arith) (omega (arith, asks .short))
 
     -- so its row is as it was
-    same-row : (l : ℕ) → budgetOf m now (giver i) l ≡ budgetOf m words (giver i) l
+    same-row : (l : ℕ) → budgetOf m now (activeCell i) l ≡ budgetOf m words (activeCell i) l
     same-row l =
         omega (
           arith,
-          before .least (giver i) l,
-          before .most (budgetOf m words (giver i) l) (giver i) l (omega arith) (λ j h. omega (arith, gives-none (arrivals Q m words) i j l short (omega arith))),
+          before .least (activeCell i) l,
+          before .most (budgetOf m words (activeCell i) l) (activeCell i) l (omega arith) (λ j h. omega (arith, gives-none (arrivals Q m words) i j l short (omega arith))),
         )
 
-    pub spread-next-asks : SpreadAsks p marks costs (getD now (m * 132 + i) 0) next now
+    pub spread-next-asks : SpreadAsks p marks costs (getD now (m * activeAt + i) 0) next now
     spread-next-asks =
         record {
           ready = asks .ready;
@@ -251,7 +252,7 @@ module _ (p : Problem) (marks costs : List ℕ) (active : ℕ) (t : Trail) (word
           sound = before .follows .sound;
         }
 
-    pub spread-more : (last : List ℕ) (count : Grown) → Spread Q m (getD now (m * 132 + i) 0) (next .trail) now last count → SpreadAll Q m (i + 1) t words last count
+    pub spread-more : (last : List ℕ) (count : Grown) → Spread Q m (getD now (m * activeAt + i) 0) (next .trail) now last count → SpreadAll Q m (i + 1) t words last count
     spread-more last count s =
         record {
           raised = raised-more m words now last (next .count) (count .count) (before .least) grows (before .raised) (s .raised);
@@ -264,14 +265,14 @@ module _ (p : Problem) (marks costs : List ℕ) (active : ℕ) (t : Trail) (word
         grows : (c l : ℕ) → budgetOf m now c l ≤ budgetOf m last c l
         grows c l = omega (arith, s .table c l)
 
-        given-now : (c l : ℕ) → given Q (arrivals Q m now) (getD now (m * 132 + i) 0) c l ≡ given Q (arrivals Q m words) (giver i) c l
+        given-now : (c l : ℕ) → given Q (arrivals Q m now) (getD now (m * activeAt + i) 0) c l ≡ given Q (arrivals Q m words) (activeCell i) c l
         given-now c l =
             rw same-cell
-            (given-row Q (arrivals Q m words) (arrivals Q m now) (giver i)
-            (arrival-row Q (seedOf m words) (seedOf m now) (Q .bound 0) (budgetOf m words) (budgetOf m now) (giver i) same-row (seeds-kept m words now (before .raised .seeds) (giver i) (asks .cells i short)))
+            (given-row Q (arrivals Q m words) (arrivals Q m now) (activeCell i)
+            (arrival-row Q (seedOf m words) (seedOf m now) (Q .bound 0) (budgetOf m words) (budgetOf m now) (activeCell i) same-row (seeds-kept m words now (before .raised .seeds) (activeCell i) (asks .cells i short)))
             c l)
 
-        go : (j : ℕ) → j < i + 1 → (c l : ℕ) → (i ≤ j) ⊎ (j < i) → given Q (arrivals Q m words) (giver j) c l ≤ budgetOf m last c l
+        go : (j : ℕ) → j < i + 1 → (c l : ℕ) → (i ≤ j) ⊎ (j < i) → given Q (arrivals Q m words) (activeCell j) c l ≤ budgetOf m last c l
         go j h c l (inr k) = omega (arith, before .gave j k c l, grows c l)
         go j h c l (inl k) =
             let e : i ≡ j = omega arith in

@@ -9,6 +9,7 @@ use lib.Dec.{T, ltb, ltb→lt, lt→ltb}
 use lib.ListN.{getD}
 use Rattle.plan.proofs.Truth.{both, fst, snd, split}
 use Rattle.budget.proofs.Max.{only-true, only-false}
+use Rattle.layout.specs.Layout.{arrivalAt, seedsAt, trailAt}
 use Rattle.rows.specs.Words.{Kept}
 use Rattle.rows.specs.Rows.{wordOf}
 use Rattle.costs.specs.Costs.{rowWords, bufferAt}
@@ -21,7 +22,7 @@ module _ (n : ℕ) where
   in-table : (c l : ℕ) → c < n → l < rowWords → T (ltb c n && ltb l rowWords)
   in-table c l h k = both (ltb c n) (ltb l rowWords) (lt→ltb c n h) (lt→ltb l rowWords k)
 
-  pub budget-at : (words : List ℕ) (c l : ℕ) → c < n → l < rowWords → budgetOf n words c l ≡ getD words (c * 64 + l) 0
+  pub budget-at : (words : List ℕ) (c l : ℕ) → c < n → l < rowWords → budgetOf n words c l ≡ getD words (c * rowWords + l) 0
   unfolding budgetOf
   budget-at words c l h k = only-true (ltb c n && ltb l rowWords) _ (in-table c l h k)
 
@@ -30,7 +31,7 @@ module _ (n : ℕ) where
   budget-outside words c l f =
       only-false (ltb c n && ltb l rowWords) _ (λ t. f (ltb→lt c n (fst (ltb c n) _ t)) (ltb→lt l rowWords (snd (ltb c n) _ t)))
 
-  pub arrival-at : (words : List ℕ) (l : ℕ) → l < rowWords → arrivalOf n words l ≡ getD words (n * 64 + l) 0
+  pub arrival-at : (words : List ℕ) (l : ℕ) → l < rowWords → arrivalOf n words l ≡ getD words (n * arrivalAt + l) 0
   unfolding wordOf
   arrival-at words l k = only-true (ltb l rowWords) _ (lt→ltb l rowWords k)
 
@@ -49,23 +50,23 @@ module _ (n : ℕ) where
 
   -- tables stay with their words
 
-  pub budget-kept : (old new : List ℕ) → Kept 0 (n * 64) old new → (c l : ℕ) → budgetOf n new c l ≡ budgetOf n old c l
+  pub budget-kept : (old new : List ℕ) → Kept 0 (n * arrivalAt) old new → (c l : ℕ) → budgetOf n new c l ≡ budgetOf n old c l
   budget-kept old new kept c l = go (inside c l)
     where
       go : ((c < n) × (l < rowWords)) ⊎ (c < n → l < rowWords → ⊥) → budgetOf n new c l ≡ budgetOf n old c l
-      go (inl h) = budget-at new c l (h .0) (h .1) ∙ (kept (c * 64 + l) (omega arith) (omega arith) ∙ sym (budget-at old c l (h .0) (h .1)))
+      go (inl h) = budget-at new c l (h .0) (h .1) ∙ (kept (c * rowWords + l) (omega arith) (omega arith) ∙ sym (budget-at old c l (h .0) (h .1)))
       go (inr f) = budget-outside new c l f ∙ sym (budget-outside old c l f)
 
-  pub arrival-kept : (old new : List ℕ) → Kept (n * 64) (n * 64 + rowWords) old new → (l : ℕ) → arrivalOf n new l ≡ arrivalOf n old l
+  pub arrival-kept : (old new : List ℕ) → Kept (n * arrivalAt) (n * arrivalAt + rowWords) old new → (l : ℕ) → arrivalOf n new l ≡ arrivalOf n old l
   arrival-kept old new kept l = go (split rowWords l)
     where
       go : (rowWords ≤ l) ⊎ (l < rowWords) → arrivalOf n new l ≡ arrivalOf n old l
       go (inl h) = arrival-outside new l h ∙ sym (arrival-outside old l h)
-      go (inr h) = arrival-at new l h ∙ (kept (n * 64 + l) (omega arith) (omega arith) ∙ sym (arrival-at old l h))
+      go (inr h) = arrival-at new l h ∙ (kept (n * arrivalAt + l) (omega arith) (omega arith) ∙ sym (arrival-at old l h))
 
-  pub seeds-kept : (old new : List ℕ) → Kept (n * 135) (n * 136) old new → (c : ℕ) → c < n → seedOf n new c ≡ seedOf n old c
+  pub seeds-kept : (old new : List ℕ) → Kept (n * seedsAt) (n * trailAt) old new → (c : ℕ) → c < n → seedOf n new c ≡ seedOf n old c
   unfolding seedOf
-  seeds-kept old new kept c h = rw (kept (n * 135 + c) (omega arith) (omega arith))
+  seeds-kept old new kept c h = rw (kept (n * seedsAt + c) (omega arith) (omega arith))
 
 -- what the rules of a problem name
 

@@ -10,6 +10,8 @@ use lib.ListN.{getD}
 use Rattle.rules.specs.Rules.{Rules}
 use Rattle.budget.specs.Table.{Table, given, layer}
 use Rattle.budget.proofs.Active.{pushes-layer, given-most, layer-least, arrival-row, given-row}
+use Rattle.costs.specs.Costs.{rowWords}
+use Rattle.layout.specs.Layout.{activeAt, listedAt, seedsAt, trailAt}
 use Rattle.rows.specs.Words.{Kept}
 use Rattle.lists.specs.Lists.{flagOf, Place, Listed, Taken}
 use Rattle.lists.proofs.Lists.{bit-cases, listed-count}
@@ -19,8 +21,8 @@ use Rattle.trail.proofs.History.{sound-kept, history-kept}
 use Rattle.table.specs.declared.pushes.Grown.{Grown}
 use Rattle.table.specs.Problem.{budgetOf, seedOf}
 use Rattle.table.specs.Layer.{arrivals, Settled, ActiveIn, Grew, SameRow, FlagsCleared, Raised, SpreadAll, Layered}
-use Rattle.table.specs.Colours.{Giver}
-use Rattle.table.proofs.Colours.{pushes-giver}
+use Rattle.table.specs.Colours.{ActiveNeighbour}
+use Rattle.table.proofs.Colours.{pushes-neighbour}
 use Rattle.table.proofs.Views.{budget-kept, seeds-kept}
 
 -- pushes after pushes
@@ -45,7 +47,7 @@ raised-more n a b d k m up1 up2 r s =
     quiet c h z (inr e) l = absurd (omega (arith, e .0))
 
 -- From the cleared flags, the pushes and the new list to the layer.
-module _ (R : Rules) (n : ℕ) (t : Trail) (old mid pushed new : List ℕ) (active : ℕ) (next : Grown) (cells : R .cellCount ≡ n) (start : Listed n old (n * 132) active) (sound : Sound n old t) (cleared : FlagsCleared n old mid) (spread : SpreadAll R n active t mid pushed next) (taken : Taken n (next .count) pushed new) where
+module _ (R : Rules) (n : ℕ) (t : Trail) (old mid pushed new : List ℕ) (active : ℕ) (next : Grown) (cells : R .cellCount ≡ n) (start : Listed n old (n * activeAt) active) (sound : Sound n old t) (cleared : FlagsCleared n old mid) (spread : SpreadAll R n active t mid pushed next) (taken : Taken n (next .count) pushed new) where
   abbrev B : Table
   B = arrivals R n old
 
@@ -55,14 +57,14 @@ module _ (R : Rules) (n : ℕ) (t : Trail) (old mid pushed new : List ℕ) (acti
   final-budget : (c l : ℕ) → budgetOf n new c l ≡ budgetOf n pushed c l
   final-budget = budget-kept n pushed new (λ i lo hi. taken .low i (omega arith))
 
-  same-list : (i : ℕ) → i < active → getD mid (n * 132 + i) 0 ≡ getD old (n * 132 + i) 0
-  same-list i h = cleared .low (n * 132 + i) (omega arith) (omega (arith, listed-count start))
+  same-list : (i : ℕ) → i < active → getD mid (n * activeAt + i) 0 ≡ getD old (n * activeAt + i) 0
+  same-list i h = cleared .low (n * activeAt + i) (omega arith) (omega (arith, listed-count start))
 
   -- what a cell on the list gives
-  gives : (i : ℕ) → i < active → (c l : ℕ) → given R (arrivals R n mid) (getD mid (n * 132 + i) 0) c l ≡ given R B (getD old (n * 132 + i) 0) c l
+  gives : (i : ℕ) → i < active → (c l : ℕ) → given R (arrivals R n mid) (getD mid (n * activeAt + i) 0) c l ≡ given R B (getD old (n * activeAt + i) 0) c l
   gives i h c l =
-      let x : ℕ = getD old (n * 132 + i) 0 in
-      let e : getD mid (n * 132 + i) 0 ≡ x = same-list i h in
+      let x : ℕ = getD old (n * activeAt + i) 0 in
+      let e : getD mid (n * activeAt + i) 0 ≡ x = same-list i h in
       rw e (given-row R B (arrivals R n mid) x (arrival-row R (seedOf n old) (seedOf n mid) (R .bound 0) (budgetOf n old) (budgetOf n mid) x (same-budget x) (seeds-kept n old mid (λ k lo hi. cleared .rest k lo) x (start .cells i h))) c l)
 
   least : (c l : ℕ) → budgetOf n old c l ≤ budgetOf n new c l
@@ -79,7 +81,7 @@ module _ (R : Rules) (n : ℕ) (t : Trail) (old mid pushed new : List ℕ) (acti
             omega (
               arith,
               gives i h c l,
-              given-most R (seedOf n old) (R .bound 0) (budgetOf n old) (getD old (n * 132 + i) 0) c l (omega (arith, start .cells i h)),
+              given-most R (seedOf n old) (R .bound 0) (budgetOf n old) (getD old (n * activeAt + i) 0) c l (omega (arith, start .cells i h)),
             )),
       )
 
@@ -87,9 +89,9 @@ module _ (R : Rules) (n : ℕ) (t : Trail) (old mid pushed new : List ℕ) (acti
   all : {P : ℕ → Bool} {count : ℕ} → ActiveIn R n P old count → (x c l : ℕ) → x < n → T (P x) → given R B x c l ≤ budgetOf n new c l
   all right x c l h t = go (bit-cases (flagOf n old x) (start .bits x h))
     where
-      listed : Place n old (n * 132) active x → given R B x c l ≤ budgetOf n new c l
+      listed : Place n old (n * activeAt) active x → given R B x c l ≤ budgetOf n new c l
       listed p =
-          let q : given R B (getD old (n * 132 + p .at) 0) c l ≤ budgetOf n new c l = omega (arith, gives (p .at) (p .below) c l, spread .gave (p .at) (p .below) c l, final-budget c l) in
+          let q : given R B (getD old (n * activeAt + p .at) 0) c l ≤ budgetOf n new c l = omega (arith, gives (p .at) (p .below) c l, spread .gave (p .at) (p .below) c l, final-budget c l) in
           rw (p .holds) at q
 
       go : (flagOf n old x ≡ 0) ⊎ (flagOf n old x ≡ 1) → given R B x c l ≤ budgetOf n new c l
@@ -97,7 +99,7 @@ module _ (R : Rules) (n : ℕ) (t : Trail) (old mid pushed new : List ℕ) (acti
       go (inr z) = listed (start .covered x h z)
 
   flag-new : (c : ℕ) → flagOf n new c ≡ flagOf n pushed c
-  flag-new c = taken .high (n * 134 + c) (omega arith)
+  flag-new c = taken .high (n * listedAt + c) (omega arith)
 
   grew : (c : ℕ) → c < n → flagOf n new c ≡ 1 → Grew n old new c
   grew c h f = go (spread .raised .flags c h)
@@ -109,13 +111,13 @@ module _ (R : Rules) (n : ℕ) (t : Trail) (old mid pushed new : List ℕ) (acti
   quiet : (c : ℕ) → c < n → flagOf n new c ≡ 0 → SameRow n old new c
   quiet c h f l = final-budget c l ∙ (spread .raised .quiet c h (sym (flag-new c) ∙ f) l ∙ same-budget c l)
 
-  seeds : Kept (n * 135) (n * 136) old new
+  seeds : Kept (n * seedsAt) (n * trailAt) old new
   seeds i lo hi = taken .high i (omega arith) ∙ (spread .raised .seeds i lo hi ∙ cleared .rest i lo)
 
-  giver : (c : ℕ) → c < n → flagOf n new c ≡ 1 → Giver R n old c
-  giver c h f =
+  neighbour : (c : ℕ) → c < n → flagOf n new c ≡ 1 → ActiveNeighbour R n old c
+  neighbour c h f =
       let g = grew c h f in
-      pushes-giver R n t old mid pushed active next start same-list spread c (g .load) (omega (arith, g .more, same-budget c (g .load), final-budget c (g .load)))
+      pushes-neighbour R n t old mid pushed active next start same-list spread c (g .load) (omega (arith, g .more, same-budget c (g .load), final-budget c (g .load)))
 
   taken-trail : TrailKept n pushed new
   taken-trail = record { near = λ i lo hi. taken .low i (omega arith); far = λ i lo hi. taken .high i (omega arith) }
@@ -123,9 +125,9 @@ module _ (R : Rules) (n : ℕ) (t : Trail) (old mid pushed new : List ℕ) (acti
   -- the cleared flags and the new list leave the table and the trail
   history : (u : ℕ) (Z : ℕ → Table) → u < t .stamp → History n old t u Z → History n new (next .trail) u Z
   history u Z below past =
-      history-kept n pushed (next .trail) new (spread .follows .sound) taken-trail u Z (λ c h l k. taken .low (c * 64 + l) (omega arith))
+      history-kept n pushed (next .trail) new (spread .follows .sound) taken-trail u Z (λ c h l k. taken .low (c * rowWords + l) (omega arith))
       (spread .follows .history (λ c h e. absurd (omega (arith, cleared .cleared c h))) u Z below
-      (history-kept n old t mid sound (record { near = λ i lo hi. cleared .low i (omega arith) (omega arith); far = λ i lo hi. cleared .rest i (omega arith) }) u Z (λ c h l k. cleared .low (c * 64 + l) (omega arith) (omega arith)) past))
+      (history-kept n old t mid sound (record { near = λ i lo hi. cleared .low i (omega arith) (omega arith); far = λ i lo hi. cleared .rest i (omega arith) }) u Z (λ c h l k. cleared .low (c * rowWords + l) (omega arith) (omega arith)) past))
 
   settled : {P : ℕ → Bool} {count : ℕ} → ActiveIn R n P old count → (x : ℕ) → x < n → T (P x) → flagOf n new x ≡ 0 → Settled R n new x
   settled right x h t f c l =
@@ -153,5 +155,5 @@ module _ (R : Rules) (n : ℕ) (t : Trail) (old mid pushed new : List ℕ) (acti
         room = spread .follows .room;
         stamp = spread .follows .stamp;
         history = history;
-        giver = giver;
+        neighbour = neighbour;
       }

@@ -25,7 +25,7 @@ pub record CellReady (p : Problem) (marks costs words : List ℕ) (cell : ℕ) :
 pub record RowsReady (e : Elements) (costs : List ℕ) (cell to : ℕ) (words : List ℕ) : Type 0 where
   pub valid : Valid e
   pub costed : BufferRows e (e .count) costs
-  pub before : cell * 64 + rowWords ≤ to
+  pub before : cell * rowWords + rowWords ≤ to
   pub inside : to + rowWords ≤ length words
 
 -- a buffer may stand on a cell with these marks: the cell is no end and not blocked
@@ -38,6 +38,6 @@ behind words cell e l i =
     only (leb (bufferLoad (bufferAt e i)) (e .limit .0)) (viewOf words cell (bufferLoad (bufferAt e i)) - gateDelay (bufferDriver (bufferAt e i)) l)
 
 -- the row at `to`, raised within the limit by the first `count` buffers
-unfoldable pub buffered : List ℕ → ℕ → ℕ → Elements → ℕ → ℕ → ℕ
-buffered words cell to e count l =
+unfoldable pub raisedByBuffers : List ℕ → ℕ → ℕ → Elements → ℕ → ℕ → ℕ
+raisedByBuffers words cell to e count l =
     cond (leb l (e .limit .0)) (max (getD words (to + l) 0) (maxBelow count (behind words cell e l))) (getD words (to + l) 0)

@@ -8,7 +8,7 @@ use Rattle.budget.specs.Colours.{InStep}
 use Rattle.lists.specs.Lists.{flagOf}
 
 -- an active cell to which a wire leads from c
-pub record Giver (R : Rules) (n : ℕ) (words : List ℕ) (c : ℕ) : Type 0 where
+pub record ActiveNeighbour (R : Rules) (n : ℕ) (words : List ℕ) (c : ℕ) : Type 0 where
   pub cell : ℕ
   pub inside : cell < n
   pub flagged : flagOf n words cell ≡ 1

@@ -1,5 +1,4 @@
--- A routing problem as the rules see it, what its parts must meet, and how the scratch words (document 01: the bench) are laid out.
--- Words of the scratch, n cells: budget rows from 0, one arrival row at 64n, registers to go plus one from 128n, steps low 129n, steps high 130n, order 131n, active list 132n, next list 133n, listed flags 134n, seed flags 135n. The undo trail has the rest, up to 256n.
+-- A routing problem as the rules see it, what its parts must meet, and what it has in the scratch words.
 use Prim.Native.Nat.{ℕ, _+_, _*_, _≤_, _<_}
 use mathlib.Core.Bool.{Bool, _&&_}
 use mathlib.Core.List.{List}
@@ -10,6 +9,7 @@ use Rattle.timing.specs.Valid.{Valid}
 use Rattle.rules.specs.Rules.{Rules, rulesOf}
 use Rattle.budget.specs.Table.{Table, only}
 use Rattle.costs.specs.Costs.{rowWords}
+use Rattle.layout.specs.Layout.{seedsAt, cellWords}
 use Rattle.rows.specs.Rows.{viewOf}
 use Rattle.table.specs.declared.problem.Problem.{Problem}
 
@@ -28,11 +28,15 @@ pub record Ready (p : Problem) (marks : List ℕ) : Type 0 where
 
 -- check 6 has passed
 abbrev pub Room : ℕ → List ℕ → Type 0
-Room n words = n * 256 ≤ length words
+Room n words = n * cellWords ≤ length words
 
 -- the budget table in the words; 0 outside cells and loads
 unfoldable pub budgetOf : ℕ → List ℕ → Table
 budgetOf n words c l = only (ltb c n && ltb l rowWords) (viewOf words c l)
 
+-- a cell's seed flag
+abbrev pub seedWord : ℕ → List ℕ → ℕ → ℕ
+seedWord n words c = getD words (n * seedsAt + c) 0
+
 unfoldable pub seedOf : ℕ → List ℕ → ℕ → Bool
-seedOf n words c = eqb (getD words (n * 135 + c) 0) 1
+seedOf n words c = eqb (seedWord n words c) 1

@@ -3,16 +3,19 @@ ghost use mathlib.Core.Path.{_≡_};
 ghost use Prim.Native.Nat.{_+_, _*_};
 ghost use lib.ListN.{length};
 ghost use Rattle.budget.specs.Table.{arrival};
+ghost use Rattle.layout.specs.Layout.{arrivalAt};
 ghost use Rattle.rows.specs.Words.{Filled};
 ghost use Rattle.costs.specs.Costs.{rowWords};
 ghost use Rattle.table.specs.Problem.{rulesFor, budgetOf, seedOf};
-ghost use Rattle.table.specs.ArrivalRow.{CellReady, RowsReady, takesBuffers, buffered};
+ghost use Rattle.table.specs.ArrivalRow.{CellReady, RowsReady, takesBuffers, raisedByBuffers};
 use crate::problem::Problem;
 use costs::BUFFERS;
 use costs::COSTS;
 use costs::NONE;
 use costs::REGISTER;
 use costs::ROW;
+use layout::ARRIVAL;
+use layout::SEEDS;
 use plan::is_blocked;
 use rows::copy_row;
 use rows::raise_row;
@@ -41,7 +44,7 @@ fn raise_buffers(
     costs: &[u16; COSTS],
 )
     requires { ⌜ RowsReady elements (now costs) cell to (now scratch) ⌝ }
-    ensures { λ _. ⌜ Filled (buffered (now (scratch .entry)) cell to elements (elements .count)) to rowWords (now (scratch .entry)) (now (scratch .exit)) ⌝ }
+    ensures { λ _. ⌜ Filled (raisedByBuffers (now (scratch .entry)) cell to elements (elements .count)) to rowWords (now (scratch .entry)) (now (scratch .exit)) ⌝ }
 {
     let limit = elements.limit.0 as usize;
     let count = elements.count;
@@ -60,16 +63,16 @@ fn raise_buffers(
 // The arrival row of a cell, in the one row that there is for it.
 pub fn fill_arrival(plan: &[u8], scratch: &mut [u16], p: Problem, costs: &[u16; COSTS], cell: usize)
     requires { ⌜ CellReady p (now plan) (now costs) (now scratch) cell ⌝ }
-    ensures { λ _. ⌜ Filled (arrival (rulesFor p (now (plan .entry))) (seedOf (length (now (plan .entry))) (now (scratch .entry))) (rulesFor p (now (plan .entry)) .bound 0) (budgetOf (length (now (plan .entry))) (now (scratch .entry))) cell) (length (now (plan .entry)) * 64) rowWords (now (scratch .entry)) (now (scratch .exit)) ⌝ }
+    ensures { λ _. ⌜ Filled (arrival (rulesFor p (now (plan .entry))) (seedOf (length (now (plan .entry))) (now (scratch .entry))) (rulesFor p (now (plan .entry)) .bound 0) (budgetOf (length (now (plan .entry))) (now (scratch .entry))) cell) (length (now (plan .entry)) * arrivalAt) rowWords (now (scratch .entry)) (now (scratch .exit)) ⌝ }
 {
     let n = plan.len();
-    let to = n * 64;
+    let to = n * ARRIVAL;
     copy_row(scratch, cell, to, costs, NONE);
     let elements = p.elements;
     if takes_buffers(plan[cell], p, cell) {
         raise_buffers(scratch, cell, to, elements, costs);
     }
-    if scratch[n * 135 + cell] == 1 {
+    if scratch[n * SEEDS + cell] == 1 {
         raise_row(scratch, to, 2 * elements.period + 1, costs, REGISTER);
     }
 }

@@ -3,6 +3,7 @@
 ghost use Prim.Native.Nat.{_+_, _*_, _≤_, _<_};
 ghost use lib.ListN.{length};
 ghost use Rattle.costs.specs.Costs.{CostsOf};
+ghost use Rattle.layout.specs.Layout.{activeAt};
 ghost use Rattle.lists.specs.Lists.{Listed};
 ghost use Rattle.trail.specs.Trail.{Sound};
 ghost use Rattle.table.specs.Problem.{Ready, Room, rulesFor};
@@ -12,18 +13,20 @@ use crate::problem::Problem;
 use crate::pushes::Grown;
 use crate::pushes::spread_all;
 use costs::COSTS;
+use layout::ACTIVE;
+use layout::LISTED;
 use lists::take_list;
 use trail::Trail;
 
 // The flags of the active cells are cleared.
 fn clear_flags(scratch: &mut [u16], n: usize, active: usize)
-    requires { ⌜ (n ≤ 1024) × (Room n (now scratch) × Listed n (now scratch) (n * 132) active) ⌝ }
+    requires { ⌜ (n ≤ 1024) × (Room n (now scratch) × Listed n (now scratch) (n * activeAt) active) ⌝ }
     ensures { λ _. ⌜ FlagsCleared n (now (scratch .entry)) (now (scratch .exit)) ⌝ }
 {
     let mut i = 0;
     while i < active {
-        let cell = scratch[n * 132 + i] as usize;
-        scratch[n * 134 + cell] = 0;
+        let cell = scratch[n * ACTIVE + i] as usize;
+        scratch[n * LISTED + cell] = 0;
         i += 1;
     }
 }
@@ -38,7 +41,7 @@ pub fn next_layer(
     active: usize,
     trail: Trail,
 ) -> Grown
-    requires { ⌜ Ready p (now plan) × (Room (length (now plan)) (now scratch) × (Listed (length (now plan)) (now scratch) (length (now plan) * 132) active × (Sound (length (now plan)) (now scratch) trail × (Unlinked (rulesFor p (now plan)) (length (now plan)) (now scratch) × CostsOf (p .elements) (now costs))))) ⌝ }
+    requires { ⌜ Ready p (now plan) × (Room (length (now plan)) (now scratch) × (Listed (length (now plan)) (now scratch) (length (now plan) * activeAt) active × (Sound (length (now plan)) (now scratch) trail × (Unlinked (rulesFor p (now plan)) (length (now plan)) (now scratch) × CostsOf (p .elements) (now costs))))) ⌝ }
     ensures { λ r. ⌜ Layered (rulesFor p (now (plan .entry))) (length (now (plan .entry))) trail (now (scratch .entry)) (now (scratch .exit)) r ⌝ }
 {
     let n = plan.len();

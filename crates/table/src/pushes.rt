@@ -8,7 +8,12 @@ use crate::arrival::fill_arrival;
 use crate::problem::Problem;
 use costs::COSTS;
 use costs::HORIZONTAL;
+use costs::ROW;
 use costs::VERTICAL;
+use layout::ACTIVE;
+use layout::ARRIVAL;
+use layout::LISTED;
+use layout::NEXT;
 use lists::enlist;
 use plan::neighbours_of;
 use rows::grows;
@@ -27,7 +32,7 @@ fn note(scratch: &mut [u16], n: usize, cell: usize, trail: Trail) -> Trail
     requires { ⌜ TrailAsks n (now scratch) trail × (cell < n) ⌝ }
     ensures { λ r. ⌜ NotedRow n cell (now (scratch .entry)) trail (now (scratch .exit)) r ⌝ }
 {
-    if scratch[n * 134 + cell] == 1 {
+    if scratch[n * LISTED + cell] == 1 {
         return trail;
     }
     save(scratch, n, cell, trail)
@@ -50,13 +55,13 @@ fn offer(
     if to == n {
         return next;
     }
-    let from = n * 64;
-    if !grows(scratch, from, to * 64, costs, base, step) {
+    let from = n * ARRIVAL;
+    if !grows(scratch, from, to * ROW, costs, base, step) {
         return next;
     }
     let trail = note(scratch, n, to, next.trail);
-    push_row(scratch, from, to * 64, costs, base, step);
-    let count = enlist(scratch, n, n * 133, next.count, to);
+    push_row(scratch, from, to * ROW, costs, base, step);
+    let count = enlist(scratch, n, n * NEXT, next.count, to);
     Grown {
         count: count,
         trail: trail,
@@ -105,7 +110,7 @@ pub fn spread_all(
     };
     let mut i = 0;
     while i < active {
-        let cell = scratch[n * 132 + i] as usize;
+        let cell = scratch[n * ACTIVE + i] as usize;
         next = spread(plan, scratch, p, costs, cell, next);
         i += 1;
     }

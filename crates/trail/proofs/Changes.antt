@@ -7,6 +7,7 @@ use native.Mathlib.Omega.{arith}
 use lib.ListN.{length, getD}
 use Rattle.plan.proofs.Truth.{split, equal}
 use Rattle.budget.specs.Table.{Table}
+use Rattle.layout.specs.Layout.{arrivalAt, labelsAt, trailAt, farWords, slotWords, slotCell}
 use Rattle.rows.specs.Words.{KeptFrom}
 use Rattle.rows.specs.Rows.{viewOf}
 use Rattle.costs.specs.Costs.{rowWords}
@@ -20,7 +21,7 @@ module _ (n : ℕ) (words : List ℕ) (t r : Trail) (sound : Sound n words t) (s
   place-next i h = rw (slot-next t r room start (sound .start) some i (omega (arith, sound .fits)), room)
 
   cell-next : (i : ℕ) → i < r .count → cellAt n words r i ≡ cellAt n words t (i + 1)
-  cell-next i h = ap (λ (x : ℕ). getD words (x + 64) 0) (place-next i h)
+  cell-next i h = ap (λ (x : ℕ). getD words (x + slotCell) 0) (place-next i h)
 
   stamp-next : (i : ℕ) → i < r .count → stampAt n words r i ≡ stampAt n words t (i + 1)
   stamp-next i h = ap (stampOf words) (place-next i h)
@@ -46,7 +47,7 @@ module _ (n : ℕ) (words : List ℕ) (t r : Trail) (sound : Sound n words t) (s
             at = j;
             below = k;
             above = omega (arith, ap (stampOf words) f, x .above);
-            holds = ap (λ (p : ℕ). getD words (p + 64) 0) f ∙ x .holds;
+            holds = ap (λ (p : ℕ). getD words (p + slotCell) 0) f ∙ x .holds;
             first = λ i m a q. x .first (i + 1) (omega arith) (omega (arith, stamp-next i (omega arith))) (sym (cell-next i (omega arith)) ∙ q);
             row = λ l q. ap (λ (p : ℕ). getD words (p + l) 0) f ∙ x .row l q;
           }
@@ -74,7 +75,7 @@ module _ (n : ℕ) (words : List ℕ) (t r : Trail) (sound : Sound n words t) (s
           let k : x .at - 1 < r .count = omega (arith, x .below) in
           let e : x .at - 1 + 1 ≡ x .at = omega arith in
           let f : placeOf n r (x .at - 1) ≡ placeOf n t (x .at) = place-next (x .at - 1) k ∙ ap (placeOf n t) e in
-          inr (record { at = x .at - 1; below = k; now = omega (arith, ap (stampOf words) f, x .now); holds = ap (λ (p : ℕ). getD words (p + 64) 0) f ∙ x .holds })
+          inr (record { at = x .at - 1; below = k; now = omega (arith, ap (stampOf words) f, x .now); holds = ap (λ (p : ℕ). getD words (p + slotCell) 0) f ∙ x .holds })
 
   pub forget : RoomMade n words t r
   forget =
@@ -98,15 +99,15 @@ module _ (n : ℕ) (words : List ℕ) (t r : Trail) (sound : Sound n words t) (s
       }
 
 -- one entry more
-module _ (n cell : ℕ) (old : List ℕ) (t : Trail) (new : List ℕ) (r : Trail) (sound : Sound n old t) (free : t .count < t .room) (room : r .room ≡ t .room) (start : r .start ≡ t .start) (count : r .count ≡ t .count + 1) (low : r .low ≡ t .low) (stamp : r .stamp ≡ t .stamp) (cellIn : cell < n) (same : length new ≡ length old) (kept : (k : ℕ) → (k < placeOf n t (t .count)) ⊎ (placeOf n t (t .count) + 67 ≤ k) → getD new k 0 ≡ getD old k 0) (row : (l : ℕ) → l < rowWords → getD new (placeOf n t (t .count) + l) 0 ≡ getD old (cell * 64 + l) 0) (cellWord : getD new (placeOf n t (t .count) + 64) 0 ≡ cell) (stampWords : stampOf new (placeOf n t (t .count)) ≡ t .stamp) where
+module _ (n cell : ℕ) (old : List ℕ) (t : Trail) (new : List ℕ) (r : Trail) (sound : Sound n old t) (free : t .count < t .room) (room : r .room ≡ t .room) (start : r .start ≡ t .start) (count : r .count ≡ t .count + 1) (low : r .low ≡ t .low) (stamp : r .stamp ≡ t .stamp) (cellIn : cell < n) (same : length new ≡ length old) (kept : (k : ℕ) → (k < placeOf n t (t .count)) ⊎ (placeOf n t (t .count) + slotWords ≤ k) → getD new k 0 ≡ getD old k 0) (row : (l : ℕ) → l < rowWords → getD new (placeOf n t (t .count) + l) 0 ≡ getD old (cell * rowWords + l) 0) (cellWord : getD new (placeOf n t (t .count) + slotCell) 0 ≡ cell) (stampWords : stampOf new (placeOf n t (t .count)) ≡ t .stamp) where
   place-is : (i : ℕ) → placeOf n r i ≡ placeOf n t i
   place-is i = rw (slot-same t r room start i, room)
 
-  alike : (i k : ℕ) → i < t .count → k < 67 → getD new (placeOf n r i + k) 0 ≡ getD old (placeOf n t i + k) 0
+  alike : (i k : ℕ) → i < t .count → k < slotWords → getD new (placeOf n r i + k) 0 ≡ getD old (placeOf n t i + k) 0
   alike i k h q = rw (place-is i) (kept (placeOf n t i + k) (side (apart (split (slotOf t (t .count)) (slotOf t i)))))
     where
       Apart : Type 0
-      Apart = (placeOf n t i + 67 ≤ placeOf n t (t .count)) ⊎ (placeOf n t (t .count) + 67 ≤ placeOf n t i)
+      Apart = (placeOf n t i + slotWords ≤ placeOf n t (t .count)) ⊎ (placeOf n t (t .count) + slotWords ≤ placeOf n t i)
 
       apart : (slotOf t (t .count) ≤ slotOf t i) ⊎ (slotOf t i < slotOf t (t .count)) → Apart
       apart (inr a) = place-apart n (t .room) (sound .slots) (slotOf t i) (slotOf t (t .count)) a (slot-below t (sound .start) (t .count) free)
@@ -116,11 +117,11 @@ module _ (n cell : ℕ) (old : List ℕ) (t : Trail) (new : List ℕ) (r : Trail
           go (inl e) = absurd (slot-apart t (sound .start) i (t .count) h free e)
           go (inr f) = swap (place-apart n (t .room) (sound .slots) (slotOf t (t .count)) (slotOf t i) (omega arith) (slot-below t (sound .start) i (omega arith)))
             where
-              swap : (placeOf n t (t .count) + 67 ≤ placeOf n t i) ⊎ (placeOf n t i + 67 ≤ placeOf n t (t .count)) → Apart
+              swap : (placeOf n t (t .count) + slotWords ≤ placeOf n t i) ⊎ (placeOf n t i + slotWords ≤ placeOf n t (t .count)) → Apart
               swap (inl x) = inr x
               swap (inr x) = inl x
 
-      side : Apart → (placeOf n t i + k < placeOf n t (t .count)) ⊎ (placeOf n t (t .count) + 67 ≤ placeOf n t i + k)
+      side : Apart → (placeOf n t i + k < placeOf n t (t .count)) ⊎ (placeOf n t (t .count) + slotWords ≤ placeOf n t i + k)
       side (inl x) = inl (omega arith)
       side (inr x) = inr (omega arith)
 
@@ -131,7 +132,7 @@ module _ (n cell : ℕ) (old : List ℕ) (t : Trail) (new : List ℕ) (r : Trail
   new-stamp = rw (place-is (t .count)) stampWords
 
   view-same : (c l : ℕ) → c < n → l < rowWords → viewOf new c l ≡ viewOf old c l
-  view-same c l h k = kept (c * 64 + l) (inl (omega (arith, place-above sound (t .count) free)))
+  view-same c l h k = kept (c * rowWords + l) (inl (omega (arith, place-above sound (t .count) free)))
 
   save-history : (u : ℕ) (Z : ℕ → Table) → u < t .stamp → History n old t u Z → History n new r u Z
   save-history u Z below past s c lo hi h = go (past s c (omega arith) hi h) (equal c cell)
@@ -201,15 +202,15 @@ module _ (n cell : ℕ) (old : List ℕ) (t : Trail) (new : List ℕ) (r : Trail
       last-slot : slotOf t (t .count) < t .room
       last-slot = slot-below t (sound .start) (t .count) free
 
-      near : t .room * 67 ≤ n * 120 → (k : ℕ) → k < n * 128 → PlaceIn n (t .room) (slotOf t (t .count)) → getD new k 0 ≡ getD old k 0
+      near : t .room * slotWords ≤ n * farWords → (k : ℕ) → k < n * labelsAt → PlaceIn n (t .room) (slotOf t (t .count)) → getD new k 0 ≡ getD old k 0
       near few k hi (PlaceIn.first p e) = kept k (inl (omega arith))
       near few k hi (PlaceIn.second x p q e) = absurd (omega (arith, last-slot))
 
-      labels : (k : ℕ) → n * 128 ≤ k → k < n * 136 → PlaceIn n (t .room) (slotOf t (t .count)) → getD new k 0 ≡ getD old k 0
+      labels : (k : ℕ) → n * labelsAt ≤ k → k < n * trailAt → PlaceIn n (t .room) (slotOf t (t .count)) → getD new k 0 ≡ getD old k 0
       labels k lo hi (PlaceIn.first p e) = kept k (inl (omega arith))
       labels k lo hi (PlaceIn.second x p q e) = kept k (inr (omega (arith, last-slot)))
 
-      high : (k : ℕ) → n * 136 + min (t .room * 67) (n * 120) ≤ k → PlaceIn n (t .room) (slotOf t (t .count)) → getD new k 0 ≡ getD old k 0
+      high : (k : ℕ) → n * trailAt + min (t .room * slotWords) (n * farWords) ≤ k → PlaceIn n (t .room) (slotOf t (t .count)) → getD new k 0 ≡ getD old k 0
       high k h (PlaceIn.first p e) = kept k (inr (omega (arith, last-slot)))
       high k h (PlaceIn.second x p q e) = kept k (inr (omega (arith, last-slot)))
 
@@ -217,8 +218,8 @@ module _ (n cell : ℕ) (old : List ℕ) (t : Trail) (new : List ℕ) (r : Trail
       late = entry-cases (λ i. stampAt n new r i ≤ r .stamp) (λ i h. omega (arith, stamp-alike n old t new r (t .count) alike i h, sound .late i h)) (omega (arith, new-stamp))
 
 -- the newest entry's row is put back
-module _ (n : ℕ) (old : List ℕ) (t : Trail) (new : List ℕ) (r : Trail) (sound : Sound n old t) (room : r .room ≡ t .room) (start : r .start ≡ t .start) (count : t .count ≡ r .count + 1) (low : r .low ≡ t .low) (stamp : r .stamp ≡ t .stamp) (same : length new ≡ length old) (kept : KeptFrom (n * 64) old new) (back : (l : ℕ) → l < rowWords → viewOf new (cellAt n old t (r .count)) l ≡ rowAt n old t (r .count) l) (others : (c l : ℕ) → c < n → l < rowWords → (c ≡ cellAt n old t (r .count) → ⊥) → viewOf new c l ≡ viewOf old c l) where
-  still : (i k : ℕ) → i < r .count → k < 67 → getD new (placeOf n r i + k) 0 ≡ getD old (placeOf n t i + k) 0
+module _ (n : ℕ) (old : List ℕ) (t : Trail) (new : List ℕ) (r : Trail) (sound : Sound n old t) (room : r .room ≡ t .room) (start : r .start ≡ t .start) (count : t .count ≡ r .count + 1) (low : r .low ≡ t .low) (stamp : r .stamp ≡ t .stamp) (same : length new ≡ length old) (kept : KeptFrom (n * arrivalAt) old new) (back : (l : ℕ) → l < rowWords → viewOf new (cellAt n old t (r .count)) l ≡ rowAt n old t (r .count) l) (others : (c l : ℕ) → c < n → l < rowWords → (c ≡ cellAt n old t (r .count) → ⊥) → viewOf new c l ≡ viewOf old c l) where
+  still : (i k : ℕ) → i < r .count → k < slotWords → getD new (placeOf n r i + k) 0 ≡ getD old (placeOf n t i + k) 0
   still i k h q = rw (slot-same t r room start i, room) (kept (placeOf n t i + k) (omega (arith, place-above sound i (omega (arith, sound .fits)))))
 
   restore-history : (u : ℕ) (Z : ℕ → Table) → u < stampAt n old t (r .count) → History n old t u Z → History n new r u Z

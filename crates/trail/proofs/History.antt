@@ -8,6 +8,7 @@ use borrow.Author.Tests.{le-leb, lt-leb}
 use lib.ListN.{getD}
 use Rattle.plan.proofs.Truth.{split, equal}
 use Rattle.budget.specs.Table.{Table}
+use Rattle.layout.specs.Layout.{slotWords}
 use Rattle.rows.specs.Rows.{viewOf}
 use Rattle.costs.specs.Costs.{rowWords}
 use Rattle.trail.specs.declared.Trail.{Trail}
@@ -26,7 +27,7 @@ SameView old new c = (l : ℕ) → l < rowWords → viewOf new c l ≡ viewOf ol
 
 -- the trail's words stay
 module _ (n : ℕ) (old : List ℕ) (t : Trail) (new : List ℕ) (sound : Sound n old t) (kept : TrailKept n old new) where
-  alike : (i k : ℕ) → i < t .count → k < 67 → getD new (placeOf n t i + k) 0 ≡ getD old (placeOf n t i + k) 0
+  alike : (i k : ℕ) → i < t .count → k < slotWords → getD new (placeOf n t i + k) 0 ≡ getD old (placeOf n t i + k) 0
   alike i k h q = go (entry-view sound i (omega (arith, sound .fits)))
     where
       go : PlaceIn n (t .room) (slotOf t i) → getD new (placeOf n t i + k) 0 ≡ getD old (placeOf n t i + k) 0

@@ -9,6 +9,8 @@ use borrow.Author.Tests.{lt-ltb, le-ltb, le-leb, lt-leb}
 use lib.Dec.{ltb}
 use lib.ListN.{getD}
 use Rattle.plan.proofs.Truth.{split}
+use Rattle.costs.specs.Costs.{rowWords}
+use Rattle.layout.specs.Layout.{arrivalAt, labelsAt, trailAt, cellWords, nearWords, farWords, slotWords, slotCell}
 use Rattle.trail.specs.declared.Trail.{Trail}
 use Rattle.trail.specs.Trail.{slotsOf, slotOf, placeIn, placeOf, cellAt, stampAt, Sound, Unstored, Stored, Entry}
 
@@ -65,27 +67,27 @@ slots-few n = omega arith
 
 -- a slot is in the first stretch, or in the second
 pub data PlaceIn (n room slot : ℕ) : Type 0 where
-  first : slot * 67 + 67 ≤ n * 120 → placeIn n room slot ≡ n * 136 + slot * 67 → PlaceIn n room slot
-  second : slot < room → n * 120 < slot * 67 + 67 → (room - slot) * 67 + 64 ≤ n * 64 → placeIn n room slot ≡ n * 128 - (room - slot) * 67 → PlaceIn n room slot
+  first : slot * slotWords + slotWords ≤ n * farWords → placeIn n room slot ≡ n * trailAt + slot * slotWords → PlaceIn n room slot
+  second : slot < room → n * farWords < slot * slotWords + slotWords → (room - slot) * slotWords + rowWords ≤ n * nearWords → placeIn n room slot ≡ n * labelsAt - (room - slot) * slotWords → PlaceIn n room slot
 
 module _ (n room : ℕ) (few : room ≤ slotsOf n) where
   pub place-view : (slot : ℕ) → slot < room → PlaceIn n room slot
   unfolding placeIn slotsOf
-  place-view slot h = go (split (slot * 67 + 67) (n * 120))
+  place-view slot h = go (split (slot * slotWords + slotWords) (n * farWords))
     where
-      go : (slot * 67 + 67 ≤ n * 120) ⊎ (n * 120 < slot * 67 + 67) → PlaceIn n room slot
+      go : (slot * slotWords + slotWords ≤ n * farWords) ⊎ (n * farWords < slot * slotWords + slotWords) → PlaceIn n room slot
       go (inl k) = first k (simp (le-leb _ _ k))
       go (inr k) =
-          let a : n * 120 / 67 ≤ slot = omega arith in
-          let b : room - slot ≤ (n * 64 - 64) / 67 = omega arith in
-          let some : 1 ≤ (n * 64 - 64) / 67 = omega arith in
+          let a : n * farWords / slotWords ≤ slot = omega arith in
+          let b : room - slot ≤ (n * nearWords - rowWords) / slotWords = omega arith in
+          let some : 1 ≤ (n * nearWords - rowWords) / slotWords = omega arith in
           second h k (omega arith) (simp (lt-leb _ _ k))
 
   -- different slots, different words
-  pub place-apart : (a b : ℕ) → a < b → b < room → (placeIn n room a + 67 ≤ placeIn n room b) ⊎ (placeIn n room b + 67 ≤ placeIn n room a)
+  pub place-apart : (a b : ℕ) → a < b → b < room → (placeIn n room a + slotWords ≤ placeIn n room b) ⊎ (placeIn n room b + slotWords ≤ placeIn n room a)
   place-apart a b h k = go (place-view a (omega arith)) (place-view b k)
     where
-      go : PlaceIn n room a → PlaceIn n room b → (placeIn n room a + 67 ≤ placeIn n room b) ⊎ (placeIn n room b + 67 ≤ placeIn n room a)
+      go : PlaceIn n room a → PlaceIn n room b → (placeIn n room a + slotWords ≤ placeIn n room b) ⊎ (placeIn n room b + slotWords ≤ placeIn n room a)
       go (first p e) (first q f) = inl (omega arith)
       go (first p e) (second y q r f) = inr (omega arith)
       go (second x p s e) (first q f) = absurd (omega arith)
@@ -96,27 +98,27 @@ module _ {n : ℕ} {words : List ℕ} {t : Trail} (s : Sound n words t) (i : ℕ
   pub entry-view : PlaceIn n (t .room) (slotOf t i)
   entry-view = place-view n (t .room) (s .slots) (slotOf t i) (slot-below t (s .start) i h)
 
-  pub place-in : placeOf n t i + 67 ≤ n * 256
+  pub place-in : placeOf n t i + slotWords ≤ n * cellWords
   place-in = go entry-view
     where
-      go : PlaceIn n (t .room) (slotOf t i) → placeOf n t i + 67 ≤ n * 256
+      go : PlaceIn n (t .room) (slotOf t i) → placeOf n t i + slotWords ≤ n * cellWords
       go (first p e) = omega arith
       go (second x p r e) = omega arith
 
   -- and after the arrival row
-  pub place-above : n * 64 + 64 ≤ placeOf n t i
+  pub place-above : n * arrivalAt + rowWords ≤ placeOf n t i
   place-above = go entry-view
     where
-      go : PlaceIn n (t .room) (slotOf t i) → n * 64 + 64 ≤ placeOf n t i
+      go : PlaceIn n (t .room) (slotOf t i) → n * arrivalAt + rowWords ≤ placeOf n t i
       go (first p e) =
           let some : 1 ≤ n = omega arith in
           omega arith
       go (second x p r e) = omega arith
 
 -- the first `upto` entries of t in `old` are those of r in `new`
-module _ (n : ℕ) (old : List ℕ) (t : Trail) (new : List ℕ) (r : Trail) (upto : ℕ) (alike : (i k : ℕ) → i < upto → k < 67 → getD new (placeOf n r i + k) 0 ≡ getD old (placeOf n t i + k) 0) where
+module _ (n : ℕ) (old : List ℕ) (t : Trail) (new : List ℕ) (r : Trail) (upto : ℕ) (alike : (i k : ℕ) → i < upto → k < slotWords → getD new (placeOf n r i + k) 0 ≡ getD old (placeOf n t i + k) 0) where
   pub cell-alike : (i : ℕ) → i < upto → cellAt n new r i ≡ cellAt n old t i
-  cell-alike i h = alike i 64 h (omega arith)
+  cell-alike i h = alike i slotCell h (omega arith)
 
   pub stamp-alike : (i : ℕ) → i < upto → stampAt n new r i ≡ stampAt n old t i
   stamp-alike i h = omega (arith, alike i 65 h (omega arith), alike i 66 h (omega arith))

@@ -1,5 +1,5 @@
--- The undo trail in the scratch words of n cells: entry i, 0 the oldest, has the 67 words of its slot.
--- The slots lie in two stretches: one after another from 136n as long as they end by 256n; the rest of them end at 128n, and begin after the arrival row at 64n.
+-- The undo trail in the scratch words of n cells: entry i, 0 the oldest, has the words of its slot.
+-- The slots lie in two stretches: one after another from `trailAt` as long as they end by `cellWords`; the rest of them end at `labelsAt`, and begin after the arrival row.
 -- A layer s of the table is a function of cell and load; the trail holds what is needed to go back to any layer from `low` up to now.
 use Prim.Native.Nat.{ℕ, _+_, _-_, _*_, _/_, _≤_, _<_, min}
 use mathlib.Core.Path.{_≡_}
@@ -10,6 +10,7 @@ use lib.Dec.{leb, ltb}
 use lib.ListN.{length, getD}
 use Rattle.budget.specs.Table.{Table}
 use Rattle.costs.specs.Costs.{rowWords}
+use Rattle.layout.specs.Layout.{arrivalAt, labelsAt, trailAt, cellWords, nearWords, farWords, slotWords, slotCell, slotLow, slotHigh}
 use Rattle.rows.specs.Rows.{viewOf}
 use Rattle.rows.specs.Words.{Kept, KeptFrom}
 use Rattle.trail.specs.declared.Trail.{Trail}
@@ -19,7 +20,7 @@ noTrail = record { room = 0; start = 0; count = 0; low = 0; stamp = 0 }
 
 -- the slots that there are
 unfoldable pub slotsOf : ℕ → ℕ
-slotsOf n = n * 120 / 67 + (n * 64 - 64) / 67
+slotsOf n = n * farWords / slotWords + (n * nearWords - rowWords) / slotWords
 
 abbrev pub newTrail : ℕ → Trail
 newTrail n = record { room = slotsOf n; start = 0; count = 0; low = 0; stamp = 0 }
@@ -34,11 +35,11 @@ slotOf t i = cond (ltb (t .start + i) (t .room)) (t .start + i) (t .start + i - 
 
 -- the layer of the entry at a place
 abbrev pub stampOf : List ℕ → ℕ → ℕ
-stampOf words at = getD words (at + 65) 0 + getD words (at + 66) 0 * 65536
+stampOf words at = getD words (at + slotLow) 0 + getD words (at + slotHigh) 0 * 65536
 
 -- where a slot starts, of `room` slots
 unfoldable pub placeIn : ℕ → ℕ → ℕ → ℕ
-placeIn n room slot = cond (leb (slot * 67 + 67) (n * 120)) (n * 136 + slot * 67) (n * 128 - (room - slot) * 67)
+placeIn n room slot = cond (leb (slot * slotWords + slotWords) (n * farWords)) (n * trailAt + slot * slotWords) (n * labelsAt - (room - slot) * slotWords)
 
 -- where entry i starts, and its parts
 abbrev pub placeOf : ℕ → Trail → ℕ → ℕ
@@ -48,7 +49,7 @@ abbrev pub rowAt : ℕ → List ℕ → Trail → ℕ → ℕ → ℕ
 rowAt n words t i l = getD words (placeOf n t i + l) 0
 
 abbrev pub cellAt : ℕ → List ℕ → Trail → ℕ → ℕ
-cellAt n words t i = getD words (placeOf n t i + 64) 0
+cellAt n words t i = getD words (placeOf n t i + slotCell) 0
 
 abbrev pub stampAt : ℕ → List ℕ → Trail → ℕ → ℕ
 stampAt n words t i = stampOf words (placeOf n t i)
@@ -66,13 +67,13 @@ pub record Sound (n : ℕ) (words : List ℕ) (t : Trail) : Type 0 where
 
 -- the words of both stretches stay
 pub record TrailKept (n : ℕ) (old new : List ℕ) : Type 0 where
-  pub near : Kept (n * 64 + 64) (n * 128) old new
-  pub far : Kept (n * 136) (n * 256) old new
+  pub near : Kept (n * arrivalAt + rowWords) (n * labelsAt) old new
+  pub far : Kept (n * trailAt) (n * cellWords) old new
 
 pub record TrailAsks (n : ℕ) (words : List ℕ) (t : Trail) : Type 0 where
   pub sound : Sound n words t
   pub few : n ≤ 1024
-  pub room : n * 256 ≤ length words
+  pub room : n * cellWords ≤ length words
 
 -- none of the first `upto` entries has this cell and a layer above s
 abbrev pub Unstored : ℕ → List ℕ → Trail → ℕ → ℕ → ℕ → Type 0
@@ -122,11 +123,11 @@ pub record RoomMade (n : ℕ) (words : List ℕ) (t r : Trail) : Type 0 where
 -- After `save`: the cell is saved.
 pub record Saved (n cell : ℕ) (old : List ℕ) (t : Trail) (new : List ℕ) (r : Trail) : Type 0 where
   pub same : length new ≡ length old
-  pub low : Kept 0 (n * 64 + 64) old new
+  pub low : Kept 0 (n * arrivalAt + rowWords) old new
   -- few slots: all of them are in the first stretch
-  pub near : t .room * 67 ≤ n * 120 → Kept (n * 64 + 64) (n * 128) old new
-  pub labels : Kept (n * 128) (n * 136) old new
-  pub high : KeptFrom (n * 136 + min (t .room * 67) (n * 120)) old new
+  pub near : t .room * slotWords ≤ n * farWords → Kept (n * arrivalAt + rowWords) (n * labelsAt) old new
+  pub labels : Kept (n * labelsAt) (n * trailAt) old new
+  pub high : KeptFrom (n * trailAt + min (t .room * slotWords) (n * farWords)) old new
   pub sound : Sound n new r
   pub room : r .room ≡ t .room
   pub stamp : r .stamp ≡ t .stamp
@@ -137,7 +138,7 @@ pub record Saved (n cell : ℕ) (old : List ℕ) (t : Trail) (new : List ℕ) (r
 -- After `restore`: the newest entry is gone, and the layers below its layer can be had back as before.
 pub record Restored (n : ℕ) (old : List ℕ) (t : Trail) (new : List ℕ) (r : Trail) : Type 0 where
   pub same : length new ≡ length old
-  pub kept : KeptFrom (n * 64) old new
+  pub kept : KeptFrom (n * arrivalAt) old new
   pub sound : Sound n new r
   pub fewer : t .count ≡ r .count + 1
   pub lowest : r .low ≡ t .low
@@ -146,7 +147,7 @@ pub record Restored (n : ℕ) (old : List ℕ) (t : Trail) (new : List ℕ) (r :
 -- After `rewind`: the table is that after the layer.
 pub record Rewound (n layer : ℕ) (old : List ℕ) (t : Trail) (new : List ℕ) (r : Trail) : Type 0 where
   pub same : length new ≡ length old
-  pub kept : KeptFrom (n * 64) old new
+  pub kept : KeptFrom (n * arrivalAt) old new
   pub sound : Sound n new r
   pub lowest : r .low ≡ t .low
   pub history : (u : ℕ) (Z : ℕ → Table) → layer ≤ u → History n old t u Z → History n new r layer Z

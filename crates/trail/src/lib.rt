@@ -1,13 +1,22 @@
-// The undo trail: rows of the table as they were before a layer changed them, in the scratch words that nothing else needs: from 136n to 256n, then from 64n + 64 to 128n.
-// An entry is 67 words: the row, the cell, the layer in two words. The entries are a ring: when it is full the oldest is forgotten.
+// The undo trail: rows of the table as they were before a layer changed them, in the scratch words that nothing else needs: from `layout::TRAIL` on, then between the arrival row and `layout::LABELS`.
+// An entry is a slot: the row, the cell, the layer in two words. The entries are a ring: when it is full the oldest is forgotten.
 ghost use mathlib.Core.Path.{_≡_};
 ghost use mathlib.Core.Logic.{_⊎_};
 ghost use Prim.Native.Nat.{_+_, _*_, _≤_, _<_};
 ghost use lib.ListN.{length, getD};
+ghost use Rattle.layout.specs.Layout.{slotWords};
 ghost use Rattle.rows.specs.Words.{Filled};
 ghost use Rattle.costs.specs.Costs.{rowWords};
 ghost use Rattle.trail.specs.Trail.{noTrail, newTrail, stamped, slotsOf, slotOf, placeOf, stampOf, TrailAsks, RoomMade, Saved, Restored, Rewound};
 use costs::ROW;
+use layout::FAR_WORDS;
+use layout::LABELS;
+use layout::NEAR_WORDS;
+use layout::SLOT;
+use layout::SLOT_CELL;
+use layout::SLOT_HIGH;
+use layout::SLOT_LOW;
+use layout::TRAIL;
 
 // `room` slots, of which `count` are in use, the oldest at `start`. Layers up to `low` cannot be undone. `stamp` is the layer that is being made.
 pub struct Trail {
@@ -37,7 +46,7 @@ pub fn new_trail(n: usize) -> Trail
     ensures { λ r. ⌜ r ≡ newTrail n ⌝ }
 {
     Trail {
-        room: n * 120 / 67 + (n * 64 - 64) / 67,
+        room: n * FAR_WORDS / SLOT + (n * NEAR_WORDS - ROW) / SLOT,
         start: 0,
         count: 0,
         low: 0,
@@ -73,19 +82,19 @@ fn place(n: usize, trail: Trail, i: usize) -> usize
     ensures { λ r. ⌜ r ≡ placeOf n trail i ⌝ }
 {
     let at = slot(trail, i);
-    if at * 67 + 67 <= n * 120 {
-        n * 136 + at * 67
+    if at * SLOT + SLOT <= n * FAR_WORDS {
+        n * TRAIL + at * SLOT
     } else {
-        n * 128 - (trail.room - at) * 67
+        n * LABELS - (trail.room - at) * SLOT
     }
 }
 
 // The layer of the entry whose words start here.
 fn stamp_of(scratch: &[u16], at: usize) -> u32
-    requires { ⌜ (at < 1048576) × (at + 67 ≤ length (now scratch)) ⌝ }
+    requires { ⌜ (at < 1048576) × (at + slotWords ≤ length (now scratch)) ⌝ }
     ensures { λ r. ⌜ r ≡ stampOf (now (scratch .entry)) at ⌝ }
 {
-    scratch[at + 65] as u32 + scratch[at + 66] as u32 * 65536
+    scratch[at + SLOT_LOW] as u32 + scratch[at + SLOT_HIGH] as u32 * 65536
 }
 
 // The 64 words at `to` become those at `from`.
@@ -135,10 +144,10 @@ pub fn save(scratch: &mut [u16], n: usize, cell: usize, trail: Trail) -> Trail
     }
     let kept = make_room(scratch, n, trail);
     let at = place(n, kept, kept.count);
-    copy(scratch, cell * 64, at);
-    scratch[at + 64] = cell as u16;
-    scratch[at + 65] = (stamp % 65536) as u16;
-    scratch[at + 66] = (stamp / 65536) as u16;
+    copy(scratch, cell * ROW, at);
+    scratch[at + SLOT_CELL] = cell as u16;
+    scratch[at + SLOT_LOW] = (stamp % 65536) as u16;
+    scratch[at + SLOT_HIGH] = (stamp / 65536) as u16;
     Trail {
         room: kept.room,
         start: kept.start,
@@ -155,8 +164,8 @@ fn restore(scratch: &mut [u16], n: usize, trail: Trail) -> Trail
 {
     let count = trail.count - 1;
     let at = place(n, trail, count);
-    let cell = scratch[at + 64] as usize;
-    copy(scratch, at, cell * 64);
+    let cell = scratch[at + SLOT_CELL] as usize;
+    copy(scratch, at, cell * ROW);
     Trail {
         room: trail.room,
         start: trail.start,

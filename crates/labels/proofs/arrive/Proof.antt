@@ -6,13 +6,15 @@ use mathlib.Core.List.{List}
 use native.Mathlib.Omega.{arith}
 use lib.ListN.{getD}
 use Rattle.plan.proofs.Truth.{equal}
+use Rattle.layout.specs.Layout.{stepsLowAt, stepsHighAt, orderAt, activeAt}
 use Rattle.lists.specs.Lists.{flagOf, Listed}
 use Rattle.lists.proofs.Lists.{listed-some}
-use Rattle.labels.specs.Labels.{stepsOf, orderOf, seedOf, Planted, Arrived}
+use Rattle.table.specs.Problem.{seedWord}
+use Rattle.labels.specs.Labels.{stepsOf, orderOf, Planted, Arrived}
 use Rattle.labels.proofs.arrive.Statement.{statement}
 use Rattle.labels.proofs.arrive.Tie as tie
 
-arrived-none : (n from steps : ℕ) (words : List ℕ) (active : ℕ) → Listed n words (n * 132) active → Arrived n from from steps words words active
+arrived-none : (n from steps : ℕ) (words : List ℕ) (active : ℕ) → Listed n words (n * activeAt) active → Arrived n from from steps words words active
 arrived-none n from steps words active l =
     record {
       same = refl;
@@ -34,18 +36,18 @@ arrived-none n from steps words active l =
 -- the order and the labels' steps stay
 module _ {n from to steps : ℕ} {old new : List ℕ} {active : ℕ} (a : Arrived n from to steps old new active) where
   order-stays : (i : ℕ) → i < n → orderOf n new i ≡ orderOf n old i
-  order-stays i h = a .low (n * 131 + i) (omega arith)
+  order-stays i h = a .low (n * orderAt + i) (omega arith)
 
   steps-stay : (i : ℕ) → i < n → orderOf n new i < n → stepsOf n new (orderOf n new i) ≡ stepsOf n old (orderOf n old i)
   steps-stay i h k =
       let e : orderOf n new i ≡ orderOf n old i = order-stays i h in
-      let lo : getD new (n * 129 + orderOf n new i) 0 ≡ getD old (n * 129 + orderOf n new i) 0 = a .low (n * 129 + orderOf n new i) (omega arith) in
-      let hi : getD new (n * 130 + orderOf n new i) 0 ≡ getD old (n * 130 + orderOf n new i) 0 = a .low (n * 130 + orderOf n new i) (omega arith) in
+      let lo : getD new (n * stepsLowAt + orderOf n new i) 0 ≡ getD old (n * stepsLowAt + orderOf n new i) 0 = a .low (n * stepsLowAt + orderOf n new i) (omega arith) in
+      let hi : getD new (n * stepsHighAt + orderOf n new i) 0 ≡ getD old (n * stepsHighAt + orderOf n new i) 0 = a .low (n * stepsHighAt + orderOf n new i) (omega arith) in
       cc
 
 -- one cell more
 module _ {n from to steps : ℕ} {old mid new : List ℕ} {active next cell : ℕ} (a : Arrived n from to steps old mid active) (e : cell ≡ orderOf n old to) (h : cell < n) (p : Planted n cell mid new next) where
-  seed-stays : (c : ℕ) → c < n → seedOf n mid c ≡ 1 → (c ≡ cell) ⊎ (c ≡ cell → ⊥) → seedOf n new c ≡ 1
+  seed-stays : (c : ℕ) → c < n → seedWord n mid c ≡ 1 → (c ≡ cell) ⊎ (c ≡ cell → ⊥) → seedWord n new c ≡ 1
   seed-stays c k o (inl q) = rw q (p .nowSeed)
   seed-stays c k o (inr q) = p .otherSeeds c k q ∙ o
 
@@ -54,7 +56,7 @@ module _ {n from to steps : ℕ} {old mid new : List ℕ} {active next cell : �
   flag-stays c k o (inr q) = p .others c k q ∙ o
 
   module _ (cells : (i : ℕ) → i < to → orderOf n old i < n) where
-    seed : (i : ℕ) → from ≤ i → i < to + 1 → (i ≡ to) ⊎ (i ≡ to → ⊥) → seedOf n new (orderOf n old i) ≡ 1
+    seed : (i : ℕ) → from ≤ i → i < to + 1 → (i ≡ to) ⊎ (i ≡ to → ⊥) → seedWord n new (orderOf n old i) ≡ 1
     seed i k j (inl q) = rw (q, ← e) (p .nowSeed)
     seed i k j (inr q) = seed-stays _ (cells i (omega arith)) (a .seeds i k (omega arith)) (equal (orderOf n old i) cell)
 

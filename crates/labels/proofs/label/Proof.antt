@@ -8,6 +8,7 @@ use lib.ListN.{getD, set, length-set}
 use lib.Seq.{getD-set-same, getD-set-other}
 use borrow.Author.Needs.{needs}
 use Rattle.budget.specs.Done.{NotAfter}
+use Rattle.layout.specs.Layout.{labelsAt, stepsLowAt, stepsHighAt, orderAt}
 use Rattle.labels.specs.Labels.{knownOf, registersOf, stepsOf, orderOf, SameLabel, Labelable, LabelAdded}
 use Rattle.labels.proofs.Labels.{word-known, same-label, ordered-room, ordered-more}
 use Rattle.labels.proofs.label.Statement.{statement}
@@ -19,47 +20,47 @@ room c = ordered-room (c .pre .ordered) (c .args .cell) (c .pre .inPlan) (c .pre
 module _ (n cell registers steps count : ℕ) (old : List ℕ) (pre : Labelable n cell registers steps count old) where
   -- the words after each store
   abbrev set1 : List ℕ
-  set1 = set old (n * 128 + cell) (registers + 1)
+  set1 = set old (n * labelsAt + cell) (registers + 1)
 
   abbrev set2 : List ℕ
-  set2 = set set1 (n * 129 + cell) (steps % 65536)
+  set2 = set set1 (n * stepsLowAt + cell) (steps % 65536)
 
   abbrev set3 : List ℕ
-  set3 = set set2 (n * 130 + cell) (steps / 65536)
+  set3 = set set2 (n * stepsHighAt + cell) (steps / 65536)
 
   abbrev new : List ℕ
-  new = set set3 (n * 131 + count) cell
+  new = set set3 (n * orderAt + count) cell
 
   free : count < n
   free = ordered-room (pre .ordered) cell (pre .inPlan) (pre .unlabelled)
 
-  other4 : (k : ℕ) → (k ≡ n * 131 + count → ⊥) → getD new k 0 ≡ getD set3 k 0
-  other4 k q = getD-set-other set3 (n * 131 + count) k cell 0 q
+  other4 : (k : ℕ) → (k ≡ n * orderAt + count → ⊥) → getD new k 0 ≡ getD set3 k 0
+  other4 k q = getD-set-other set3 (n * orderAt + count) k cell 0 q
 
-  other3 : (k : ℕ) → (k ≡ n * 130 + cell → ⊥) → getD set3 k 0 ≡ getD set2 k 0
-  other3 k q = getD-set-other set2 (n * 130 + cell) k (steps / 65536) 0 q
+  other3 : (k : ℕ) → (k ≡ n * stepsHighAt + cell → ⊥) → getD set3 k 0 ≡ getD set2 k 0
+  other3 k q = getD-set-other set2 (n * stepsHighAt + cell) k (steps / 65536) 0 q
 
-  other2 : (k : ℕ) → (k ≡ n * 129 + cell → ⊥) → getD set2 k 0 ≡ getD set1 k 0
-  other2 k q = getD-set-other set1 (n * 129 + cell) k (steps % 65536) 0 q
+  other2 : (k : ℕ) → (k ≡ n * stepsLowAt + cell → ⊥) → getD set2 k 0 ≡ getD set1 k 0
+  other2 k q = getD-set-other set1 (n * stepsLowAt + cell) k (steps % 65536) 0 q
 
-  kept : (k : ℕ) → (k ≡ n * 131 + count → ⊥) → (k ≡ n * 130 + cell → ⊥) → (k ≡ n * 129 + cell → ⊥) → (k ≡ n * 128 + cell → ⊥) → getD new k 0 ≡ getD old k 0
-  kept k p q r t = other4 k p ∙ other3 k q ∙ other2 k r ∙ getD-set-other old (n * 128 + cell) k (registers + 1) 0 t
+  kept : (k : ℕ) → (k ≡ n * orderAt + count → ⊥) → (k ≡ n * stepsHighAt + cell → ⊥) → (k ≡ n * stepsLowAt + cell → ⊥) → (k ≡ n * labelsAt + cell → ⊥) → getD new k 0 ≡ getD old k 0
+  kept k p q r t = other4 k p ∙ other3 k q ∙ other2 k r ∙ getD-set-other old (n * labelsAt + cell) k (registers + 1) 0 t
 
-  word1 : getD new (n * 128 + cell) 0 ≡ registers + 1
+  word1 : getD new (n * labelsAt + cell) 0 ≡ registers + 1
   word1 =
       other4 _ (λ e. omega arith) ∙ other3 _ (λ e. omega arith) ∙ other2 _ (λ e. omega arith)
-      ∙ getD-set-same old (n * 128 + cell) (registers + 1) 0 (omega arith)
+      ∙ getD-set-same old (n * labelsAt + cell) (registers + 1) 0 (omega arith)
 
-  word2 : getD new (n * 129 + cell) 0 ≡ steps % 65536
+  word2 : getD new (n * stepsLowAt + cell) 0 ≡ steps % 65536
   word2 =
       other4 _ (λ e. omega arith) ∙ other3 _ (λ e. omega arith)
-      ∙ getD-set-same set1 (n * 129 + cell) (steps % 65536) 0 (simp length-set (omega arith))
+      ∙ getD-set-same set1 (n * stepsLowAt + cell) (steps % 65536) 0 (simp length-set (omega arith))
 
-  word3 : getD new (n * 130 + cell) 0 ≡ steps / 65536
-  word3 = other4 _ (λ e. omega arith) ∙ getD-set-same set2 (n * 130 + cell) (steps / 65536) 0 (simp length-set (omega arith))
+  word3 : getD new (n * stepsHighAt + cell) 0 ≡ steps / 65536
+  word3 = other4 _ (λ e. omega arith) ∙ getD-set-same set2 (n * stepsHighAt + cell) (steps / 65536) 0 (simp length-set (omega arith))
 
   word4 : orderOf n new count ≡ cell
-  word4 = getD-set-same set3 (n * 131 + count) cell 0 (simp length-set (omega (arith, free)))
+  word4 = getD-set-same set3 (n * orderAt + count) cell 0 (simp length-set (omega (arith, free)))
 
   known : T (knownOf n new cell)
   known = word-known n new cell (pre .inPlan) (omega (arith, word1))
@@ -77,7 +78,7 @@ module _ (n cell registers steps count : ℕ) (old : List ℕ) (pre : Labelable 
       (kept _ (λ e. omega (arith, free)) (λ e. omega arith) (λ e. omega arith) (λ e. omega arith))
 
   earlier : (i : ℕ) → i < count → orderOf n new i ≡ orderOf n old i
-  earlier i h = kept (n * 131 + i) (λ e. omega (arith, free)) (λ e. omega (arith, free)) (λ e. omega (arith, free)) (λ e. omega (arith, free))
+  earlier i h = kept (n * orderAt + i) (λ e. omega (arith, free)) (λ e. omega (arith, free)) (λ e. omega (arith, free)) (λ e. omega (arith, free))
 
   not-after : (c : ℕ) → T (knownOf n old c) → NotAfter (registersOf n old c) (stepsOf n old c) (registersOf n new cell) (stepsOf n new cell)
   not-after c t = rw (registers-set, steps-set) (pre .last c t)

@@ -6,6 +6,7 @@ use native.Mathlib.Omega.{arith}
 use lib.ListN.{length, getD, set, length-set}
 use lib.Seq.{getD-set-same, getD-set-other}
 use borrow.Author.Needs.{needs}
+use Rattle.layout.specs.Layout.{activeAt, listedAt, seedsAt, trailAt}
 use Rattle.lists.specs.Lists.{Listed, Enlisted}
 use Rattle.lists.proofs.Lists.{listed-count, listed-kept}
 use Rattle.labels.specs.Labels.{Planted}
@@ -14,25 +15,25 @@ use Rattle.labels.proofs.plant.Tie as tie
 
 -- the words after a seed flag is written
 abbrev seeded : List ℕ → ℕ → ℕ → ℕ → List ℕ
-seeded words n cell flag = set words (n * 135 + cell) flag
+seeded words n cell flag = set words (n * seedsAt + cell) flag
 
-kept : (words : List ℕ) (n cell flag k : ℕ) → (k ≡ n * 135 + cell → ⊥) → getD (seeded words n cell flag) k 0 ≡ getD words k 0
-kept words n cell flag k q = getD-set-other words (n * 135 + cell) k flag 0 q
+kept : (words : List ℕ) (n cell flag k : ℕ) → (k ≡ n * seedsAt + cell → ⊥) → getD (seeded words n cell flag) k 0 ≡ getD words k 0
+kept words n cell flag k q = getD-set-other words (n * seedsAt + cell) k flag 0 q
 
-seed-listed : (words : List ℕ) (n cell flag active : ℕ) → Listed n words (n * 132) active → Listed n (seeded words n cell flag) (n * 132) active
+seed-listed : (words : List ℕ) (n cell flag active : ℕ) → Listed n words (n * activeAt) active → Listed n (seeded words n cell flag) (n * activeAt) active
 seed-listed words n cell flag active l =
-    listed-kept l (seeded words n cell flag) (λ c h. kept words n cell flag (n * 134 + c) (λ e. omega arith))
-    (λ i h. kept words n cell flag (n * 132 + i) (λ e. omega (arith, listed-count l)))
+    listed-kept l (seeded words n cell flag) (λ c h. kept words n cell flag (n * listedAt + c) (λ e. omega arith))
+    (λ i h. kept words n cell flag (n * activeAt + i) (λ e. omega (arith, listed-count l)))
 
-planted : (n cell active : ℕ) (old new : List ℕ) (next : ℕ) → cell < n → n * 136 ≤ length old → Enlisted n (n * 132) active cell (seeded old n cell 1) new next → Planted n cell old new next
+planted : (n cell active : ℕ) (old new : List ℕ) (next : ℕ) → cell < n → n * trailAt ≤ length old → Enlisted n (n * activeAt) active cell (seeded old n cell 1) new next → Planted n cell old new next
 planted n cell active old new next h r e =
     record {
       same = simp length-set at (e .same);
       listed = e .listed;
       nowFlagged = e .now-flagged;
-      nowSeed = e .high (n * 135 + cell) (omega arith) ∙ getD-set-same old (n * 135 + cell) 1 0 (omega arith);
-      others = λ c k q. e .others c k q ∙ kept old n cell 1 (n * 134 + c) (λ x. omega arith);
-      otherSeeds = λ c k q. e .high (n * 135 + c) (omega arith) ∙ kept old n cell 1 (n * 135 + c) (λ x. omega arith);
+      nowSeed = e .high (n * seedsAt + cell) (omega arith) ∙ getD-set-same old (n * seedsAt + cell) 1 0 (omega arith);
+      others = λ c k q. e .others c k q ∙ kept old n cell 1 (n * listedAt + c) (λ x. omega arith);
+      otherSeeds = λ c k q. e .high (n * seedsAt + c) (omega arith) ∙ kept old n cell 1 (n * seedsAt + c) (λ x. omega arith);
       low = λ k q. e .low k (omega arith) ∙ kept old n cell 1 k (λ x. omega arith);
       middle = λ k p q. e .middle k (omega arith) q ∙ kept old n cell 1 k (λ x. omega arith);
       high = λ k q. e .high k (omega arith) ∙ kept old n cell 1 k (λ x. omega arith);

@@ -3,14 +3,15 @@ use Prim.Native.Nat.{_+_, _*_, _<_}
 use native.Mathlib.Omega.{arith}
 use lib.ListN.{getD}
 use borrow.Author.Needs.{needs}
+use Rattle.layout.specs.Layout.{stepsLowAt, stepsHighAt}
 use Rattle.labels.proofs.steps_of.Statement.{statement}
 use Rattle.labels.proofs.steps_of.Tie as tie
 
-low : (c : tie.After-shared-slice-known) → getD (c .before .args .scratch .now) (c .before .args .n * 129 + c .before .args .cell) 0 < 65536
-low c = omega (arith, c .shared-slice-known .given (c .before .args .n * 129 + c .before .args .cell))
+low : (c : tie.After-shared-slice-known) → getD (c .before .args .scratch .now) (c .before .args .n * stepsLowAt + c .before .args .cell) 0 < 65536
+low c = omega (arith, c .shared-slice-known .given (c .before .args .n * stepsLowAt + c .before .args .cell))
 
-high : (c : tie.After-shared-slice-known) → getD (c .before .args .scratch .now) (c .before .args .n * 130 + c .before .args .cell) 0 < 65536
-high c = omega (arith, c .shared-slice-known .given (c .before .args .n * 130 + c .before .args .cell))
+high : (c : tie.After-shared-slice-known) → getD (c .before .args .scratch .now) (c .before .args .n * stepsHighAt + c .before .args .cell) 0 < 65536
+high c = omega (arith, c .shared-slice-known .given (c .before .args .n * stepsHighAt + c .before .args .cell))
 
 mul-result : tie.Need-mul-result
 mul-result c = search needs

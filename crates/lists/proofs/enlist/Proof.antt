@@ -6,6 +6,7 @@ use native.Mathlib.Omega.{arith}
 use lib.ListN.{length, getD, set, length-set}
 use lib.Seq.{getD-set-same, getD-set-other}
 use borrow.Author.Needs.{needs}
+use Rattle.layout.specs.Layout.{listedAt, seedsAt}
 use Rattle.lists.specs.Lists.{flagOf, Listed, Enlisted}
 use Rattle.lists.proofs.Lists.{listed-room, listed-more}
 use Rattle.lists.proofs.enlist.Statement.{statement}
@@ -13,25 +14,25 @@ use Rattle.lists.proofs.enlist.Tie as tie
 
 -- the words after the first store, and after both
 abbrev flag-set : List ℕ → ℕ → ℕ → List ℕ
-flag-set old n cell = set old (n * 134 + cell) 1
+flag-set old n cell = set old (n * listedAt + cell) 1
 
 abbrev both-set : List ℕ → ℕ → ℕ → ℕ → ℕ → List ℕ
 both-set old n base count cell = set (flag-set old n cell) (base + count) cell
 
-module _ (n : ℕ) (old : List ℕ) (base count cell : ℕ) (l : Listed n old base count) (h : cell < n) (z : flagOf n old cell ≡ 0) (b : base + n ≤ n * 134) (r : n * 135 ≤ length old) where
+module _ (n : ℕ) (old : List ℕ) (base count cell : ℕ) (l : Listed n old base count) (h : cell < n) (z : flagOf n old cell ≡ 0) (b : base + n ≤ n * listedAt) (r : n * seedsAt ≤ length old) where
   abbrev new : List ℕ
   new = both-set old n base count cell
 
-  kept : (k : ℕ) → (k ≡ base + count → ⊥) → (k ≡ n * 134 + cell → ⊥) → getD new k 0 ≡ getD old k 0
-  kept k p q = getD-set-other (flag-set old n cell) (base + count) k cell 0 p ∙ getD-set-other old (n * 134 + cell) k 1 0 q
+  kept : (k : ℕ) → (k ≡ base + count → ⊥) → (k ≡ n * listedAt + cell → ⊥) → getD new k 0 ≡ getD old k 0
+  kept k p q = getD-set-other (flag-set old n cell) (base + count) k cell 0 p ∙ getD-set-other old (n * listedAt + cell) k 1 0 q
 
   flag : flagOf n new cell ≡ 1
   flag =
-      getD-set-other (flag-set old n cell) (base + count) (n * 134 + cell) cell 0 (λ e. omega (arith, listed-room l cell h z))
-      ∙ getD-set-same old (n * 134 + cell) 1 0 (omega arith)
+      getD-set-other (flag-set old n cell) (base + count) (n * listedAt + cell) cell 0 (λ e. omega (arith, listed-room l cell h z))
+      ∙ getD-set-same old (n * listedAt + cell) 1 0 (omega arith)
 
   others : (c : ℕ) → c < n → (c ≡ cell → ⊥) → flagOf n new c ≡ flagOf n old c
-  others c k q = kept (n * 134 + c) (λ e. omega (arith, listed-room l cell h z)) (λ e. omega arith)
+  others c k q = kept (n * listedAt + c) (λ e. omega (arith, listed-room l cell h z)) (λ e. omega arith)
 
   low : (k : ℕ) → k < base + count → getD new k 0 ≡ getD old k 0
   low k q = kept k (λ e. omega arith) (λ e. omega (arith, listed-room l cell h z))

@@ -7,15 +7,16 @@ use native.Mathlib.Omega.{arith}
 use lib.ListN.{length, getD, set, length-set}
 use lib.Seq.{getD-set-same, getD-set-other}
 use Rattle.plan.proofs.Truth.{equal}
+use Rattle.layout.specs.Layout.{activeAt, nextAt, listedAt}
 use Rattle.lists.proofs.Lists.{listed-count, listed-moved}
 use Rattle.lists.proofs.take_list.Statement.{statement}
 use Rattle.lists.proofs.take_list.Tie as tie
 
 record Copied (n i : ℕ) (old new : List ℕ) : Type 0 where
   same : length new ≡ length old
-  done : (k : ℕ) → k < i → getD new (n * 132 + k) 0 ≡ getD old (n * 133 + k) 0
-  low : (k : ℕ) → k < n * 132 → getD new k 0 ≡ getD old k 0
-  high : (k : ℕ) → n * 132 + i ≤ k → getD new k 0 ≡ getD old k 0
+  done : (k : ℕ) → k < i → getD new (n * activeAt + k) 0 ≡ getD old (n * nextAt + k) 0
+  low : (k : ℕ) → k < n * activeAt → getD new k 0 ≡ getD old k 0
+  high : (k : ℕ) → n * activeAt + i ≤ k → getD new k 0 ≡ getD old k 0
 
 copied-none : (n : ℕ) (old : List ℕ) → Copied n 0 old old
 copied-none n old =
@@ -26,7 +27,7 @@ copied-none n old =
       high = λ k h. refl;
     }
 
-copied-more : (n i : ℕ) (old new : List ℕ) → Copied n i old new → i < n → n * 134 ≤ length old → Copied n (i + 1) old (set new (n * 132 + i) (getD new (n * 133 + i) 0))
+copied-more : (n i : ℕ) (old new : List ℕ) → Copied n i old new → i < n → n * listedAt ≤ length old → Copied n (i + 1) old (set new (n * activeAt + i) (getD new (n * nextAt + i) 0))
 copied-more n i old new p h r =
     record {
       same = simp length-set (p .same);
@@ -35,13 +36,13 @@ copied-more n i old new p h r =
       high = λ k j. kept k (λ e. omega arith) ∙ p .high k (omega arith);
     }
   where
-    kept : (k : ℕ) → (k ≡ n * 132 + i → ⊥) → getD (set new (n * 132 + i) (getD new (n * 133 + i) 0)) k 0 ≡ getD new k 0
-    kept k q = getD-set-other new (n * 132 + i) k (getD new (n * 133 + i) 0) 0 q
+    kept : (k : ℕ) → (k ≡ n * activeAt + i → ⊥) → getD (set new (n * activeAt + i) (getD new (n * nextAt + i) 0)) k 0 ≡ getD new k 0
+    kept k q = getD-set-other new (n * activeAt + i) k (getD new (n * nextAt + i) 0) 0 q
 
-    place : (k : ℕ) → k < i + 1 → (k ≡ i) ⊎ (k ≡ i → ⊥) → getD (set new (n * 132 + i) (getD new (n * 133 + i) 0)) (n * 132 + k) 0 ≡ getD old (n * 133 + k) 0
+    place : (k : ℕ) → k < i + 1 → (k ≡ i) ⊎ (k ≡ i → ⊥) → getD (set new (n * activeAt + i) (getD new (n * nextAt + i) 0)) (n * activeAt + k) 0 ≡ getD old (n * nextAt + k) 0
     place k j (inl e) =
-        rw e (getD-set-same new (n * 132 + i) (getD new (n * 133 + i) 0) 0 (omega (arith, p .same)) ∙ p .high (n * 133 + i) (omega arith))
-    place k j (inr e) = kept (n * 132 + k) (λ q. omega arith) ∙ p .done k (omega arith)
+        rw e (getD-set-same new (n * activeAt + i) (getD new (n * nextAt + i) 0) 0 (omega (arith, p .same)) ∙ p .high (n * nextAt + i) (omega arith))
+    place k j (inr e) = kept (n * activeAt + k) (λ q. omega arith) ∙ p .done k (omega arith)
 
 abbrev Inv-loop : tie.InvT-loop
 Inv-loop scratch₀ n count i₀ scratch i = (i ≤ count) × Copied n i scratch₀ scratch

@@ -54,7 +54,7 @@ unfolding copied
 written c =
     let a = c .before .before .before .before .before .before .before .args in
     let loop = c .before .before .before .before .before .loop in
-    let word = c .before .before .view .ensures ∙ loop .inv .1 .low (a .cell * 64 + loop .l) (omega arith) in
+    let word = c .before .before .view .ensures ∙ loop .inv .1 .low (a .cell * rowWords + loop .l) (omega arith) in
     cc (c .above .ensures, word)
 
 loop-again : tie.Need-loop-again Inv-loop μ-loop

@@ -1,4 +1,4 @@
--- `trail::new_trail`: the words of both stretches, by 67.
+-- `trail::new_trail`: the words of both stretches, by the words of a slot.
 use mathlib.Core.Path.{refl}
 use borrow.Author.Needs.{needs}
 use Rattle.trail.specs.Trail.{slotsOf}

@@ -3,6 +3,7 @@ use Prim.Native.Nat.{_*_, _-_, _≤_, _<_}
 use native.Mathlib.Omega.{arith}
 use borrow.Author.Needs.{needs}
 use borrow.Author.Tests.{le-leb, lt-leb}
+use Rattle.layout.specs.Layout.{labelsAt, slotWords}
 use Rattle.trail.specs.Trail.{placeIn}
 use Rattle.trail.proofs.Slots.{PlaceIn, slot-below, slots-few, place-view}
 use Rattle.trail.proofs.place.Statement.{statement}
@@ -50,7 +51,7 @@ sub-result-2 c =
     let s = a .before in
     fits (place-view (s .args .n) (s .args .trail .room) (s .pre .1 .0) (a .slot .result) (below a .0))
   where
-    fits : PlaceIn (c .before .before .before .args .n) (c .before .before .before .args .trail .room) (c .before .before .slot .result) → (c .before .before .before .args .trail .room - c .before .before .slot .result) * 67 ≤ c .before .before .before .args .n * 128
+    fits : PlaceIn (c .before .before .before .args .n) (c .before .before .before .args .trail .room) (c .before .before .slot .result) → (c .before .before .before .args .trail .room - c .before .before .slot .result) * slotWords ≤ c .before .before .before .args .n * labelsAt
     fits (PlaceIn.first p e) = absurd (omega (arith, c .before .if1 .left))
     fits (PlaceIn.second x p r e) = omega arith
 

@@ -6,6 +6,7 @@ use mathlib.Core.List.{List}
 use native.Mathlib.Omega.{arith}
 use borrow.Author.Needs.{needs}
 use lib.ListN.{getD}
+use Rattle.layout.specs.Layout.{cellWords, slotWords, slotCell}
 use Rattle.rows.specs.Words.{Filled}
 use Rattle.rows.proofs.Rows.{row-elsewhere}
 use Rattle.costs.specs.Costs.{rowWords}
@@ -17,7 +18,7 @@ use Rattle.trail.proofs.restore.Statement.{statement}
 use Rattle.trail.proofs.restore.Tie as tie
 
 module _ (n : ℕ) (old : List ℕ) (t : Trail) (new : List ℕ) (r : Trail) (asks : TrailAsks n old t) (at cell : ℕ) where
-  pub put-back : r .room ≡ t .room → r .start ≡ t .start → t .count ≡ r .count + 1 → r .low ≡ t .low → r .stamp ≡ t .stamp → at ≡ placeOf n t (r .count) → cell ≡ cellAt n old t (r .count) → Filled (λ k. getD old (at + k) 0) (cell * 64) rowWords old new → Restored n old t new r
+  pub put-back : r .room ≡ t .room → r .start ≡ t .start → t .count ≡ r .count + 1 → r .low ≡ t .low → r .stamp ≡ t .stamp → at ≡ placeOf n t (r .count) → cell ≡ cellAt n old t (r .count) → Filled (λ k. getD old (at + k) 0) (cell * rowWords) rowWords old new → Restored n old t new r
   put-back a b c d e atIs cellIs f =
       restored n old t new r (asks .sound) a b c d e (f .same) (λ k h. f .high k (omega (arith, inPlan)))
       (λ l k. rw (← cellIs) (f .done l k ∙ ap (λ (x : ℕ). getD old (x + l) 0) atIs))
@@ -27,12 +28,12 @@ module _ (n : ℕ) (old : List ℕ) (t : Trail) (new : List ℕ) (r : Trail) (as
       inPlan = omega (arith, asks .sound .cells (r .count) (omega arith))
 
 -- the entry's place is in the words
-inside : (c : tie.After-place) → c .place .result + 67 ≤ c .before .before .before .args .n * 256
+inside : (c : tie.After-place) → c .place .result + slotWords ≤ c .before .before .before .args .n * cellWords
 inside c =
     let s = c .before .before .before in
     omega (arith, c .place .ensures, place-in (s .pre .0 .sound) (s .args .trail .count - 1) (omega (arith, s .pre .0 .sound .fits)))
 
-cell-in : (c : tie.After-place) → getD (c .before .before .before .args .scratch .now) (c .place .result + 64) 0 < c .before .before .before .args .n
+cell-in : (c : tie.After-place) → getD (c .before .before .before .args .scratch .now) (c .place .result + slotCell) 0 < c .before .before .before .args .n
 cell-in c =
     let s = c .before .before .before in
     rw (c .place .ensures) (s .pre .0 .sound .cells (s .args .trail .count - 1) (omega arith))
@@ -76,7 +77,7 @@ returns c =
     let p = c .before .before .before .before .before in
     let s = p .before .before .before in
     put-back _ _ _ _ _ (s .pre .0) _ _ refl refl (omega arith) refl refl (p .place .ensures)
-    (ap (λ (x : ℕ). getD (s .args .scratch .now) (x + 64) 0) (p .place .ensures)) (c .before .before .copy .ensures)
+    (ap (λ (x : ℕ). getD (s .args .scratch .now) (x + slotCell) 0) (p .place .ensures)) (c .before .before .copy .ensures)
 
 pub restore-spec : {M : Type 1} → statement M
 restore-spec =

@@ -5,6 +5,7 @@ use mathlib.Core.List.{List}
 use native.Mathlib.Omega.{arith}
 use lib.ListN.{length}
 use Rattle.budget.specs.Table.{Table}
+use Rattle.layout.specs.Layout.{arrivalAt}
 use Rattle.rows.specs.Words.{KeptFrom}
 use Rattle.trail.specs.declared.Trail.{Trail}
 use Rattle.trail.specs.Trail.{stampOf, stampAt, Sound, History, Rewound}
@@ -15,7 +16,7 @@ use Rattle.trail.proofs.rewind.Tie as tie
 
 record Rewinding (n layer : ℕ) (old : List ℕ) (t : Trail) (new : List ℕ) (r : Trail) : Type 0 where
   same : length new ≡ length old
-  kept : KeptFrom (n * 64) old new
+  kept : KeptFrom (n * arrivalAt) old new
   sound : Sound n new r
   lowest : r .low ≡ t .low
   history : (u : ℕ) (Z : ℕ → Table) → layer ≤ u → History n old t u Z → History n new r layer Z

@@ -7,6 +7,7 @@ use native.Mathlib.Omega.{arith}
 use borrow.Author.Needs.{needs}
 use lib.ListN.{length, getD, set, length-set}
 use lib.Seq.{getD-set-same, getD-set-other}
+use Rattle.layout.specs.Layout.{arrivalAt, cellWords, slotWords, slotCell, slotLow, slotHigh}
 use Rattle.rows.specs.Words.{Filled}
 use Rattle.costs.specs.Costs.{rowWords}
 use Rattle.trail.specs.declared.Trail.{Trail}
@@ -35,38 +36,38 @@ save-nothing n cell words t none =
     }
 
 -- the words after the stores
-module _ (n cell : ℕ) (old : List ℕ) (t k : Trail) (stamp : ℕ) (asks : TrailAsks n old t) (cellIn : cell < n) (made : RoomMade n old t k) (stampIs : stamp ≡ t .stamp) (at : ℕ) (atIs : at ≡ placeOf n k (k .count)) (mid : List ℕ) (f : Filled (λ l. getD old (cell * 64 + l) 0) at rowWords old mid) where
+module _ (n cell : ℕ) (old : List ℕ) (t k : Trail) (stamp : ℕ) (asks : TrailAsks n old t) (cellIn : cell < n) (made : RoomMade n old t k) (stampIs : stamp ≡ t .stamp) (at : ℕ) (atIs : at ≡ placeOf n k (k .count)) (mid : List ℕ) (f : Filled (λ l. getD old (cell * rowWords + l) 0) at rowWords old mid) where
   abbrev set1 : List ℕ
-  set1 = set mid (at + 64) cell
+  set1 = set mid (at + slotCell) cell
 
   abbrev set2 : List ℕ
-  set2 = set set1 (at + 65) (stamp % 65536)
+  set2 = set set1 (at + slotLow) (stamp % 65536)
 
   abbrev new : List ℕ
-  new = set set2 (at + 66) (stamp / 65536)
+  new = set set2 (at + slotHigh) (stamp / 65536)
 
-  inside : at + 67 ≤ length mid
+  inside : at + slotWords ≤ length mid
   inside = omega (arith, atIs, place-in (made .sound) (k .count) (made .free), asks .room, f .same)
 
-  other : (i : ℕ) → (i ≡ at + 64 → ⊥) → (i ≡ at + 65 → ⊥) → (i ≡ at + 66 → ⊥) → getD new i 0 ≡ getD mid i 0
+  other : (i : ℕ) → (i ≡ at + slotCell → ⊥) → (i ≡ at + slotLow → ⊥) → (i ≡ at + slotHigh → ⊥) → getD new i 0 ≡ getD mid i 0
   other i p q r =
-      getD-set-other set2 (at + 66) i (stamp / 65536) 0 r ∙ (getD-set-other set1 (at + 65) i (stamp % 65536) 0 q ∙ getD-set-other mid (at + 64) i cell 0 p)
+      getD-set-other set2 (at + slotHigh) i (stamp / 65536) 0 r ∙ (getD-set-other set1 (at + slotLow) i (stamp % 65536) 0 q ∙ getD-set-other mid (at + slotCell) i cell 0 p)
 
-  cell-word : getD new (at + 64) 0 ≡ cell
+  cell-word : getD new (at + slotCell) 0 ≡ cell
   cell-word =
-      getD-set-other set2 (at + 66) (at + 64) (stamp / 65536) 0 (λ e. omega arith)
-      ∙ (getD-set-other set1 (at + 65) (at + 64) (stamp % 65536) 0 (λ e. omega arith) ∙ getD-set-same mid (at + 64) cell 0 (omega (arith, inside)))
+      getD-set-other set2 (at + slotHigh) (at + slotCell) (stamp / 65536) 0 (λ e. omega arith)
+      ∙ (getD-set-other set1 (at + slotLow) (at + slotCell) (stamp % 65536) 0 (λ e. omega arith) ∙ getD-set-same mid (at + slotCell) cell 0 (omega (arith, inside)))
 
   stamp-words : stampOf new at ≡ stamp
   stamp-words =
       omega (
         arith,
-        getD-set-other set2 (at + 66) (at + 65) (stamp / 65536) 0 (λ e. omega arith),
-        getD-set-same set1 (at + 65) (stamp % 65536) 0 (simp length-set (omega (arith, inside))),
-        getD-set-same set2 (at + 66) (stamp / 65536) 0 (simp length-set (omega (arith, inside))),
+        getD-set-other set2 (at + slotHigh) (at + slotLow) (stamp / 65536) 0 (λ e. omega arith),
+        getD-set-same set1 (at + slotLow) (stamp % 65536) 0 (simp length-set (omega (arith, inside))),
+        getD-set-same set2 (at + slotHigh) (stamp / 65536) 0 (simp length-set (omega (arith, inside))),
       )
 
-  outside : (i : ℕ) → (i < at) ⊎ (at + 67 ≤ i) → getD new i 0 ≡ getD old i 0
+  outside : (i : ℕ) → (i < at) ⊎ (at + slotWords ≤ i) → getD new i 0 ≡ getD old i 0
   outside i (inl h) = other i (λ e. omega arith) (λ e. omega arith) (λ e. omega arith) ∙ f .low i h
   outside i (inr h) = other i (λ e. omega arith) (λ e. omega arith) (λ e. omega arith) ∙ f .high i (omega arith)
 
@@ -105,10 +106,10 @@ place-requires c κs =
     (made .sound .start, (made .sound .slots, (s .pre .0 .few, made .free)))
 
 -- the free slot's words
-room : (c : tie.After-place) → c .place .result + 67 ≤ c .before .before .before .before .before .before .args .n * 256
+room : (c : tie.After-place) → c .place .result + slotWords ≤ c .before .before .before .before .before .before .args .n * cellWords
 room c = omega (arith, c .place .ensures, place-in (c .before .make-room .ensures .sound) _ (c .before .make-room .ensures .free))
 
-after : (c : tie.After-place) → c .before .before .before .before .before .before .args .n * 64 + 64 ≤ c .place .result
+after : (c : tie.After-place) → c .before .before .before .before .before .before .args .n * arrivalAt + rowWords ≤ c .place .result
 after c = omega (arith, c .place .ensures, place-above (c .before .make-room .ensures .sound) _ (c .before .make-room .ensures .free))
 
 mul-copy : tie.Need-mul-copy
@@ -125,7 +126,7 @@ copy-requires c κs =
 cast-scratch : tie.Need-cast-scratch
 cast-scratch c = search needs
 
-bounds : (c : tie.After-slice-known2) → (c .before .before .before .before .place .result + 67 ≤ 262144) × (c .before .before .before .before .place .result + 67 ≤ length (c .before .before .copy .last .0))
+bounds : (c : tie.After-slice-known2) → (c .before .before .before .before .place .result + slotWords ≤ 262144) × (c .before .before .before .before .place .result + slotWords ≤ length (c .before .before .copy .last .0))
 bounds c =
     let p = c .before .before .before .before in
     let s = p .before .before .before .before .before .before in

@@ -3,14 +3,15 @@ use Prim.Native.Nat.{_+_, _<_}
 use native.Mathlib.Omega.{arith}
 use lib.ListN.{getD}
 use borrow.Author.Needs.{needs}
+use Rattle.layout.specs.Layout.{slotLow, slotHigh}
 use Rattle.trail.proofs.stamp_of.Statement.{statement}
 use Rattle.trail.proofs.stamp_of.Tie as tie
 
-low : (c : tie.After-shared-slice-known) → getD (c .before .args .scratch .now) (c .before .args .at + 65) 0 < 65536
-low c = omega (arith, c .shared-slice-known .given (c .before .args .at + 65))
+low : (c : tie.After-shared-slice-known) → getD (c .before .args .scratch .now) (c .before .args .at + slotLow) 0 < 65536
+low c = omega (arith, c .shared-slice-known .given (c .before .args .at + slotLow))
 
-high : (c : tie.After-shared-slice-known) → getD (c .before .args .scratch .now) (c .before .args .at + 66) 0 < 65536
-high c = omega (arith, c .shared-slice-known .given (c .before .args .at + 66))
+high : (c : tie.After-shared-slice-known) → getD (c .before .args .scratch .now) (c .before .args .at + slotHigh) 0 < 65536
+high c = omega (arith, c .shared-slice-known .given (c .before .args .at + slotHigh))
 
 add-result : tie.Need-add-result
 add-result c = search needs

@@ -11,6 +11,7 @@ use Rattle.timing.specs.Ranges.{loadMax, setupMax}
 use Rattle.timing.specs.Formulas.{registerLoad, setupDelay}
 use Rattle.timing.specs.Valid.{Valid}
 use Rattle.rules.specs.Rules.{rulesOf}
+use Rattle.costs.specs.Costs.{rowWords}
 use Rattle.table.specs.declared.problem.Problem.{Problem}
 use Rattle.table.specs.Problem.{rulesFor, budgetOf}
 use Rattle.table.proofs.Views.{budget-at}
@@ -26,11 +27,11 @@ delay-most : {e : Elements} → Valid e → setupDelay (e .register) ≤ 2 * set
 unfolding setupDelay
 delay-most v = omega (arith, v .register .setup)
 
-fresh-word : (p : Problem) → Valid (p .elements) → (words : List ℕ) (cell delay load : ℕ) → delay ≡ setupDelay (p .elements .register) → load ≡ registerLoad (p .elements .register) → FreshIn p words cell (ltb delay (getD words (cell * 64 + load) 0))
+fresh-word : (p : Problem) → Valid (p .elements) → (words : List ℕ) (cell delay load : ℕ) → delay ≡ setupDelay (p .elements .register) → load ≡ registerLoad (p .elements .register) → FreshIn p words cell (ltb delay (getD words (cell * rowWords + load) 0))
 unfolding rulesFor rulesOf
 fresh-word p v words cell delay load d l = record { fresh = same; start = same }
   where
-    same : (marks : List ℕ) → cell < length marks → ltb delay (getD words (cell * 64 + load) 0) ≡ ltb (setupDelay (p .elements .register)) (budgetOf (length marks) words cell (registerLoad (p .elements .register)))
+    same : (marks : List ℕ) → cell < length marks → ltb delay (getD words (cell * rowWords + load) 0) ≡ ltb (setupDelay (p .elements .register)) (budgetOf (length marks) words cell (registerLoad (p .elements .register)))
     same marks h = rw (d, l, budget-at (length marks) words cell (registerLoad (p .elements .register)) h (omega (arith, load-most v)))
 
 load-requires : tie.Need-load-requires

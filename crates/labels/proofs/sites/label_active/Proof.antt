@@ -4,6 +4,7 @@ use mathlib.Core.Path.{_≡_, refl}
 use mathlib.Core.List.{List}
 use native.Mathlib.Omega.{arith}
 use lib.ListN.{length, getD}
+use Rattle.layout.specs.Layout.{activeAt}
 use Rattle.lists.specs.Lists.{flagOf, Place, Listed}
 use Rattle.lists.proofs.Lists.{listed-count}
 use Rattle.table.specs.declared.problem.Problem.{Problem}
@@ -17,9 +18,9 @@ use Rattle.labels.proofs.sites.label_active.Tie as tie
 -- the first i cells have been tried
 abbrev Tried : Problem → List ℕ → ℕ → ℕ → ℕ → List ℕ → ℕ → List ℕ → ℕ → Type 0
 Tried p marks registers steps count old i new known =
-    LabelsAddedAmong (rulesFor p marks) (length marks) (Place (length marks) old (length marks * 132) i) registers steps old new count known
+    LabelsAddedAmong (rulesFor p marks) (length marks) (Place (length marks) old (length marks * activeAt) i) registers steps old new count known
 
-module _ (p : Problem) (marks : List ℕ) (active registers steps count : ℕ) (old : List ℕ) (asks : LabelAsks p marks registers steps count old) (listed : Listed (length marks) old (length marks * 132) active) where
+module _ (p : Problem) (marks : List ℕ) (active registers steps count : ℕ) (old : List ℕ) (asks : LabelAsks p marks registers steps count old) (listed : Listed (length marks) old (length marks * activeAt) active) where
   abbrev n : ℕ
   n = length marks
 
@@ -33,10 +34,10 @@ module _ (p : Problem) (marks : List ℕ) (active registers steps count : ℕ) (
   tried-none = labels-none _ old count (asks .ordered) (λ c t s f. absurd (omega (arith, t .below)))
 
   module _ (i : ℕ) (mid : List ℕ) (known : ℕ) (a : Tried p marks registers steps count old i mid known) where
-    cell-below : i < active → getD mid (n * 132 + i) 0 < n
-    cell-below h = omega (arith, a .high (n * 132 + i) (omega arith), listed .cells i h)
+    cell-below : i < active → getD mid (n * activeAt + i) 0 < n
+    cell-below h = omega (arith, a .high (n * activeAt + i) (omega arith), listed .cells i h)
 
-    next-asks : i < active → LabelAsks p marks registers steps known mid × (getD mid (n * 132 + i) 0 < n)
+    next-asks : i < active → LabelAsks p marks registers steps known mid × (getD mid (n * activeAt + i) 0 < n)
     next-asks h = (
       record {
         ready = asks .ready;

@@ -11,6 +11,7 @@ use lib.ListN.{length, getD}
 use Rattle.rules.specs.Rules.{Rules, registerCode}
 use Rattle.rules.specs.Legal.{mayStand}
 use Rattle.plan.proofs.Truth.{of-true}
+use Rattle.layout.specs.Layout.{labelsAt}
 use Rattle.table.specs.declared.problem.Problem.{Problem}
 use Rattle.table.specs.Problem.{rulesFor, budgetOf}
 use Rattle.table.proofs.Spreads.{few-cells}
@@ -35,7 +36,7 @@ module _ (p : Problem) (marks : List ℕ) (registers steps count : ℕ) (words :
   none : (T (mayStand R cell registerCode) → R .fresh .delay < budgetOf n words cell (R .fresh .load) → T (knownOf n words cell)) → Added words count
   none f = labels-none (λ c. c ≡ cell) words count (asks .ordered) (λ c e s b. rw e (f (rw e at s) (rw e at b)))
 
-  labelled : 0 < getD words (n * 128 + cell) 0 → Added words count
+  labelled : 0 < getD words (n * labelsAt + cell) 0 → Added words count
   labelled k = none (λ s b. word-known n words cell inPlan k)
 
   not-fresh : (r : Bool) → FreshIn p words cell r → not r ≡ true → Added words count
@@ -47,10 +48,10 @@ module _ (p : Problem) (marks : List ℕ) (registers steps count : ℕ) (words :
   no-site r m e = none (λ s b. absurd (unknown-not (sym m ∙ not-true r e) s))
 
   -- one label
-  unlabelled : getD words (n * 128 + cell) 0 ≤ 0 → knownOf n words cell ≡ false
+  unlabelled : getD words (n * labelsAt + cell) 0 ≤ 0 → knownOf n words cell ≡ false
   unlabelled z = word-unknown n words cell (omega arith)
 
-  may-label : getD words (n * 128 + cell) 0 ≤ 0 → Labelable n cell registers steps count words
+  may-label : getD words (n * labelsAt + cell) 0 ≤ 0 → Labelable n cell registers steps count words
   may-label z =
       record {
         ordered = asks .ordered;
@@ -62,7 +63,7 @@ module _ (p : Problem) (marks : List ℕ) (registers steps count : ℕ) (words :
         room = omega (arith, asks .room);
       }
 
-  one-more : getD words (n * 128 + cell) 0 ≤ 0 → (r q : Bool) → FreshIn p words cell r → not r ≡ false → q ≡ mayStand R cell registerCode → not q ≡ false → (new : List ℕ) → LabelAdded n cell registers steps count words new → Added new (count + 1)
+  one-more : getD words (n * labelsAt + cell) 0 ≤ 0 → (r q : Bool) → FreshIn p words cell r → not r ≡ false → q ≡ mayStand R cell registerCode → not q ≡ false → (new : List ℕ) → LabelAdded n cell registers steps count words new → Added new (count + 1)
   one-more z r q f e m d new a =
       labels-one (unlabelled z) (of-true (mayStand R cell registerCode) (sym m ∙ not-false q d)) (ltb-true (R .fresh .delay) (budgetOf n words cell (R .fresh .load)) (sym (f .fresh marks inPlan) ∙ not-false r e)) a
 

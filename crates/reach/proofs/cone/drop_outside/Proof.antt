@@ -8,6 +8,7 @@ use native.Mathlib.Omega.{arith}
 use borrow.Author.Needs.{needs}
 use lib.Dec.{T}
 use lib.ListN.{getD}
+use Rattle.layout.specs.Layout.{activeAt, listedAt, seedsAt}
 use Rattle.rows.specs.Words.{Filled}
 use Rattle.lists.specs.Lists.{flagOf, Place, Listed, Taken}
 use Rattle.lists.proofs.Lists.{bit-cases, listed-count}
@@ -16,35 +17,35 @@ use Rattle.reach.specs.Cone.{ListAsks, ListedInside, DropAsks, Dropped}
 use Rattle.reach.proofs.cone.drop_outside.Statement.{statement}
 use Rattle.reach.proofs.cone.drop_outside.Tie as tie
 
-asks : (p : Problem) (n active : ℕ) (old mid : List ℕ) → DropAsks p n active old → Filled (λ k. 0) (n * 134) (n * 135 - n * 134) old mid → ListAsks n active (p .width) mid
+asks : (p : Problem) (n active : ℕ) (old mid : List ℕ) → DropAsks p n active old → Filled (λ k. 0) (n * listedAt) (n * seedsAt - n * listedAt) old mid → ListAsks n active (p .width) mid
 asks p n active old mid d f =
     record {
       unflagged = λ c h. f .done c (omega arith);
       short = listed-count (d .listed);
-      cells = λ i h. omega (arith, f .low (n * 132 + i) (omega (arith, listed-count (d .listed))), d .listed .cells i h);
+      cells = λ i h. omega (arith, f .low (n * activeAt + i) (omega (arith, listed-count (d .listed))), d .listed .cells i h);
       wide = d .wide;
       few = d .few;
       room = omega (arith, d .room, f .same);
     }
 
-module _ (n active : ℕ) (P : ℕ → Bool) (old : List ℕ) (a : Listed n old (n * 132) active) (mid : List ℕ) (f : Filled (λ k. 0) (n * 134) (n * 135 - n * 134) old mid) (inner : List ℕ) (count : ℕ) (i : ListedInside n active P mid inner count) (new : List ℕ) (t : Taken n count inner new) where
-  list-same : (j : ℕ) → j < active → getD mid (n * 132 + j) 0 ≡ getD old (n * 132 + j) 0
-  list-same j h = f .low (n * 132 + j) (omega (arith, listed-count a))
+module _ (n active : ℕ) (P : ℕ → Bool) (old : List ℕ) (a : Listed n old (n * activeAt) active) (mid : List ℕ) (f : Filled (λ k. 0) (n * listedAt) (n * seedsAt - n * listedAt) old mid) (inner : List ℕ) (count : ℕ) (i : ListedInside n active P mid inner count) (new : List ℕ) (t : Taken n count inner new) where
+  list-same : (j : ℕ) → j < active → getD mid (n * activeAt + j) 0 ≡ getD old (n * activeAt + j) 0
+  list-same j h = f .low (n * activeAt + j) (omega (arith, listed-count a))
 
   flag-same : (c : ℕ) → flagOf n new c ≡ flagOf n inner c
-  flag-same c = t .high (n * 134 + c) (omega arith)
+  flag-same c = t .high (n * listedAt + c) (omega arith)
 
   was : (c : ℕ) → c < n → flagOf n new c ≡ 1 → flagOf n old c ≡ 1
   was c h e =
-      let p : Place n mid (n * 132) active c = i .fewer c h (sym (flag-same c) ∙ e) in
+      let p : Place n mid (n * activeAt) active c = i .fewer c h (sym (flag-same c) ∙ e) in
       rw (sym (list-same (p .at) (p .below)) ∙ p .holds) at (a .flagged (p .at) (p .below))
 
   stays : (c : ℕ) → c < n → T (P c) → (flagOf n old c ≡ 0) ⊎ (flagOf n old c ≡ 1) → (flagOf n new c ≡ 0) ⊎ (flagOf n new c ≡ 1) → flagOf n new c ≡ flagOf n old c
   stays c h q (inl e) (inl g) = g ∙ sym e
   stays c h q (inl e) (inr g) = absurd (omega (arith, was c h g))
   stays c h q (inr e) g =
-      let p : Place n old (n * 132) active c = a .covered c h e in
-      let at : getD mid (n * 132 + p .at) 0 ≡ c = list-same (p .at) (p .below) ∙ p .holds in
+      let p : Place n old (n * activeAt) active c = a .covered c h e in
+      let at : getD mid (n * activeAt + p .at) 0 ≡ c = list-same (p .at) (p .below) ∙ p .holds in
       flag-same c ∙ (rw at at (i .inside (p .at) (p .below) (rw at q)) ∙ sym e)
 
   dropped : Dropped n P old new count

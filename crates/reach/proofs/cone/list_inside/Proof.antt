@@ -11,6 +11,7 @@ use lib.ListN.{getD}
 use Rattle.plan.specs.Apart.{apartBy}
 use Rattle.plan.proofs.Truth.{equal}
 use Rattle.budget.specs.Cone.{inCone}
+use Rattle.layout.specs.Layout.{activeAt, nextAt}
 use Rattle.lists.specs.Lists.{flagOf, Place, Enlisted}
 use Rattle.lists.proofs.Lists.{listed-none, enlisted-stays}
 use Rattle.labels.proofs.Labels.{unknown-not}
@@ -23,7 +24,7 @@ module _ (n : ℕ) (P : ℕ → Bool) (old : List ℕ) where
   none-yet a =
       record {
         same = refl;
-        listed = listed-none n old (n * 133) (a .unflagged);
+        listed = listed-none n old (n * nextAt) (a .unflagged);
         fewer = λ c h e. absurd (omega (arith, a .unflagged c h));
         inside = λ i h t. absurd (omega arith);
         low = λ k h. refl;
@@ -32,10 +33,10 @@ module _ (n : ℕ) (P : ℕ → Bool) (old : List ℕ) where
 
   -- one cell more
   module _ (i count : ℕ) (mid : List ℕ) (f : ListedInside n i P old mid count) where
-    place-more : {c : ℕ} → Place n old (n * 132) i c → Place n old (n * 132) (i + 1) c
+    place-more : {c : ℕ} → Place n old (n * activeAt) i c → Place n old (n * activeAt) (i + 1) c
     place-more p = record { at = p .at; below = omega arith; holds = p .holds }
 
-    not-inside : (T (P (getD old (n * 132 + i) 0)) → ⊥) → ListedInside n (i + 1) P old mid count
+    not-inside : (T (P (getD old (n * activeAt + i) 0)) → ⊥) → ListedInside n (i + 1) P old mid count
     not-inside out =
         record {
           same = f .same;
@@ -46,11 +47,11 @@ module _ (n : ℕ) (P : ℕ → Bool) (old : List ℕ) where
           high = f .high;
         }
       where
-        go : (j : ℕ) → j < i + 1 → T (P (getD old (n * 132 + j) 0)) → (j ≡ i) ⊎ (j ≡ i → ⊥) → flagOf n mid (getD old (n * 132 + j) 0) ≡ 1
+        go : (j : ℕ) → j < i + 1 → T (P (getD old (n * activeAt + j) 0)) → (j ≡ i) ⊎ (j ≡ i → ⊥) → flagOf n mid (getD old (n * activeAt + j) 0) ≡ 1
         go j h t (inl e) = absurd (out (rw e at t))
         go j h t (inr e) = f .inside j (omega arith) t
 
-    now-inside : (new : List ℕ) (cell next : ℕ) → cell ≡ getD old (n * 132 + i) 0 → ((j : ℕ) → j < i → getD old (n * 132 + j) 0 < n) → Enlisted n (n * 133) count cell mid new next → ListedInside n (i + 1) P old new next
+    now-inside : (new : List ℕ) (cell next : ℕ) → cell ≡ getD old (n * activeAt + i) 0 → ((j : ℕ) → j < i → getD old (n * activeAt + j) 0 < n) → Enlisted n (n * nextAt) count cell mid new next → ListedInside n (i + 1) P old new next
     now-inside new cell next is cells p =
         record {
           same = p .same ∙ f .same;
@@ -61,11 +62,11 @@ module _ (n : ℕ) (P : ℕ → Bool) (old : List ℕ) where
           high = λ k h. p .high k h ∙ f .high k h;
         }
       where
-        was : (c : ℕ) → c < n → flagOf n new c ≡ 1 → (c ≡ cell) ⊎ (c ≡ cell → ⊥) → Place n old (n * 132) (i + 1) c
+        was : (c : ℕ) → c < n → flagOf n new c ≡ 1 → (c ≡ cell) ⊎ (c ≡ cell → ⊥) → Place n old (n * activeAt) (i + 1) c
         was c h e (inl q) = record { at = i; below = omega arith; holds = sym (q ∙ is) }
         was c h e (inr q) = place-more (f .fewer c h (sym (p .others c h q) ∙ e))
 
-        go : (j : ℕ) → j < i + 1 → T (P (getD old (n * 132 + j) 0)) → (j ≡ i) ⊎ (j ≡ i → ⊥) → flagOf n new (getD old (n * 132 + j) 0) ≡ 1
+        go : (j : ℕ) → j < i + 1 → T (P (getD old (n * activeAt + j) 0)) → (j ≡ i) ⊎ (j ≡ i → ⊥) → flagOf n new (getD old (n * activeAt + j) 0) ≡ 1
         go j h t (inl e) = rw (e, ← is) (p .now-flagged)
         go j h t (inr e) = enlisted-stays p _ (cells j (omega arith)) (f .inside j (omega arith) t)
 
@@ -77,10 +78,10 @@ abbrev μ-loop : tie.MeasureT-loop
 μ-loop scratch₀ n active width from most u i₀ count₀ scratch i count = active - i
 
 -- the cell of the turn
-cell-same : (c : tie.In-loop Inv-loop μ-loop) → let s = c .before .before .before in getD (c .before .loop .scratch) (s .args .n * 132 + c .before .loop .i) 0 ≡ getD (s .args .scratch .now) (s .args .n * 132 + c .before .loop .i) 0
+cell-same : (c : tie.In-loop Inv-loop μ-loop) → let s = c .before .before .before in getD (c .before .loop .scratch) (s .args .n * activeAt + c .before .loop .i) 0 ≡ getD (s .args .scratch .now) (s .args .n * activeAt + c .before .loop .i) 0
 cell-same c = c .before .loop .inv .1 .low _ (omega arith)
 
-cell-below : (c : tie.In-loop Inv-loop μ-loop) → let s = c .before .before .before in getD (c .before .loop .scratch) (s .args .n * 132 + c .before .loop .i) 0 < s .args .n
+cell-below : (c : tie.In-loop Inv-loop μ-loop) → let s = c .before .before .before in getD (c .before .loop .scratch) (s .args .n * activeAt + c .before .loop .i) 0 < s .args .n
 cell-below c = omega (arith, cell-same c, c .before .before .before .pre .cells (c .before .loop .i) (omega arith))
 
 loop-holds : tie.Need-loop-holds Inv-loop μ-loop

@@ -5,6 +5,7 @@ use mathlib.Core.List.{List}
 use native.Mathlib.Omega.{arith}
 use borrow.Author.Needs.{needs}
 use lib.ListN.{getD}
+use Rattle.layout.specs.Layout.{listedAt, trailAt}
 use Rattle.rows.specs.Words.{Filled}
 use Rattle.reach.specs.Reach.{TableCleared, Cleared}
 use Rattle.reach.proofs.span.clear_span.Statement.{statement}
@@ -16,12 +17,12 @@ zero-at at end old new f i lo hi =
     let e : at + (i - at) ≡ i = omega arith in
     rw e at (f .done (i - at) (omega arith))
 
-cleared : (n : ℕ) (old mid new : List ℕ) → TableCleared n old mid → Filled (λ k. 0) (n * 134) (n * 136 - n * 134) mid new → Cleared n old new
+cleared : (n : ℕ) (old mid new : List ℕ) → TableCleared n old mid → Filled (λ k. 0) (n * listedAt) (n * trailAt - n * listedAt) mid new → Cleared n old new
 cleared n old mid new f g =
     record {
       same = g .same ∙ f .same;
       rows = λ i h. g .low i (omega arith) ∙ f .rows i h;
-      flags = zero-at (n * 134) (n * 136) mid new g;
+      flags = zero-at (n * listedAt) (n * trailAt) mid new g;
       kept = λ i lo hi. g .low i hi ∙ f .rest i lo;
       rest = λ i lo. g .high i (omega arith) ∙ f .rest i (omega arith);
     }

@@ -4,13 +4,14 @@ use mathlib.Core.Path.{_≡_}
 use mathlib.Core.List.{List}
 use native.Mathlib.Omega.{arith}
 use borrow.Author.Needs.{needs}
+use Rattle.layout.specs.Layout.{arrivalAt}
 use Rattle.rows.specs.Words.{Filled}
 use Rattle.reach.specs.Reach.{TableCleared}
 use Rattle.reach.proofs.Trailing.{back-empty}
 use Rattle.reach.proofs.span.clear_table.Statement.{statement}
 use Rattle.reach.proofs.span.clear_table.Tie as tie
 
-by-words : (n rows : ℕ) (old new : List ℕ) → Filled (λ k. 0) 0 (rows - 0) old new → rows ≡ n * 64 → TableCleared n old new
+by-words : (n rows : ℕ) (old new : List ℕ) → Filled (λ k. 0) 0 (rows - 0) old new → rows ≡ n * arrivalAt → TableCleared n old new
 by-words n rows old new f e =
     record {
       same = f .same;

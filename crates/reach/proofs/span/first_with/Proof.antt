@@ -5,6 +5,7 @@ use mathlib.Core.List.{List}
 use native.Mathlib.Omega.{arith}
 use lib.ListN.{getD}
 use Rattle.budget.specs.Done.{NotAfter}
+use Rattle.layout.specs.Layout.{labelsAt}
 use Rattle.labels.specs.Labels.{registersOf, stepsOf, orderOf, Ordered}
 use Rattle.labels.proofs.Labels.{known-word, ordered-count}
 use Rattle.reach.proofs.span.first_with.Statement.{statement}
@@ -41,7 +42,7 @@ small c = omega (arith, ordered-count (c .before .before .pre .0), c .before .be
 cell-in : (c : tie.In-loop Inv-loop μ-loop) → let s = c .before .before in orderOf (s .args .n) (s .args .scratch .now) ((c .before .loop .low + c .before .loop .high) / 2) < s .args .n
 cell-in c = c .before .before .pre .0 .cells _ (middle c)
 
-word-some : (c : tie.In-loop Inv-loop μ-loop) → let s = c .before .before in 0 < getD (s .args .scratch .now) (s .args .n * 128 + orderOf (s .args .n) (s .args .scratch .now) ((c .before .loop .low + c .before .loop .high) / 2)) 0
+word-some : (c : tie.In-loop Inv-loop μ-loop) → let s = c .before .before in 0 < getD (s .args .scratch .now) (s .args .n * labelsAt + orderOf (s .args .n) (s .args .scratch .now) ((c .before .loop .low + c .before .loop .high) / 2)) 0
 word-some c = known-word _ _ _ (c .before .before .pre .0 .known _ (middle c))
 
 loop-holds : tie.Need-loop-holds Inv-loop μ-loop

@@ -4,6 +4,7 @@ use mathlib.Core.Path.{_≡_, _∙_}
 use native.Mathlib.Omega.{arith}
 use borrow.Author.Needs.{needs}
 use lib.ListN.{length}
+use Rattle.layout.specs.Layout.{cellWords}
 use Rattle.rows.proofs.Words.{filled-at}
 use Rattle.table.proofs.Spreads.{few-cells}
 use Rattle.router.proofs.Splice.{zeroed-is, zeroed-kept}
@@ -61,7 +62,7 @@ returns c =
     let n = length (c .before .before .before .before .before .before .before .before .before .before .before .before .before .before .before .before .before .before .before .before .before .before .before .before .before .args .plan .now) in
     record {
       answer = w .answer;
-      zero-words = w .zero-words ∙ zeroed-kept (n * 256) (n * 256) (c .before .before .before .before .before .before .before .before .before .before .before .before .before .before .before .before .before .before .before .before .before .before .before .before .before .args .scratch .now) _ (omega arith) (c .before .before .before .before .before .before .before .before .before .before .before .before .search .ensures .same ∙ (c .before .before .before .before .before .before .before .before .before .before .before .before .before .before .before .before .clear2 .ensures .same ∙ c .before .before .before .before .before .before .before .before .before .before .before .before .before .before .before .before .before .before .before .before .clear .ensures .same)) (λ k h. c .before .before .before .before .before .before .before .before .before .before .before .before .search .ensures .rest k (omega arith) ∙ (c .before .before .before .before .before .before .before .before .before .before .before .before .before .before .before .before .clear2 .ensures .high k (omega arith) ∙ c .before .before .before .before .before .before .before .before .before .before .before .before .before .before .before .before .before .before .before .before .clear .ensures .high k (omega arith)));
+      zero-words = w .zero-words ∙ zeroed-kept (n * cellWords) (n * cellWords) (c .before .before .before .before .before .before .before .before .before .before .before .before .before .before .before .before .before .before .before .before .before .before .before .before .before .args .scratch .now) _ (omega arith) (c .before .before .before .before .before .before .before .before .before .before .before .before .search .ensures .same ∙ (c .before .before .before .before .before .before .before .before .before .before .before .before .before .before .before .before .clear2 .ensures .same ∙ c .before .before .before .before .before .before .before .before .before .before .before .before .before .before .before .before .before .before .before .before .clear .ensures .same)) (λ k h. c .before .before .before .before .before .before .before .before .before .before .before .before .search .ensures .rest k (omega arith) ∙ (c .before .before .before .before .before .before .before .before .before .before .before .before .before .before .before .before .clear2 .ensures .high k (omega arith) ∙ c .before .before .before .before .before .before .before .before .before .before .before .before .before .before .before .before .before .before .before .before .clear .ensures .high k (omega arith)));
       filled = w .filled;
     }
 
@@ -82,7 +83,7 @@ returns-2 c =
     let s = c .before .before .before .before .before .before .before .before .before .before .before .before .before .before .before .before .before .before .before .before .before in
     let n = length (s .args .plan .now) in
     done-none _ _ _ _ _
-    (zeroed-is (n * 256) (n * 256) (s .args .scratch .now) _ _ (omega arith) (s .pre .1 .0) (c .before .before .before .before .before .before .before .before .search .ensures .same ∙ (c .before .before .before .before .before .before .before .before .before .before .before .before .clear2 .ensures .same ∙ c .before .before .before .before .before .before .before .before .before .before .before .before .before .before .before .before .clear .ensures .same)) (λ k h. c .before .before .before .before .before .before .before .before .search .ensures .rest k (omega arith) ∙ (c .before .before .before .before .before .before .before .before .before .before .before .before .clear2 .ensures .high k (omega arith) ∙ c .before .before .before .before .before .before .before .before .before .before .before .before .before .before .before .before .clear .ensures .high k (omega arith))) (c .before .before .clear3 .ensures))
+    (zeroed-is (n * cellWords) (n * cellWords) (s .args .scratch .now) _ _ (omega arith) (s .pre .1 .0) (c .before .before .before .before .before .before .before .before .search .ensures .same ∙ (c .before .before .before .before .before .before .before .before .before .before .before .before .clear2 .ensures .same ∙ c .before .before .before .before .before .before .before .before .before .before .before .before .before .before .before .before .clear .ensures .same)) (λ k h. c .before .before .before .before .before .before .before .before .search .ensures .rest k (omega arith) ∙ (c .before .before .before .before .before .before .before .before .before .before .before .before .clear2 .ensures .high k (omega arith) ∙ c .before .before .before .before .before .before .before .before .before .before .before .before .before .before .before .before .clear .ensures .high k (omega arith))) (c .before .before .clear3 .ensures))
     (best-is-none _ _ (s .pre .0) (reached-nothing (c .before .before .before .before .before .before .before .before .search .ensures .done) (c .before .before .before .before .enum-told .given .1)))
 
 pub route-ready-spec : {M : Type 1} → statement M

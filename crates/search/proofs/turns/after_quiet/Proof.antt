@@ -2,6 +2,7 @@
 use Prim.Native.Nat.{_+_, _*_}
 use mathlib.Core.Path.{sym}
 use native.Mathlib.Omega.{arith}
+use Rattle.layout.specs.Layout.{orderAt}
 use Rattle.labels.proofs.Labels.{ordered-count}
 use Rattle.search.proofs.Quiet.{quiet-nothing, quiet-wave, quiet-pending}
 use Rattle.search.proofs.turns.after_quiet.Statement.{statement}
@@ -23,7 +24,7 @@ shared-slice-read-first : tie.Need-shared-slice-read-first
 shared-slice-read-first c = omega (arith, ordered-count (c .before .before .before .before .pre .0), c .before .before .before .before .pre .1 .0, c .before .before .before .before .pre .1 .1 .0, c .before .before .before .before .pre .1 .1 .1 .0, c .before .before .before .before .pre .1 .1 .1 .1 .0, c .before .before .before .before .pre .1 .1 .1 .1 .1)
 
 cast-first : tie.Need-cast-first
-cast-first c = omega (arith, c .shared-slice-known2 .given (c .before .before .before .before .args .n * 131 + c .before .before .before .before .args .f .at))
+cast-first c = omega (arith, c .shared-slice-known2 .given (c .before .before .before .before .args .n * orderAt + c .before .before .before .before .args .f .at))
 
 steps-of-requires : tie.Need-steps-of-requires
 steps-of-requires c κs = (c .before .before .before .before .pre .0 .cells _ (omega (arith, ordered-count (c .before .before .before .before .pre .0), c .before .before .before .before .pre .1 .0, c .before .before .before .before .pre .1 .1 .0, c .before .before .before .before .pre .1 .1 .1 .0, c .before .before .before .before .pre .1 .1 .1 .1 .0, c .before .before .before .before .pre .1 .1 .1 .1 .1)), (c .before .before .before .before .pre .1 .1 .1 .1 .0, c .before .before .before .before .pre .1 .1 .1 .1 .1))
@@ -47,7 +48,7 @@ shared-slice-read-first-2 : tie.Need-shared-slice-read-first-2
 shared-slice-read-first-2 c = omega (arith, ordered-count (c .before .before .before .pre .0), c .before .before .before .pre .1 .0, c .before .before .before .pre .1 .1 .0, c .before .before .before .pre .1 .1 .1 .0, c .before .before .before .pre .1 .1 .1 .1 .0, c .before .before .before .pre .1 .1 .1 .1 .1)
 
 cast-first-2 : tie.Need-cast-first-2
-cast-first-2 c = omega (arith, c .shared-slice-known3 .given (c .before .before .before .args .n * 131 + c .before .before .before .args .f .at))
+cast-first-2 c = omega (arith, c .shared-slice-known3 .given (c .before .before .before .args .n * orderAt + c .before .before .before .args .f .at))
 
 steps-of-requires-2 : tie.Need-steps-of-requires-2
 steps-of-requires-2 c κs = (c .before .before .before .pre .0 .cells _ (omega (arith, ordered-count (c .before .before .before .pre .0), c .before .before .before .pre .1 .0, c .before .before .before .pre .1 .1 .0, c .before .before .before .pre .1 .1 .1 .0, c .before .before .before .pre .1 .1 .1 .1 .0, c .before .before .before .pre .1 .1 .1 .1 .1)), (c .before .before .before .pre .1 .1 .1 .1 .0, c .before .before .before .pre .1 .1 .1 .1 .1))

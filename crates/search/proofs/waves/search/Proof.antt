@@ -5,6 +5,7 @@ use native.Mathlib.Omega.{arith}
 use borrow.Author.Needs.{needs}
 use lib.ListN.{length}
 use Rattle.rules.specs.Rules.{rulesOf}
+use Rattle.layout.specs.Layout.{trailAt}
 use Rattle.table.specs.Problem.{rulesFor}
 use Rattle.table.proofs.Spreads.{few-cells}
 use Rattle.rows.specs.Words.{KeptFrom}
@@ -21,7 +22,7 @@ use Rattle.search.proofs.waves.search.Statement.{statement}
 use Rattle.search.proofs.waves.search.Tie as tie
 
 abbrev Inv-loop : tie.InvT-loop
-Inv-loop plan scratch₀ p costs n active f₀ scratch f = FrontOf (rulesFor p plan) (length plan) scratch f × ((length scratch ≡ length scratch₀) × KeptFrom (length plan * 136) scratch₀ scratch)
+Inv-loop plan scratch₀ p costs n active f₀ scratch f = FrontOf (rulesFor p plan) (length plan) scratch f × ((length scratch ≡ length scratch₀) × KeptFrom (length plan * trailAt) scratch₀ scratch)
 
 abbrev μ-loop : tie.MeasureT-loop
 μ-loop plan scratch₀ p costs n active f₀ scratch f = 4294968321 - (total (length plan) scratch + f .at)

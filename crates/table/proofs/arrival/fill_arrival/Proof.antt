@@ -7,14 +7,15 @@ use borrow.Author.Needs.{needs}
 use borrow.Author.Tests.{eq-eqb, ne-eqb}
 use lib.ListN.{length, getD}
 use Rattle.timing.specs.Formulas.{registerDriver}
+use Rattle.layout.specs.Layout.{arrivalAt, seedsAt}
 use Rattle.rows.specs.Words.{Filled}
 use Rattle.costs.specs.Costs.{rowWords, noneAt, registerAt}
 use Rattle.rows.specs.Rows.{copied, raised}
 use Rattle.rows.proofs.Words.{filled-as, filled-twice}
 use Rattle.rows.proofs.Leaves.{limited, copied-limited, raised-driven}
 use Rattle.table.specs.Problem.{seedOf}
-use Rattle.table.specs.ArrivalRow.{takesBuffers, buffered}
-use Rattle.table.proofs.ArrivalRow.{through, limited-through, buffered-through, through-arrival, driven-arrival}
+use Rattle.table.specs.ArrivalRow.{takesBuffers, raisedByBuffers}
+use Rattle.table.proofs.ArrivalRow.{through, limited-through, raised-by-through, through-arrival, driven-arrival}
 use Rattle.table.proofs.arrival.fill_arrival.Statement.{statement}
 use Rattle.table.proofs.arrival.fill_arrival.Tie as tie
 
@@ -52,20 +53,20 @@ mul-if2-2 : tie.Need-mul-if2-2
 mul-if2-2 c = search needs
 
 -- the row that the buffers leave
-mid : (c : tie.Joined1) → let start = c .before .before .before .before .before .before .before .before .before .before in Filled (through (start .args .p) (start .args .plan .now) (start .args .scratch .now) (start .args .cell) (start .pre .ready) (start .pre .inside)) (length (start .args .plan .now) * 64) rowWords (start .args .scratch .now) (c .if1 .scratch)
+mid : (c : tie.Joined1) → let start = c .before .before .before .before .before .before .before .before .before .before in Filled (through (start .args .p) (start .args .plan .now) (start .args .scratch .now) (start .args .cell) (start .pre .ready) (start .pre .inside)) (length (start .args .plan .now) * arrivalAt) rowWords (start .args .scratch .now) (c .if1 .scratch)
 mid c =
     let start = c .before .before .before .before .before .before .before .before .before .before in
     let a = start .args in
-    let to = length (a .plan .now) * 64 in
+    let to = length (a .plan .now) * arrivalAt in
     let row = c .before .before .before .before .before .before .copy-row in
     let known = c .before .before .before .before .before .before .before .before .slice-known .given in
     let test : c .before .takes-buffers .result ≡ takesBuffers (getD (a .plan .now) (a .cell) 0) (a .p) (a .cell) = c .before .takes-buffers .ensures in
     let copy : Filled (limited (a .scratch .now) (a .cell) (a .p .elements .limit .0)) to rowWords (a .scratch .now) (row .last .0) =
-    filled-as {F = copied (a .scratch .now) (a .cell) (a .costs .now) noneAt} (row .ensures) _ (λ k h. copied-limited (a .scratch .now) (a .cell) (a .costs .now) noneAt (a .p .elements .limit .0) (start .pre .costed .none) k h (omega (arith, known (a .cell * 64 + k)))) in
+    filled-as {F = copied (a .scratch .now) (a .cell) (a .costs .now) noneAt} (row .ensures) _ (λ k h. copied-limited (a .scratch .now) (a .cell) (a .costs .now) noneAt (a .p .elements .limit .0) (start .pre .costed .none) k h (omega (arith, known (a .cell * rowWords + k)))) in
     ⊎-elim
     (λ w.
-    let raise : Filled (buffered (row .last .0) (a .cell) to (a .p .elements) (a .p .elements .count)) to rowWords (row .last .0) (w .2 .last .0) = w .2 .ensures in
-    rw (w .5) (filled-as (filled-twice copy _ _ raise) _ (λ k h. buffered-through (a .p) (a .plan .now) (a .scratch .now) (a .cell) (start .pre .ready) (start .pre .inside) _ to k (sym test ∙ w .0 .taken) (λ j l. copy .low (a .cell * 64 + j) (omega (arith, start .pre .inside))) (copy .done k h))))
+    let raise : Filled (raisedByBuffers (row .last .0) (a .cell) to (a .p .elements) (a .p .elements .count)) to rowWords (row .last .0) (w .2 .last .0) = w .2 .ensures in
+    rw (w .5) (filled-as (filled-twice copy _ _ raise) _ (λ k h. raised-by-through (a .p) (a .plan .now) (a .scratch .now) (a .cell) (start .pre .ready) (start .pre .inside) _ to k (sym test ∙ w .0 .taken) (λ j l. copy .low (a .cell * rowWords + j) (omega (arith, start .pre .inside))) (copy .done k h))))
     (λ w. rw (w .1) (filled-as copy _ (λ k h. limited-through (a .p) (a .plan .now) (a .scratch .now) (a .cell) (start .pre .ready) (start .pre .inside) (sym test ∙ w .0 .left) k)))
     (c .if1 .came)
 
@@ -87,10 +88,10 @@ same-length : tie.Need-same-length
 same-length c = c .before .before .raise-row .ensures .same ∙ mid (c .before .before .before .before .before .before .before) .same
 
 -- the seed flag is as it was
-flag : (c : tie.Joined1) → let a = c .before .before .before .before .before .before .before .before .before .before .args in let k = length (a .plan .now) * 135 + a .cell in getD (c .if1 .scratch) k 0 ≡ getD (a .scratch .now) k 0
+flag : (c : tie.Joined1) → let a = c .before .before .before .before .before .before .before .before .before .before .args in let k = length (a .plan .now) * seedsAt + a .cell in getD (c .if1 .scratch) k 0 ≡ getD (a .scratch .now) k 0
 flag c =
     let start = c .before .before .before .before .before .before .before .before .before .before in
-    mid c .high (length (start .args .plan .now) * 135 + start .args .cell) (omega (arith, start .pre .inside))
+    mid c .high (length (start .args .plan .now) * seedsAt + start .args .cell) (omega (arith, start .pre .inside))
 
 returns : tie.Need-returns
 unfolding seedOf
@@ -98,7 +99,7 @@ returns c =
     let join = c .before .before .before .before .before .before .before in
     let start = join .before .before .before .before .before .before .before .before .before .before in
     let a = start .args in
-    let to = length (a .plan .now) * 64 in
+    let to = length (a .plan .now) * arrivalAt in
     let raise : Filled (raised (join .if1 .scratch) to (2 * a .p .elements .period + 1) (a .costs .now) registerAt) to rowWords (join .if1 .scratch) (c .before .before .raise-row .last .0) = c .before .before .raise-row .ensures in
     filled-as (filled-twice (mid join) _ _ raise) _
     (λ k h.

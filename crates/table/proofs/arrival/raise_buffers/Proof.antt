@@ -1,4 +1,4 @@
--- After i buffers the row at `to` is `buffered` by the first i; the cell's row lies before it, so it is as it was.
+-- After i buffers the row at `to` is `raisedByBuffers` by the first i; the cell's row lies before it, so it is as it was.
 use Prim.Native.Nat.{_+_, _*_, _-_, _≤_}
 use mathlib.Core.Path.{_≡_, sym, _∙_}
 use mathlib.Core.Logic.{⊎-elim}
@@ -13,13 +13,13 @@ use Rattle.rows.specs.Words.{Filled}
 use Rattle.rows.specs.Rows.{raised}
 use Rattle.rows.proofs.Words.{filled-none, filled-longer, filled-as, filled-twice}
 use Rattle.rows.proofs.Leaves.{raised-driven}
-use Rattle.table.specs.ArrivalRow.{buffered}
-use Rattle.table.proofs.ArrivalRow.{buffered-none, buffered-past, buffered-more}
+use Rattle.table.specs.ArrivalRow.{raisedByBuffers}
+use Rattle.table.proofs.ArrivalRow.{raised-by-none, raised-by-past, raised-by-more}
 use Rattle.table.proofs.arrival.raise_buffers.Statement.{statement}
 use Rattle.table.proofs.arrival.raise_buffers.Tie as tie
 
 abbrev Inv-loop : tie.InvT-loop
-Inv-loop scratch₀ cell to costs elements limit count i₀ scratch i = (i ≤ elements .count) × Filled (buffered scratch₀ cell to elements i) to rowWords scratch₀ scratch
+Inv-loop scratch₀ cell to costs elements limit count i₀ scratch i = (i ≤ elements .count) × Filled (raisedByBuffers scratch₀ cell to elements i) to rowWords scratch₀ scratch
 
 abbrev μ-loop : tie.MeasureT-loop
 μ-loop scratch₀ cell to costs elements limit count i₀ scratch i = elements .count - i
@@ -28,7 +28,7 @@ cast-limit : tie.Need-cast-limit Inv-loop μ-loop
 cast-limit c = omega arith
 
 loop-holds : tie.Need-loop-holds Inv-loop μ-loop
-loop-holds c = (omega arith, filled-longer (filled-none _ _ _) rowWords (omega arith) (λ k a b. sym (buffered-none _ _ _ _ k)))
+loop-holds c = (omega arith, filled-longer (filled-none _ _ _) rowWords (omega arith) (λ k a b. sym (raised-by-none _ _ _ _ k)))
 
 mul-buffer : tie.Need-mul-buffer Inv-loop μ-loop
 mul-buffer c = omega arith
@@ -75,10 +75,10 @@ loop-again c =
       rw add-one (⊎-elim
           (λ w.
           let raise : Filled (raised (loop .scratch) (a .to) (w .2 .result) (a .costs .now) (buffersAt (loop .i))) (a .to) rowWords (loop .scratch) (w .4 .last .0) = w .4 .ensures in
-          let top = loop .inv .1 .low (a .cell * 64 + bufferLoad b) (omega arith) in
-          let known = c .before .before .before .before .before .before .slice-known .given (a .cell * 64 + bufferLoad b) in
-          rw (w .7) (filled-as (filled-twice (loop .inv .1) _ _ (rw load at (rw (w .2 .ensures) at raise))) _ (λ k h. raised-driven (loop .scratch) (a .to) (getD (loop .scratch) (a .cell * 64 + bufferLoad b) 0) (a .costs .now) (buffersAt (loop .i)) (bufferDriver b) (a .t4 .limit .0) (start .pre .costed (loop .i) (omega arith)) (omega (arith, top, known)) k h ∙ buffered-more (a .scratch .now) (a .cell) (a .to) (a .t4) (loop .i) k (loop .scratch) (loop .inv .1 .done k h) top (omega (arith, load, w .0 .taken)))))
-          (λ w. rw (w .1) (filled-as (loop .inv .1) _ (λ k h. buffered-past (a .scratch .now) (a .cell) (a .to) (a .t4) (loop .i) k (omega (arith, load, w .0 .left)))))
+          let top = loop .inv .1 .low (a .cell * rowWords + bufferLoad b) (omega arith) in
+          let known = c .before .before .before .before .before .before .slice-known .given (a .cell * rowWords + bufferLoad b) in
+          rw (w .7) (filled-as (filled-twice (loop .inv .1) _ _ (rw load at (rw (w .2 .ensures) at raise))) _ (λ k h. raised-driven (loop .scratch) (a .to) (getD (loop .scratch) (a .cell * rowWords + bufferLoad b) 0) (a .costs .now) (buffersAt (loop .i)) (bufferDriver b) (a .t4 .limit .0) (start .pre .costed (loop .i) (omega arith)) (omega (arith, top, known)) k h ∙ raised-by-more (a .scratch .now) (a .cell) (a .to) (a .t4) (loop .i) k (loop .scratch) (loop .inv .1 .done k h) top (omega (arith, load, w .0 .taken)))))
+          (λ w. rw (w .1) (filled-as (loop .inv .1) _ (λ k h. raised-by-past (a .scratch .now) (a .cell) (a .to) (a .t4) (loop .i) k (omega (arith, load, w .0 .left)))))
           (c .if1 .came)),
     )
 

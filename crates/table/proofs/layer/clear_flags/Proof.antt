@@ -3,6 +3,7 @@ use Prim.Native.Nat.{_+_, _*_, _-_, _≤_, _<_}
 use mathlib.Core.Path.{_≡_}
 use native.Mathlib.Omega.{arith}
 use lib.ListN.{getD}
+use Rattle.layout.specs.Layout.{activeAt}
 use Rattle.lists.proofs.Lists.{listed-count}
 use Rattle.table.proofs.Clears.{Clearing, clear-none, clear-more, clear-all, cell-in}
 use Rattle.table.proofs.layer.clear_flags.Statement.{statement}
@@ -30,10 +31,10 @@ slice-read-cell : tie.Need-slice-read-cell Inv-loop μ-loop
 slice-read-cell c = omega (arith, listed-count (c .before .before .before .pre .1 .1))
 
 cast-cell : tie.Need-cast-cell Inv-loop μ-loop
-cast-cell c = omega (arith, c .slice-known .given (c .before .before .before .args .n * 132 + c .before .before .loop .i))
+cast-cell c = omega (arith, c .slice-known .given (c .before .before .before .args .n * activeAt + c .before .before .loop .i))
 
 -- the cell read
-inside : (c : tie.After-slice-known Inv-loop μ-loop) → getD (c .before .before .loop .scratch) (c .before .before .before .args .n * 132 + c .before .before .loop .i) 0 < c .before .before .before .args .n
+inside : (c : tie.After-slice-known Inv-loop μ-loop) → getD (c .before .before .loop .scratch) (c .before .before .before .args .n * activeAt + c .before .before .loop .i) 0 < c .before .before .before .args .n
 inside c =
     let s = c .before .before .before in
     cell-in _ _ _ _ _ (s .pre .1 .1) (s .pre .1 .0) (c .before .loop-test .taken) (c .before .before .loop .inv .1)

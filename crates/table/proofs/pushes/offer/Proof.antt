@@ -4,6 +4,7 @@ use mathlib.Core.Path.{_∙_}
 use native.Mathlib.Omega.{arith}
 use borrow.Author.Needs.{needs}
 use borrow.Author.Tests.{not-true, not-false}
+use Rattle.layout.specs.Layout.{nextAt, listedAt}
 use Rattle.lists.proofs.Lists.{listed-kept, listed-count}
 use Rattle.table.proofs.Offers.{offer-none, offer-quiet, noted-listed-kept, offer-grew}
 use Rattle.table.proofs.pushes.offer.Statement.{statement}
@@ -64,7 +65,7 @@ enlist-requires c κs =
     let listed = noted-listed-kept (s .args .n) (s .args .to) (s .args .costs .now) (s .args .base) (s .args .step) (s .args .next) _ a _ _ (n .note .ensures) in
     let few = listed-count listed in
     let inPlan : s .args .to < s .args .n = omega (arith, e .if1 .left, a .toIn) in (
-      listed-kept listed _ (λ k h. f .high (s .args .n * 134 + k) (omega arith)) (λ i h. f .high (s .args .n * 133 + i) (omega arith)),
+      listed-kept listed _ (λ k h. f .high (s .args .n * listedAt + k) (omega arith)) (λ i h. f .high (s .args .n * nextAt + i) (omega arith)),
       (inPlan, (a .few, (omega arith, omega (arith, f .same, n .note .ensures .same, a .room)))),
     )
 

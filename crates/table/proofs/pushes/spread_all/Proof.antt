@@ -3,6 +3,7 @@ use Prim.Native.Nat.{_+_, _*_, _-_, _≤_}
 use mathlib.Core.Path.{_≡_}
 use native.Mathlib.Omega.{arith}
 use lib.ListN.{length}
+use Rattle.layout.specs.Layout.{activeAt}
 use Rattle.table.specs.Problem.{rulesFor}
 use Rattle.table.specs.Layer.{SpreadAll}
 use Rattle.table.proofs.Spreads.{few-cells, spread-none, spread-next-asks, spread-more}
@@ -32,7 +33,7 @@ slice-read-cell : tie.Need-slice-read-cell Inv-loop μ-loop
 slice-read-cell c = omega (arith, c .before .before .before .before .before .pre .room, c .before .before .before .before .before .pre .short, c .before .before .loop .inv .1 .raised .same, c .before .loop-test .taken)
 
 cast-cell : tie.Need-cast-cell Inv-loop μ-loop
-cast-cell c = omega (arith, c .slice-known2 .given (length (c .before .before .before .before .before .args .plan .now) * 132 + c .before .before .loop .i))
+cast-cell c = omega (arith, c .slice-known2 .given (length (c .before .before .before .before .before .args .plan .now) * activeAt + c .before .before .loop .i))
 
 spread-requires : tie.Need-spread-requires Inv-loop μ-loop
 spread-requires c κs = spread-next-asks _ _ _ _ _ _ (c .before .before .before .before .before .before .pre) _ _ _ (c .before .before .loop-test .taken) (c .before .before .before .loop .inv .1)

@@ -1,0 +1,53 @@
+// Where each region of the scratch words starts, in words a cell: in a plan of n cells, at n times its number. The same names for the contracts: specs/Layout.antt.
+// From 0 on stand the budget rows, one a cell (costs::ROW words each).
+
+// The arrival row.
+pub const ARRIVAL: usize = 64;
+
+// Labels: registers to go plus one, 0 for no label.
+pub const LABELS: usize = 128;
+
+// Labels: steps to go, the low 16 bits.
+pub const STEPS_LOW: usize = 129;
+
+// Labels: steps to go, the high 16 bits.
+pub const STEPS_HIGH: usize = 130;
+
+// The labelled cells in the order of their labels.
+pub const ORDER: usize = 131;
+
+// The active list.
+pub const ACTIVE: usize = 132;
+
+// The next list.
+pub const NEXT: usize = 133;
+
+// A flag a cell: 1 if it is listed.
+pub const LISTED: usize = 134;
+
+// A flag a cell: 1 if it is a seed.
+pub const SEEDS: usize = 135;
+
+// The undo trail's far stretch; its near one follows the arrival row.
+pub const TRAIL: usize = 136;
+
+// All words of a cell.
+pub const CELL_WORDS: usize = 256;
+
+// Words a cell of the far stretch: from TRAIL to CELL_WORDS.
+pub const FAR_WORDS: usize = 120;
+
+// Words a cell of the near stretch, with the arrival row: from ARRIVAL to LABELS.
+pub const NEAR_WORDS: usize = 64;
+
+// Words of a slot of the trail: a row, its cell, its layer in two words.
+pub const SLOT: usize = 67;
+
+// In a slot: the cell.
+pub const SLOT_CELL: usize = 64;
+
+// In a slot: the layer, the low 16 bits.
+pub const SLOT_LOW: usize = 65;
+
+// In a slot: the layer, the high 16 bits.
+pub const SLOT_HIGH: usize = 66;
