@@ -9,6 +9,7 @@ use answers::RegisterRecord;
 use answers::Tables;
 use answers::WireRecord;
 use answers::check_tables;
+use answers::read_list;
 use check::expect;
 
 pub fn limits() {
@@ -77,7 +78,8 @@ fn fault(
         period: period,
         limit: limit,
     };
-    let checked = check_tables(tables, list);
+    let read = read_list(list);
+    let checked = check_tables(tables, read);
     let f = checked.fault;
     number(f)
 }

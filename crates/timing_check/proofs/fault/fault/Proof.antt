@@ -1,21 +1,27 @@
 -- The fault that `check_tables` answers, as a number.
 use mathlib.Core.Path.{ap, _∙_}
 use Rattle.answers.specs.declared.tables.TablesCheck.{TablesCheck}
-use Rattle.answers.proofs.FirstFault.{tables-fault}
+use Rattle.answers.specs.Tables.{readOf}
+use Rattle.answers.proofs.FirstFault.{tables-fault, read-own}
 use Rattle.timing_check.specs.Faults.{faultNumber, tablesWith, listWith, faultWith}
 use borrow.Author.Needs.{needs}
 use Rattle.timing_check.proofs.fault.fault.Statement.{statement}
 use Rattle.timing_check.proofs.fault.fault.Tie as tie
 
+read-list-requires : tie.Need-read-list-requires
+read-list-requires c κs = search needs
+
 check-tables-requires : tie.Need-check-tables-requires
-check-tables-requires c κs = search needs
+check-tables-requires c κs = read-own _ _ (c .read-list .ensures)
 
 number-requires : tie.Need-number-requires
 number-requires c κs = search needs
 
 returns : tie.Need-returns
-unfolding faultWith tablesWith listWith
-returns c = c .number .ensures ∙ ap faultNumber (ap (λ (r : TablesCheck). r .fault) (c .before .check-tables .ensures) ∙ tables-fault _ _)
+unfolding faultWith tablesWith listWith readOf
+returns c =
+    let checked = rw (c .before .before .read-list .ensures) at (c .before .check-tables .ensures) in
+    c .number .ensures ∙ ap faultNumber (ap (λ (r : TablesCheck). r .fault) checked ∙ tables-fault _ _)
 
 pub fault-spec : {M : Type 1} → statement M
-fault-spec = tie.close (tie.spec check-tables-requires number-requires returns)
+fault-spec = tie.close (tie.spec read-list-requires check-tables-requires number-requires returns)

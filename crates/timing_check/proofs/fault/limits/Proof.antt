@@ -1,7 +1,7 @@
 -- Each check is what `tablesFault` computes to.
 use borrow.Author.Tests.{eq-eqb}
 use Rattle.timing.specs.Elements.{wireInRange, bufferInRange, registerInRange}
-use Rattle.answers.specs.Tables.{periodInRange, wireOk, registerOk, bufferOk, bufferFault, buffersFault, tablesFault}
+use Rattle.answers.specs.Tables.{periodInRange, wireOk, registerOk, bufferOk, bufferFault, buffersFault, listFault, tablesFault}
 use Rattle.timing_check.specs.Faults.{tablesWith, listWith, faultWith}
 use borrow.Author.Needs.{needs}
 use Rattle.timing_check.proofs.fault.limits.Statement.{statement}
@@ -11,49 +11,49 @@ fault-requires : tie.Need-fault-requires
 fault-requires c κs = search needs
 
 expect-requires : tie.Need-expect-requires
-unfolding faultWith tablesWith listWith tablesFault periodInRange wireOk registerOk bufferOk bufferFault buffersFault wireInRange registerInRange bufferInRange
+unfolding faultWith tablesWith listWith tablesFault periodInRange wireOk registerOk bufferOk bufferFault buffersFault listFault wireInRange registerInRange bufferInRange
 expect-requires c κs = eq-eqb (c .fault .result) 0 (c .fault .ensures)
 
 fault-requires-2 : tie.Need-fault-requires-2
 fault-requires-2 c κs = search needs
 
 expect-requires-2 : tie.Need-expect-requires-2
-unfolding faultWith tablesWith listWith tablesFault periodInRange wireOk registerOk bufferOk bufferFault buffersFault wireInRange registerInRange bufferInRange
+unfolding faultWith tablesWith listWith tablesFault periodInRange wireOk registerOk bufferOk bufferFault buffersFault listFault wireInRange registerInRange bufferInRange
 expect-requires-2 c κs = eq-eqb (c .fault2 .result) 0 (c .fault2 .ensures)
 
 fault-requires-3 : tie.Need-fault-requires-3
 fault-requires-3 c κs = search needs
 
 expect-requires-3 : tie.Need-expect-requires-3
-unfolding faultWith tablesWith listWith tablesFault periodInRange wireOk registerOk bufferOk bufferFault buffersFault wireInRange registerInRange bufferInRange
+unfolding faultWith tablesWith listWith tablesFault periodInRange wireOk registerOk bufferOk bufferFault buffersFault listFault wireInRange registerInRange bufferInRange
 expect-requires-3 c κs = eq-eqb (c .fault3 .result) 101 (c .fault3 .ensures)
 
 fault-requires-4 : tie.Need-fault-requires-4
 fault-requires-4 c κs = search needs
 
 expect-requires-4 : tie.Need-expect-requires-4
-unfolding faultWith tablesWith listWith tablesFault periodInRange wireOk registerOk bufferOk bufferFault buffersFault wireInRange registerInRange bufferInRange
+unfolding faultWith tablesWith listWith tablesFault periodInRange wireOk registerOk bufferOk bufferFault buffersFault listFault wireInRange registerInRange bufferInRange
 expect-requires-4 c κs = eq-eqb (c .fault4 .result) 101 (c .fault4 .ensures)
 
 fault-requires-5 : tie.Need-fault-requires-5
 fault-requires-5 c κs = search needs
 
 expect-requires-5 : tie.Need-expect-requires-5
-unfolding faultWith tablesWith listWith tablesFault periodInRange wireOk registerOk bufferOk bufferFault buffersFault wireInRange registerInRange bufferInRange
+unfolding faultWith tablesWith listWith tablesFault periodInRange wireOk registerOk bufferOk bufferFault buffersFault listFault wireInRange registerInRange bufferInRange
 expect-requires-5 c κs = eq-eqb (c .fault5 .result) 102 (c .fault5 .ensures)
 
 fault-requires-6 : tie.Need-fault-requires-6
 fault-requires-6 c κs = search needs
 
 expect-requires-6 : tie.Need-expect-requires-6
-unfolding faultWith tablesWith listWith tablesFault periodInRange wireOk registerOk bufferOk bufferFault buffersFault wireInRange registerInRange bufferInRange
+unfolding faultWith tablesWith listWith tablesFault periodInRange wireOk registerOk bufferOk bufferFault buffersFault listFault wireInRange registerInRange bufferInRange
 expect-requires-6 c κs = eq-eqb (c .fault6 .result) 106 (c .fault6 .ensures)
 
 fault-requires-7 : tie.Need-fault-requires-7
 fault-requires-7 c κs = search needs
 
 expect-requires-7 : tie.Need-expect-requires-7
-unfolding faultWith tablesWith listWith tablesFault periodInRange wireOk registerOk bufferOk bufferFault buffersFault wireInRange registerInRange bufferInRange
+unfolding faultWith tablesWith listWith tablesFault periodInRange wireOk registerOk bufferOk bufferFault buffersFault listFault wireInRange registerInRange bufferInRange
 expect-requires-7 c κs = eq-eqb (c .fault7 .result) 0 (c .fault7 .ensures)
 
 returns : tie.Need-returns
