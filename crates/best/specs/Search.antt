@@ -1,4 +1,4 @@
--- The search of Rattle.budget, computed on tables and labels held as lists (blueprint, section 3).
+-- The search of Rattle.budget, computed on tables and labels held as lists: turns by registers to go and steps to go, backward from the source.
 use Prim.Native.Nat.{ℕ, zero, suc, _+_, _*_}
 use mathlib.Core.Bool.{cond}
 use mathlib.Core.List.{List, []}
@@ -43,7 +43,7 @@ searchFrom R zero k s rows list = nothing
 searchFrom R (suc fuel) k s rows list =
     elim (turn R k s rows list) [ ends x ↦ x | goesOn j t next more ↦ searchFrom R fuel j t next more ]
 
--- all budgets at the closing bound: no route has more steps
+-- all budgets at the closing bound: the best route has no more steps (a legal one may, over wires without cost); proofs/Best: `best-most`
 unfoldable pub mostSteps : Rules → ℕ
 mostSteps R = R .cellCount * (suc (R .limit) * R .bound 0)
 

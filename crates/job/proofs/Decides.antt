@@ -14,7 +14,7 @@ use Rattle.timing.specs.Ranges.{buffersMax}
 use Rattle.router.specs.Route.{Question}
 use Rattle.numbers.specs.Numbers.{Read, numberMax, number}
 use Rattle.numbers.specs.Runs.{Run, jobFault, run}
-use Rattle.job.specs.Job.{Reading, refuses, sizeFault, cellsMax, marksMax, markNumber, gridNumber, countNumber, withNumber, withRun, askedOf, questionFrom, ended, buffersFrom, countFrom, tablesFrom, marksFrom, sized, readJob}
+use Rattle.job.specs.Job.{Reading, refuses, jobBytes, sizeFault, cellsMax, marksMax, markNumber, gridNumber, countNumber, withNumber, withRun, askedOf, questionFrom, ended, buffersFrom, countFrom, tablesFrom, marksFrom, sized, readJob}
 use Rattle.job.specs.declared.read.Asked.{Asked}
 use Rattle.job.proofs.Stages.{grid-sides}
 use Rattle.numbers.proofs.Cut.{size, size-small, size-most, Cut, both-fault, both-value, number-cut, RunCut, both-refused, both-values, bytesOf, bytes-are, run-cut}
@@ -85,10 +85,6 @@ sized-cut w h m bytes long =
     let sides = grid-sides w h g in
     unless (ltb cellsMax (w * h)) sizeFault (marksFrom w h (take m bytes)) (marksFrom w h bytes) (λ e.
     marks-cut w h m bytes (ltb-false cellsMax (w * h) e) (omega (arith, size-small w (omega (arith, sides .0)), size-small h (omega (arith, sides .1))))))
-
--- the bytes that decide
-abbrev pub jobBytes : ℕ
-jobBytes = 222
 
 pub job-decided : (bytes : List ℕ) → readJob (take jobBytes bytes) ≡ readJob bytes
 unfolding readJob

@@ -30,6 +30,10 @@ sizeFault = 16
 abbrev pub cellsMax : ℕ
 cellsMax = 128
 
+-- the first bytes that decide what a job asks (proofs/Decides: `job-decided`)
+abbrev pub jobBytes : ℕ
+jobBytes = 222
+
 -- a mark above it is refused while reading
 abbrev pub marksMax : ℕ
 marksMax = 15

@@ -1,4 +1,4 @@
--- Emission's table of the current span (blueprint, section 3): the budget rows hold the table of `Reaches R m k s`, m the labels in the words.
+-- Emission's table of the current span: the budget rows hold the table of `Reaches R m k s`, m the labels in the words.
 -- The seeds of a span with k registers to go are the source for k = 0, else the labels with k - 1 registers. Those wait in the order and come in by their steps.
 use Prim.Native.Nat.{ℕ, suc, _*_, _≤_, _<_}
 use mathlib.Core.Path.{_≡_}
