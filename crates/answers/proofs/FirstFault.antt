@@ -21,7 +21,7 @@ use Rattle.answers.specs.declared.tables.ElementFault.{ElementFault}
 use Rattle.answers.specs.declared.tables.ElementFault.the-variants.{Nothing, At}
 use Rattle.answers.specs.declared.tables.BuffersRead.{BuffersRead}
 use Rattle.answers.specs.Lists.{noBuffer}
-use Rattle.answers.specs.Tables.{require, periodInRange, wireOk, registerOk, bufferOk, bufferFault, buffersFault, tablesFault, wireFrom, registerFrom, bufferFrom, listedBuffer, sixPlaces, elementsOf, listFault, placesFor, readOf, refusedTables, tablesAnswer, checkedTables}
+use Rattle.answers.specs.Tables.{require, periodInRange, wireOk, registerOk, bufferOk, bufferFault, buffersFault, tablesFault, wireFrom, registerFrom, bufferFrom, listedBuffer, sixPlaces, elementsOf, listFault, placesFor, checkedList, refusedTables, tablesAnswer, checkedTables}
 use Rattle.answers.proofs.Scan.{six-at, six-length}
 
 -- the first buffer out of range among `left` from index i on
@@ -165,14 +165,14 @@ pub list-first : (t : Tables) (list : BufferList) (f : ElementFault) → UpToReg
 unfolding tablesFault
 list-first t list f ((((p, l), h), v), r) e = rw e at (simp (p, l, h, v, r) at (first-fault t list))
 
-pub read-clean : (list : BufferList) → listFault list ≡ Nothing → readOf list .buffers ≡ sixPlaces (listedBuffer list)
-unfolding readOf placesFor
+pub read-clean : (list : BufferList) → listFault list ≡ Nothing → checkedList list .buffers ≡ sixPlaces (listedBuffer list)
+unfolding checkedList placesFor
 read-clean list e = simp e
 
 -- what was read of some list is what is read of its own
-pub read-own : (read : BuffersRead) (list : BufferList) → read ≡ readOf list → read ≡ readOf (read .list)
-unfolding readOf
-read-own read list e = e ∙ ap readOf (ap (λ (r : BuffersRead). r .list) (sym e))
+pub read-own : (read : BuffersRead) (list : BufferList) → read ≡ checkedList list → read ≡ checkedList (read .list)
+unfolding checkedList
+read-own read list e = e ∙ ap checkedList (ap (λ (r : BuffersRead). r .list) (sym e))
 
 pub tables-refused : (t : Tables) (list : BufferList) (f : Fault) → FirstFault t list (At f) → refusedTables f ≡ checkedTables t list
 unfolding checkedTables tablesAnswer

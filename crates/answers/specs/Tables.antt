@@ -110,8 +110,8 @@ placesFor Nothing list = sixPlaces (listedBuffer list)
 placesFor (At f) list = noBuffers
 
 -- a list and its check
-unfoldable pub readOf : BufferList → BuffersRead
-readOf list = record { list = list; fault = listFault list; buffers = placesFor (listFault list) list }
+unfoldable pub checkedList : BufferList → BuffersRead
+checkedList list = record { list = list; fault = listFault list; buffers = placesFor (listFault list) list }
 
 unfoldable pub refusedTables : Fault → TablesCheck
 refusedTables f = record { fault = At f; elements = noElements }

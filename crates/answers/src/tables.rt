@@ -1,7 +1,7 @@
 // Refusal 4. Each element is made by its own checking constructor; nothing tests its numbers again.
 ghost use mathlib.Core.Path.{_≡_};
 ghost use Rattle.answers.specs.declared.tables.ElementFault.{ElementFault};
-ghost use Rattle.answers.specs.Tables.{readOf, noBuffers, checkedTables, refusedTables, noElements};
+ghost use Rattle.answers.specs.Tables.{checkedList, noBuffers, checkedTables, refusedTables, noElements};
 use crate::answer::Fault;
 use crate::records::BufferList;
 use crate::records::Tables;
@@ -35,7 +35,7 @@ pub struct BuffersRead {
 
 // The first fault of the tables and of a list of buffers as it was read, or their elements.
 pub fn check_tables(t: Tables, read: BuffersRead) -> TablesCheck
-    requires { ⌜ read ≡ readOf (read .list) ⌝ }
+    requires { ⌜ read ≡ checkedList (read .list) ⌝ }
     ensures { λ r. ⌜ r ≡ checkedTables t (read .list) ⌝ }
 {
     if t.period < Elements::PERIOD_MIN {
@@ -83,7 +83,7 @@ pub fn check_tables(t: Tables, read: BuffersRead) -> TablesCheck
 
 // The check of a list: its count, then each of its buffers.
 pub fn read_list(list: BufferList) -> BuffersRead
-    ensures { λ r. ⌜ r ≡ readOf list ⌝ }
+    ensures { λ r. ⌜ r ≡ checkedList list ⌝ }
 {
     if Elements::BUFFERS_MAX < list.n {
         return no_buffers(list, Fault::Count);

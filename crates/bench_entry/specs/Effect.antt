@@ -9,7 +9,7 @@ use Rattle.router.specs.Route.{Question, answerOf, scratchOf, visitsOf}
 use Rattle.bench_entry.specs.Words.{figureWords}
 
 -- the route call's effect
-pub record Answered (q : Question) (scratch scratch′ visits visits′ figures′ : List ℕ) (r : ℕ) : Type 0 where
+pub record BenchAnswered (q : Question) (scratch scratch′ visits visits′ figures′ : List ℕ) (r : ℕ) : Type 0 where
   pub number : r ≡ answerNumber (answerOf q scratch visits)
   pub scratchLeft : scratch′ ≡ scratchOf q scratch
   pub visitsLeft : visits′ ≡ visitsOf q scratch visits
@@ -23,6 +23,6 @@ pub record WrongLength (scratch scratch′ visits visits′ figures figures′ :
   pub told : figures′ ≡ figures
 
 -- by whether the lengths are right
-abbrev pub Effect : Bool → Question → List ℕ → List ℕ → List ℕ → List ℕ → List ℕ → List ℕ → ℕ → Type 0
-Effect true q scratch scratch′ visits visits′ figures figures′ r = Answered q scratch scratch′ visits visits′ figures′ r
-Effect false q scratch scratch′ visits visits′ figures figures′ r = WrongLength scratch scratch′ visits visits′ figures figures′ r
+abbrev pub BenchEffect : Bool → Question → List ℕ → List ℕ → List ℕ → List ℕ → List ℕ → List ℕ → ℕ → Type 0
+BenchEffect true q scratch scratch′ visits visits′ figures figures′ r = BenchAnswered q scratch scratch′ visits visits′ figures′ r
+BenchEffect false q scratch scratch′ visits visits′ figures figures′ r = WrongLength scratch scratch′ visits visits′ figures figures′ r

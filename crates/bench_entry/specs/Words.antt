@@ -26,25 +26,25 @@ lengthsRight tables buffers figures = eqb tables tableNumbers && eqb (buffers % 
 unfoldable pub buffersIn : List ℕ → BufferList
 buffersIn ws = bufferListOf (length ws / 3) ws
 
-unfoldable pub asked : List ℕ → ℕ → ℕ → List ℕ → List ℕ → ℕ → ℕ → Question
-asked marks w h tables buffers a b = questionOf marks w h (tablesOf tables) (buffersIn buffers) a b
+unfoldable pub benchQuestion : List ℕ → ℕ → ℕ → List ℕ → List ℕ → ℕ → ℕ → Question
+benchQuestion marks w h tables buffers a b = questionOf marks w h (tablesOf tables) (buffersIn buffers) a b
 
 -- Refusal 4: the place of what is at fault in document 01's order, from 1; a buffer's is 6 and its place. 0 for every other answer.
 
-abbrev pub faultNumber : Fault → ℕ
-faultNumber Period = 1
-faultNumber Limit = 2
-faultNumber Horizontal = 3
-faultNumber Vertical = 4
-faultNumber Register = 5
-faultNumber Count = 6
-faultNumber (Buffer place) = 6 + place
+abbrev pub faultPlace : Fault → ℕ
+faultPlace Period = 1
+faultPlace Limit = 2
+faultPlace Horizontal = 3
+faultPlace Vertical = 4
+faultPlace Register = 5
+faultPlace Count = 6
+faultPlace (Buffer place) = 6 + place
 
 abbrev pub refusalFault : Refusal → ℕ
 refusalFault Grid = 0
 refusalFault Length = 0
 refusalFault Mark = 0
-refusalFault (Element f) = faultNumber f
+refusalFault (Element f) = faultPlace f
 refusalFault Ends = 0
 refusalFault Scratch = 0
 refusalFault NoRoute = 0

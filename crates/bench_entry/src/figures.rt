@@ -1,13 +1,13 @@
 // The words that tell an answer.
 ghost use mathlib.Core.Path.{_≡_};
 ghost use lib.ListN.{length};
-ghost use Rattle.bench_entry.specs.Words.{faultNumber, refusalFault, answerFault, figureNumbers, figureWords};
+ghost use Rattle.bench_entry.specs.Words.{faultPlace, refusalFault, answerFault, figureNumbers, figureWords};
 use answers::Answer;
 use answers::Fault;
 use answers::Refusal;
 
 fn fault_number(fault: Fault) -> u32
-    ensures { λ r. ⌜ r ≡ faultNumber fault ⌝ }
+    ensures { λ r. ⌜ r ≡ faultPlace fault ⌝ }
 {
     match fault {
         Fault::Period => 1,

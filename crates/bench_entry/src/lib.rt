@@ -4,8 +4,8 @@ ghost use Prim.Native.Nat.{_≤_};
 ghost use mathlib.Core.Path.{_≡_};
 ghost use lib.ListN.{length};
 ghost use Rattle.job.specs.Fields.{tableNumbers};
-ghost use Rattle.bench_entry.specs.Words.{lengthsRight, figureNumbers, asked};
-ghost use Rattle.bench_entry.specs.Effect.{Answered, Effect};
+ghost use Rattle.bench_entry.specs.Words.{lengthsRight, figureNumbers, benchQuestion};
+ghost use Rattle.bench_entry.specs.Effect.{BenchAnswered, BenchEffect};
 use crate::figures::FIGURES;
 use crate::figures::write_figures;
 use crate::words::read_buffers;
@@ -35,7 +35,7 @@ pub extern "C" fn bench_entry(
     visits: &mut [u16],
     figures: &mut [u32],
 ) -> u16
-    ensures { λ r. ⌜ Effect (lengthsRight (length (now (tables .entry))) (length (now (buffers .entry))) (length (now (figures .entry)))) (asked (now (plan .entry)) width height (now (tables .entry)) (now (buffers .entry)) source sink) (now (scratch .entry)) (now (scratch .exit)) (now (visits .entry)) (now (visits .exit)) (now (figures .entry)) (now (figures .exit)) r ⌝ }
+    ensures { λ r. ⌜ BenchEffect (lengthsRight (length (now (tables .entry))) (length (now (buffers .entry))) (length (now (figures .entry)))) (benchQuestion (now (plan .entry)) width height (now (tables .entry)) (now (buffers .entry)) source sink) (now (scratch .entry)) (now (scratch .exit)) (now (visits .entry)) (now (visits .exit)) (now (figures .entry)) (now (figures .exit)) r ⌝ }
 {
     if lengths_right(tables.len(), buffers.len(), figures.len()) {
         return ask(
@@ -81,7 +81,7 @@ fn ask(
     figures: &mut [u32],
 ) -> u16
     requires { ⌜ (tableNumbers ≤ length (now tables)) × (length (now figures) ≡ figureNumbers) ⌝ }
-    ensures { λ r. ⌜ Answered (asked (now (plan .entry)) width height (now (tables .entry)) (now (buffers .entry)) source sink) (now (scratch .entry)) (now (scratch .exit)) (now (visits .entry)) (now (visits .exit)) (now (figures .exit)) r ⌝ }
+    ensures { λ r. ⌜ BenchAnswered (benchQuestion (now (plan .entry)) width height (now (tables .entry)) (now (buffers .entry)) source sink) (now (scratch .entry)) (now (scratch .exit)) (now (visits .entry)) (now (visits .exit)) (now (figures .exit)) r ⌝ }
 {
     let raw = tables_of(tables);
     let list = read_buffers(buffers);

@@ -12,7 +12,7 @@ use Rattle.rules.proofs.View.{Ending, ending-view, stands-between, not-source}
 use Rattle.budget.specs.Table.{Table, Represents}
 use Rattle.budget.specs.Done.{stage, Done, Labels, Lawful, seedAt}
 use Rattle.budget.proofs.Search.{Arrived, seed-cases, seed-source, seed-arrived}
-use Rattle.best.specs.Rows.{total, Bounded}
+use Rattle.best.specs.Rows.{budgetSum, Bounded}
 use Rattle.best.specs.Search.{mostSteps}
 use Rattle.best.proofs.Sums.{count, count-most, count-more, count-grows, total-most}
 
@@ -47,7 +47,7 @@ module _ (R : Rules) (law : Lawful R) {k s : ℕ} {A : Table} (rep : Represents 
       go (inl h) = h
       go (inr h) = absurd (omega (arith, done-timely law (rep .sound c l (R .bound 0) h)))
 
-  pub budgets-most : total R A ≤ mostSteps R
+  pub budgets-most : budgetSum R A ≤ mostSteps R
   unfolding mostSteps
   budgets-most = total-most R A (R .bound 0) budget-most
 

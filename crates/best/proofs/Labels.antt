@@ -14,7 +14,7 @@ use Rattle.plan.proofs.Truth.{both, fst, snd, parts, is-true, of-true, eq→eqb
 use Rattle.budget.specs.Table.{Table}
 use Rattle.budget.specs.Done.{Labels}
 use Rattle.budget.specs.Search.{Relabelled}
-use Rattle.best.specs.Labels.{Label, unknown, known, isKnown, registersOf, stepsOf, labelsListed, relabelAt, relabel, least, leastBelow, isPending, isOfWave}
+use Rattle.best.specs.Labels.{Label, unknown, known, isKnown, labelRegisters, labelSteps, labelsListed, relabelAt, relabel, least, leastBelow, isPending, isOfWave}
 use Rattle.best.proofs.Rows.{Inside, list-at, list-past}
 
 pub none-known : (c : ℕ) → T (labelsListed [] .known c) → ⊥
@@ -32,11 +32,11 @@ module _ (R : Rules) (k s : ℕ) (A : Table) (c : ℕ) where
   abbrev arrives : Bool
   arrives = mayStand R c registerCode && ltb (R .fresh .delay) (A c (R .fresh .load))
 
-  label-added : (x : Label) → T (isKnown (relabelAt R k s A c x)) → (T (isKnown x) → ⊥) → T arrives × ((registersOf (relabelAt R k s A c x) ≡ k) × (stepsOf (relabelAt R k s A c x) ≡ s))
-  unfolding isKnown relabelAt registersOf stepsOf
+  label-added : (x : Label) → T (isKnown (relabelAt R k s A c x)) → (T (isKnown x) → ⊥) → T arrives × ((labelRegisters (relabelAt R k s A c x) ≡ k) × (labelSteps (relabelAt R k s A c x) ≡ s))
+  unfolding isKnown relabelAt labelRegisters labelSteps
   label-added unknown h f = go arrives h
     where
-      go : (b : Bool) → T (isKnown (cond b (known k s) unknown)) → T b × ((registersOf (cond b (known k s) unknown) ≡ k) × (stepsOf (cond b (known k s) unknown) ≡ s))
+      go : (b : Bool) → T (isKnown (cond b (known k s) unknown)) → T b × ((labelRegisters (cond b (known k s) unknown) ≡ k) × (labelSteps (cond b (known k s) unknown) ≡ s))
       go true h = (tt, (refl, refl))
       go false h = absurd h
   label-added (known r t) h f = absurd (f tt)
@@ -71,12 +71,12 @@ module _ (R : Rules) (k s : ℕ) (A : Table) (list : List Label) (inside : Insid
       new : ℕ → Label
       new c = getD (relabel R k s A list) c unknown
 
-      kept : (c : ℕ) → T (isKnown (old c)) → T (isKnown (new c)) × ((registersOf (new c) ≡ registersOf (old c)) × (stepsOf (new c) ≡ stepsOf (old c)))
+      kept : (c : ℕ) → T (isKnown (old c)) → T (isKnown (new c)) × ((labelRegisters (new c) ≡ labelRegisters (old c)) × (labelSteps (new c) ≡ labelSteps (old c)))
       kept c h =
           let e : new c ≡ old c = label-at c (inPlan c h) ∙ label-kept R k s A c (old c) h in
           rw e (h, (refl, refl))
 
-      added : (c : ℕ) → T (isKnown (new c)) → (T (isKnown (old c)) → ⊥) → T (mayStand R c registerCode) × ((R .fresh .delay < A c (R .fresh .load)) × ((registersOf (new c) ≡ k) × (stepsOf (new c) ≡ s)))
+      added : (c : ℕ) → T (isKnown (new c)) → (T (isKnown (old c)) → ⊥) → T (mayStand R c registerCode) × ((R .fresh .delay < A c (R .fresh .load)) × ((labelRegisters (new c) ≡ k) × (labelSteps (new c) ≡ s)))
       added c h f =
           let e : new c ≡ relabelAt R k s A c (old c) = label-at c (new-in-plan c h) in
           let q = label-added R k s A c (old c) (rw e at h) f in

@@ -18,7 +18,7 @@ use Rattle.budget.proofs.Active.{layer-least}
 use Rattle.budget.proofs.Search.{Arrived, next-table}
 use Rattle.budget.proofs.Turns.{search-start, layer-found, layer-turn, pending-turn, wave-turn, none-turn}
 use Rattle.budget.proofs.Done.{not-after-trans}
-use Rattle.best.specs.Rows.{Rows, tableOf, layerRows, total, Bounded}
+use Rattle.best.specs.Rows.{Rows, tableOf, layerRows, budgetSum, Bounded}
 use Rattle.best.specs.Labels.{Label, labelsListed, relabel, isPending, isOfWave, nextPending, firstOfWave}
 use Rattle.best.specs.Search.{Found, figures, nothing, Turn, ends, goesOn, layerTurn, quietTurn, turn, searchFrom, mostSteps, mostTurns, search}
 use Rattle.best.proofs.Sums.{total-same}
@@ -35,13 +35,13 @@ pub data Right (R : Rules) : Found → Type 0 where
 record Ready (R : Rules) (k s : ℕ) (rows : Rows) (list : List Label) : Type 0 where
   pub now : Searching R k s (tableOf rows) (labelsListed list)
   pub inside : Inside R (tableOf rows)
-  pub steps : s ≤ total R (tableOf rows)
-  pub stamps : (c : ℕ) → T (labelsListed list .known c) → labelsListed list .steps c ≤ total R (tableOf rows)
+  pub steps : s ≤ budgetSum R (tableOf rows)
+  pub stamps : (c : ℕ) → T (labelsListed list .known c) → labelsListed list .steps c ≤ budgetSum R (tableOf rows)
   pub waves : k ≤ fewers R (labelsListed list) k
 
 -- what a turn adds to
 abbrev work : Rules → ℕ → ℕ → Rows → List Label → ℕ
-work R k s rows list = total R (tableOf rows) + seeds R (labelsListed list) k s
+work R k s rows list = budgetSum R (tableOf rows) + seeds R (labelsListed list) k s
 
 data Turned (R : Rules) (before : ℕ) : Turn → Type 0 where
   ended : {x : Found} → Right R x → Turned R before (ends x)
@@ -70,7 +70,7 @@ module _ (R : Rules) (law : Lawful R) (bounded : Bounded R) (k s : ℕ) (rows : 
   above c l = omega (arith, is-next c l, layer-least R (seedAt R m k s) (R .bound 0) A c l)
 
   -- a layer that adds to the table
-  module _ (grows : total R A < total R (tableOf next)) where
+  module _ (grows : budgetSum R A < budgetSum R (tableOf next)) where
     abbrev new : List Label
     new = relabel R k (suc s) (tableOf next) list
 
@@ -88,10 +88,10 @@ module _ (R : Rules) (law : Lawful R) (bounded : Bounded R) (k s : ℕ) (rows : 
         let q = again .kept c (a .known) in
         record { known = q .0; early = rw (q .1 .0, q .1 .1) (not-after-trans (a .early) (inr (refl, omega arith))) }
 
-    stamps : (c : ℕ) → T (labelsListed new .known c) → labelsListed new .steps c ≤ total R (tableOf next)
+    stamps : (c : ℕ) → T (labelsListed new .known c) → labelsListed new .steps c ≤ budgetSum R (tableOf next)
     stamps c h = go (decided (m .known c))
       where
-        go : T (m .known c) ⊎ T (not (m .known c)) → labelsListed new .steps c ≤ total R (tableOf next)
+        go : T (m .known c) ⊎ T (not (m .known c)) → labelsListed new .steps c ≤ budgetSum R (tableOf next)
         go (inl q) = omega (arith, ready .stamps c q, again .kept c q .1 .1)
         go (inr q) = omega (arith, ready .steps, again .added c h (T-not (m .known c) q) .1 .1 .1)
 
@@ -116,7 +116,7 @@ module _ (R : Rules) (law : Lawful R) (bounded : Bounded R) (k s : ℕ) (rows : 
             moved (not-reached (λ h. omega arith)) (omega (arith, seeds-more R stay))
 
   -- a layer that adds nothing
-  module _ (quiet : total R (tableOf next) ≤ total R A) where
+  module _ (quiet : budgetSum R (tableOf next) ≤ budgetSum R A) where
     same : Next R m k s A A
     same c l = go (split (R .cellCount) c) (split (suc (R .limit)) l)
       where
@@ -191,9 +191,9 @@ module _ (R : Rules) (law : Lawful R) (bounded : Bounded R) (k s : ℕ) (rows : 
 
   turned : Turned R before (turn R k s rows list)
   unfolding turn
-  turned = go (ltb (total R A) (total R (tableOf next))) refl
+  turned = go (ltb (budgetSum R A) (budgetSum R (tableOf next))) refl
     where
-      go : (b : Bool) → ltb (total R A) (total R (tableOf next)) ≡ b → Turned R before (cond b (layerTurn R k s next list) (quietTurn k rows list (nextPending R m k s) (firstOfWave R m k)))
+      go : (b : Bool) → ltb (budgetSum R A) (budgetSum R (tableOf next)) ≡ b → Turned R before (cond b (layerTurn R k s next list) (quietTurn k rows list (nextPending R m k s) (firstOfWave R m k)))
       go true e = layer-turned (ltb-true _ _ e)
       go false e = quiet-turned (ltb-false _ _ e)
 

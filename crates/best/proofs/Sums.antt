@@ -11,7 +11,7 @@ use Rattle.plan.proofs.Truth.{split}
 use Rattle.budget.specs.Table.{Table}
 use Rattle.lists.specs.Lists.{sumBelow}
 use Rattle.lists.proofs.Sums.{sum-bound, sum-least, sum-grows}
-use Rattle.best.specs.Rows.{total}
+use Rattle.best.specs.Rows.{budgetSum}
 
 -- how many numbers below n pass a test
 
@@ -51,20 +51,20 @@ module _ (n : ℕ) (test more : ℕ → Bool) (stay : (c : ℕ) → T (test c) �
 -- a table's sum
 
 module _ (R : Rules) (A B : Table) (above : (c l : ℕ) → A c l ≤ B c l) where
-  total-grows : (c l : ℕ) → c < R .cellCount → l ≤ R .limit → A c l < B c l → total R A < total R B
-  unfolding total
+  total-grows : (c l : ℕ) → c < R .cellCount → l ≤ R .limit → A c l < B c l → budgetSum R A < budgetSum R B
+  unfolding budgetSum
   total-grows c l h k less =
       sum-grows (R .cellCount) _ _ c (λ c i. sum-least (suc (R .limit)) _ _ (λ l j. above c l)) h
       (sum-grows (suc (R .limit)) (A c) (B c) l (λ l j. above c l) (omega arith) less)
 
   -- a sum that does not grow leaves each number
-  pub total-same : total R B ≤ total R A → (c l : ℕ) → c < R .cellCount → l ≤ R .limit → A c l ≡ B c l
+  pub total-same : budgetSum R B ≤ budgetSum R A → (c l : ℕ) → c < R .cellCount → l ≤ R .limit → A c l ≡ B c l
   total-same same c l h k = go (split (B c l) (A c l))
     where
       go : (B c l ≤ A c l) ⊎ (A c l < B c l) → A c l ≡ B c l
       go (inl q) = omega (arith, above c l)
       go (inr q) = absurd (omega (arith, total-grows c l h k q))
 
-pub total-most : (R : Rules) (A : Table) (x : ℕ) → ((c l : ℕ) → A c l ≤ x) → total R A ≤ R .cellCount * (suc (R .limit) * x)
-unfolding total
+pub total-most : (R : Rules) (A : Table) (x : ℕ) → ((c l : ℕ) → A c l ≤ x) → budgetSum R A ≤ R .cellCount * (suc (R .limit) * x)
+unfolding budgetSum
 total-most R A x h = sum-bound (R .cellCount) _ _ (λ c i. sum-bound (suc (R .limit)) x (A c) (λ l j. h c l))

@@ -20,20 +20,20 @@ unfoldable pub isKnown : Label → Bool
 isKnown unknown = false
 isKnown (known r t) = true
 
-unfoldable pub registersOf : Label → ℕ
-registersOf unknown = 0
-registersOf (known r t) = r
+unfoldable pub labelRegisters : Label → ℕ
+labelRegisters unknown = 0
+labelRegisters (known r t) = r
 
-unfoldable pub stepsOf : Label → ℕ
-stepsOf unknown = 0
-stepsOf (known r t) = t
+unfoldable pub labelSteps : Label → ℕ
+labelSteps unknown = 0
+labelSteps (known r t) = t
 
 unfoldable pub labelsListed : List Label → Labels
 labelsListed list =
     record {
       known = λ c. isKnown (getD list c unknown);
-      registers = λ c. registersOf (getD list c unknown);
-      steps = λ c. stepsOf (getD list c unknown);
+      registers = λ c. labelRegisters (getD list c unknown);
+      steps = λ c. labelSteps (getD list c unknown);
     }
 
 -- (k, s) at a cell whose fresh state has come into the table; a label stays as it is

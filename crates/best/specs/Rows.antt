@@ -31,8 +31,8 @@ layerRows R seed rows =
     rowsOf R (λ c l. max (tableOf rows c l) (maxBelow (R .cellCount) (λ n. given R (tableOf arrivals) n c l)))
 
 -- the sum of all budgets
-unfoldable pub total : Rules → Table → ℕ
-total R A = sumBelow (R .cellCount) (λ c. sumBelow (suc (R .limit)) (A c))
+unfoldable pub budgetSum : Rules → Table → ℕ
+budgetSum R A = sumBelow (R .cellCount) (λ c. sumBelow (suc (R .limit)) (A c))
 
 -- an uncut wire leads only from cells of the plan
 pub record Bounded (R : Rules) : Type 0 where

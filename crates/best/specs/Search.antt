@@ -6,7 +6,7 @@ use mathlib.Core.Option.{Option, none, some}
 use lib.Dec.{ltb}
 use Rattle.rules.specs.Rules.{Rules}
 use Rattle.budget.specs.Done.{seedAt}
-use Rattle.best.specs.Rows.{Rows, tableOf, layerRows, total}
+use Rattle.best.specs.Rows.{Rows, tableOf, layerRows, budgetSum}
 use Rattle.best.specs.Labels.{Label, labelsListed, relabel, nextPending, firstOfWave}
 
 -- the least registers and steps from the sink, with the labels so far; or that no ending exists
@@ -34,7 +34,7 @@ quietTurn k rows list none none = ends nothing
 unfoldable pub turn : Rules → ℕ → ℕ → Rows → List Label → Turn
 turn R k s rows list =
     let next : Rows = layerRows R (seedAt R (labelsListed list) k s) rows in
-    cond (ltb (total R (tableOf rows)) (total R (tableOf next))) (layerTurn R k s next list)
+    cond (ltb (budgetSum R (tableOf rows)) (budgetSum R (tableOf next))) (layerTurn R k s next list)
     (quietTurn k rows list (nextPending R (labelsListed list) k s) (firstOfWave R (labelsListed list) k))
 
 -- `fuel` turns; it is more than there are

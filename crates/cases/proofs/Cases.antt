@@ -15,8 +15,8 @@ use Rattle.budget.specs.Table.{loadAt, delayAt, bufferCost, loadOf, closeCost, 
 use Rattle.budget.specs.Done.{seedAt}
 use Rattle.budget.specs.Emission.{exactSeed, goesOn, afterLoad, afterDelay, afterRegisters, visit, firstFrom, nextCode, nextCell, emit}
 use Rattle.lists.specs.Lists.{sumBelow}
-use Rattle.best.specs.Rows.{listFrom, tableOf, rowsOf, layerRows, total}
-use Rattle.best.specs.Labels.{isKnown, registersOf, stepsOf, labelsListed, relabelAt, relabel, least, leastBelow, isPending, isOfWave, nextPending, firstOfWave}
+use Rattle.best.specs.Rows.{listFrom, tableOf, rowsOf, layerRows, budgetSum}
+use Rattle.best.specs.Labels.{isKnown, labelRegisters, labelSteps, labelsListed, relabelAt, relabel, least, leastBelow, isPending, isOfWave, nextPending, firstOfWave}
 use Rattle.best.specs.Search.{layerTurn, quietTurn, turn, searchFrom, mostSteps, mostTurns, search}
 use Rattle.best.specs.Best.{Outcome, found, none, reachRows, routeOf, outcome, best}
 use Rattle.best.proofs.Document01.{rules-best, rules-none}
@@ -30,7 +30,7 @@ Agrees x period (route k s t r) = (x ≡ found r) × (registers r ≡ k) × (ste
 Agrees x period noRoute = x ≡ none
 
 computed : Each (λ c. Agrees (best (rulesIn c)) (c .elements .period) (c .expected)) cases
-unfolding cells row column marksAt blocked tap cutRight cutBelow joinsRight joinsBelow bothIn horizontal vertical joined wireOf bufferOf registerOf driverOf wireDelay gateDelay wireLoad bufferDriver bufferLoad registerDriver registerLoad setupDelay rulesOf siteOf wireBetween mayStand isEnd loadAt delayAt bufferCost loadOf closeCost only maxBelow viaBuffer arrival given seedAt exactSeed goesOn afterLoad afterDelay afterRegisters firstFrom nextCode nextCell emit listFrom sumBelow tableOf rowsOf layerRows total isKnown registersOf stepsOf labelsListed relabelAt relabel least leastBelow isPending isOfWave nextPending firstOfWave layerTurn quietTurn turn searchFrom mostSteps mostTurns search reachRows routeOf outcome best tables strip straight codeSevens registers steps latency case1 case2 case3 case4 case5 case6 case7 case8 case9 case10 case11 case12 case13
+unfolding cells row column marksAt blocked tap cutRight cutBelow joinsRight joinsBelow bothIn horizontal vertical joined wireOf bufferOf registerOf driverOf wireDelay gateDelay wireLoad bufferDriver bufferLoad registerDriver registerLoad setupDelay rulesOf siteOf wireBetween mayStand isEnd loadAt delayAt bufferCost loadOf closeCost only maxBelow viaBuffer arrival given seedAt exactSeed goesOn afterLoad afterDelay afterRegisters firstFrom nextCode nextCell emit listFrom sumBelow tableOf rowsOf layerRows budgetSum isKnown labelRegisters labelSteps labelsListed relabelAt relabel least leastBelow isPending isOfWave nextPending firstOfWave layerTurn quietTurn turn searchFrom mostSteps mostTurns search reachRows routeOf outcome best tables strip straight codeSevens registers steps latency case1 case2 case3 case4 case5 case6 case7 case8 case9 case10 case11 case12 case13
 computed =
     more case1 (refl, refl, refl, refl)
     (more case2 (refl, refl, refl, refl)

@@ -30,14 +30,14 @@ pub record Case : Type 0 where
 
 -- A case is right: the visits are the best route, with these figures; or no route is legal.
 
-pub record Answered (R : Rules) (period k s t : ℕ) (r : Route) : Type 0 where
+pub record CaseAnswered (R : Rules) (period k s t : ℕ) (r : Route) : Type 0 where
   pub isBest : IsBest R r
   pub registers : registers r ≡ k
   pub steps : steps r ≡ s
   pub latency : latency period r ≡ t
 
 abbrev pub Meets : Rules → ℕ → Expected → Type 0
-Meets R period (route k s t r) = Answered R period k s t r
+Meets R period (route k s t r) = CaseAnswered R period k s t r
 Meets R period noRoute = (r : Route) → T (legal R r) → ⊥
 
 abbrev pub rulesIn : Case → Rules

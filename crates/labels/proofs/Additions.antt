@@ -14,7 +14,7 @@ use Rattle.budget.specs.Done.{NotAfter}
 use Rattle.budget.specs.Search.{Relabelled}
 use Rattle.costs.specs.Costs.{rowWords}
 use Rattle.layout.specs.Layout.{activeAt}
-use Rattle.lists.specs.Lists.{flagOf, Place, Listed}
+use Rattle.lists.specs.Lists.{flagOf, ListedAt, Listed}
 use Rattle.lists.proofs.Lists.{bit-cases}
 use Rattle.table.specs.Problem.{budgetOf}
 use Rattle.table.proofs.Views.{inside, budget-outside, budget-kept}
@@ -141,10 +141,10 @@ module _ {R : Rules} {n registers steps : ℕ} where
 
 -- the loop: after the first i cells of the list, one more
 module _ {R : Rules} {n registers steps : ℕ} {old mid new : List ℕ} {i count middle next cell : ℕ} where
-  pub labels-more : LabelsAddedAmong R n (Place n old (n * activeAt) i) registers steps old mid count middle → getD mid (n * activeAt + i) 0 ≡ cell → LabelsAddedAmong R n (λ c. c ≡ cell) registers steps mid new middle next → LabelsAddedAmong R n (Place n old (n * activeAt) (i + 1)) registers steps old new count next
-  labels-more a e b = labels-join a b (Place n old (n * activeAt) (i + 1)) (λ c p. go c p (equal (p .at) i))
+  pub labels-more : LabelsAddedAmong R n (ListedAt n old (n * activeAt) i) registers steps old mid count middle → getD mid (n * activeAt + i) 0 ≡ cell → LabelsAddedAmong R n (λ c. c ≡ cell) registers steps mid new middle next → LabelsAddedAmong R n (ListedAt n old (n * activeAt) (i + 1)) registers steps old new count next
+  labels-more a e b = labels-join a b (ListedAt n old (n * activeAt) (i + 1)) (λ c p. go c p (equal (p .at) i))
     where
-      go : (c : ℕ) → (p : Place n old (n * activeAt) (i + 1) c) → (p .at ≡ i) ⊎ (p .at ≡ i → ⊥) → Place n old (n * activeAt) i c ⊎ (c ≡ cell)
+      go : (c : ℕ) → (p : ListedAt n old (n * activeAt) (i + 1) c) → (p .at ≡ i) ⊎ (p .at ≡ i → ⊥) → ListedAt n old (n * activeAt) i c ⊎ (c ≡ cell)
       go c p (inl q) = inr (sym (p .holds) ∙ ap (λ (j : ℕ). getD old (n * activeAt + j) 0) q ∙ sym (a .high (n * activeAt + i) (omega arith)) ∙ e)
       go c p (inr q) = inl (record { at = p .at; below = omega (arith, p .below); holds = p .holds })
 

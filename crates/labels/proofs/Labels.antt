@@ -11,7 +11,7 @@ use Rattle.rules.specs.Rules.{Rules}
 use Rattle.plan.proofs.Truth.{both, fst, snd, tests, split, equal, decided, is-true, is-false}
 use Rattle.budget.specs.Done.{NotAfter, Labelled, seedAt}
 use Rattle.layout.specs.Layout.{labelsAt, stepsLowAt, stepsHighAt, orderAt, activeAt}
-use Rattle.lists.specs.Lists.{Place}
+use Rattle.lists.specs.Lists.{ListedAt}
 use Rattle.lists.proofs.Sums.{sum-same, sum-bound, sum-none, sum-more, sum-short}
 use Rattle.labels.specs.Labels.{knownOf, registersOf, stepsOf, labelsOf, orderOf, one, Ordered, SameLabel, LabelAdded}
 
@@ -137,7 +137,7 @@ ordered-kept {n} {old} {count} o new w =
     label : (i : ℕ) → i < count → SameLabel n old new (orderOf n old i)
     label i h = label-kept n old new labels (orderOf n old i) (o .cells i h)
 
-    at : (c : ℕ) → Place n old (n * orderAt) count c → Place n new (n * orderAt) count c
+    at : (c : ℕ) → ListedAt n old (n * orderAt) count c → ListedAt n new (n * orderAt) count c
     at c p = record { at = p .at; below = p .below; holds = place (p .at) (p .below) ∙ p .holds }
 
 -- one label more, not before the others
@@ -157,10 +157,10 @@ module _ {n : ℕ} {old : List ℕ} {count : ℕ} (o : Ordered n old count) (new
   labelled i k (inl e) = rw (e, at-end) known
   labelled i k (inr e) = let j : i < count = omega arith in rw (earlier i j, other i j .known) (o .known i j)
 
-  more : (c : ℕ) → Place n old (n * orderAt) count c → Place n new (n * orderAt) (count + 1) c
+  more : (c : ℕ) → ListedAt n old (n * orderAt) count c → ListedAt n new (n * orderAt) (count + 1) c
   more c p = record { at = p .at; below = omega arith; holds = earlier (p .at) (p .below) ∙ p .holds }
 
-  place : (c : ℕ) → T (knownOf n new c) → (c ≡ cell) ⊎ (c ≡ cell → ⊥) → Place n new (n * orderAt) (count + 1) c
+  place : (c : ℕ) → T (knownOf n new c) → (c ≡ cell) ⊎ (c ≡ cell → ⊥) → ListedAt n new (n * orderAt) (count + 1) c
   place c t (inl e) = record { at = count; below = omega arith; holds = at-end ∙ sym e }
   place c t (inr e) = more c (o .covered c (rw (others c (known-below n new c t) e .known) at t))
 

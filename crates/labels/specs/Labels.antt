@@ -7,7 +7,7 @@ use lib.Dec.{T, eqb, ltb}
 use lib.ListN.{length, getD}
 use Rattle.budget.specs.Done.{Labels, NotAfter}
 use Rattle.layout.specs.Layout.{labelsAt, stepsLowAt, stepsHighAt, orderAt, activeAt, nextAt, listedAt, trailAt}
-use Rattle.lists.specs.Lists.{sumBelow, flagOf, Place, Listed}
+use Rattle.lists.specs.Lists.{sumBelow, flagOf, ListedAt, Listed}
 use Rattle.table.specs.Problem.{seedWord}
 
 unfoldable pub knownOf : ℕ → List ℕ → ℕ → Bool
@@ -33,7 +33,7 @@ one b = cond b 1 0
 pub record Ordered (n : ℕ) (words : List ℕ) (count : ℕ) : Type 0 where
   pub cells : (i : ℕ) → i < count → orderOf n words i < n
   pub known : (i : ℕ) → i < count → T (knownOf n words (orderOf n words i))
-  pub covered : (c : ℕ) → T (knownOf n words c) → Place n words (n * orderAt) count c
+  pub covered : (c : ℕ) → T (knownOf n words c) → ListedAt n words (n * orderAt) count c
   pub counted : count ≡ sumBelow n (λ c. one (knownOf n words c))
   pub ascending :
       (i j : ℕ) → i ≤ j → j < count →

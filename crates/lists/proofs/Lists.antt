@@ -5,7 +5,7 @@ use mathlib.Core.Logic.{_⊎_, inl, inr}
 use mathlib.Core.List.{List}
 use native.Mathlib.Omega.{arith}
 use lib.ListN.{getD}
-use Rattle.lists.specs.Lists.{flagOf, Place, Listed, Enlisted}
+use Rattle.lists.specs.Lists.{flagOf, ListedAt, Listed, Enlisted}
 use Rattle.plan.proofs.Truth.{equal}
 use Rattle.lists.proofs.Sums.{sum-same, sum-bound, sum-part, sum-none, sum-zero, sum-more, sum-short}
 
@@ -57,7 +57,7 @@ listed-moved {n} {old} {from} {count} l new to f w =
       counted = omega (arith, sum-same n (flagOf n new) (flagOf n old) f, l .counted);
     }
   where
-    at : (c : ℕ) → Place n old from count c → Place n new to count c
+    at : (c : ℕ) → ListedAt n old from count c → ListedAt n new to count c
     at c p = record { at = p .at; below = p .below; holds = w (p .at) (p .below) ∙ p .holds }
 
 pub listed-kept : {n : ℕ} {old : List ℕ} {base count : ℕ} → Listed n old base count → (new : List ℕ) → ((c : ℕ) → c < n → flagOf n new c ≡ flagOf n old c) → ((i : ℕ) → i < count → getD new (base + i) 0 ≡ getD old (base + i) 0) → Listed n new base count
@@ -89,10 +89,10 @@ listed-more {n} {old} {base} {count} l new cell h z o f w e =
         let j : i < count = omega arith in
         rw (w i j) (f _ (l .cells i j) (λ x. let y : flagOf n old cell ≡ 1 = rw x at (l .flagged i j) in omega arith) ∙ l .flagged i j)
 
-    more : (c : ℕ) → Place n old base count c → Place n new base (count + 1) c
+    more : (c : ℕ) → ListedAt n old base count c → ListedAt n new base (count + 1) c
     more c p = record { at = p .at; below = omega arith; holds = w (p .at) (p .below) ∙ p .holds }
 
-    place : (c : ℕ) → c < n → flagOf n new c ≡ 1 → (c ≡ cell) ⊎ (c ≡ cell → ⊥) → Place n new base (count + 1) c
+    place : (c : ℕ) → c < n → flagOf n new c ≡ 1 → (c ≡ cell) ⊎ (c ≡ cell → ⊥) → ListedAt n new base (count + 1) c
     place c k q (inl x) = record { at = count; below = omega arith; holds = rw x e }
     place c k q (inr x) = more c (l .covered c k (omega (arith, f c k x)))
 

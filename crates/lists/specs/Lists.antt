@@ -13,7 +13,7 @@ sumBelow (suc n) f = sumBelow n f + f n
 abbrev pub flagOf : ℕ → List ℕ → ℕ → ℕ
 flagOf n words c = getD words (n * listedAt + c) 0
 
-pub record Place (n : ℕ) (words : List ℕ) (base count c : ℕ) : Type 0 where
+pub record ListedAt (n : ℕ) (words : List ℕ) (base count c : ℕ) : Type 0 where
   pub at : ℕ
   pub below : at < count
   pub holds : getD words (base + at) 0 ≡ c
@@ -23,7 +23,7 @@ pub record Listed (n : ℕ) (words : List ℕ) (base count : ℕ) : Type 0 where
   pub bits : (c : ℕ) → c < n → flagOf n words c ≤ 1
   pub cells : (i : ℕ) → i < count → getD words (base + i) 0 < n
   pub flagged : (i : ℕ) → i < count → flagOf n words (getD words (base + i) 0) ≡ 1
-  pub covered : (c : ℕ) → c < n → flagOf n words c ≡ 1 → Place n words base count c
+  pub covered : (c : ℕ) → c < n → flagOf n words c ≡ 1 → ListedAt n words base count c
   pub counted : count ≡ sumBelow n (flagOf n words)
 
 -- After `enlist`: the cell is listed; the other flags and all words but those of this list and the flags stay.

@@ -2,8 +2,8 @@
 use Prim.Native.Nat.{ℕ}
 use Rattle.plan.specs.declared.PlanCheck.{PlanCheck}
 
-unfoldable pub refusalNumber : PlanCheck → ℕ
-refusalNumber PlanCheck.Valid = 0
-refusalNumber PlanCheck.Grid = 1
-refusalNumber PlanCheck.Length = 2
-refusalNumber PlanCheck.Mark = 3
+unfoldable pub checkNumber : PlanCheck → ℕ
+checkNumber PlanCheck.Valid = 0
+checkNumber PlanCheck.Grid = 1
+checkNumber PlanCheck.Length = 2
+checkNumber PlanCheck.Mark = 3

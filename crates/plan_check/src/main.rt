@@ -2,13 +2,13 @@
 ghost use mathlib.Core.Path.{_≡_};
 ghost use Rattle.plan.specs.Plan.{planOf};
 ghost use Rattle.plan.specs.Check.{checkedPlan};
-ghost use Rattle.plan_check.specs.Number.{refusalNumber};
+ghost use Rattle.plan_check.specs.Number.{checkNumber};
 use plan::Neighbours;
 use plan::PlanCheck;
 
 // Document 01's number for the answer of the check.
 fn refusal(plan: &[u8], width: u16, height: u16) -> u8
-    ensures { λ r. ⌜ r ≡ refusalNumber (checkedPlan (planOf width height (now (plan .entry)))) ⌝ }
+    ensures { λ r. ⌜ r ≡ checkNumber (checkedPlan (planOf width height (now (plan .entry)))) ⌝ }
 {
     let answer = plan::check_plan(plan, width, height);
     match answer {

@@ -14,7 +14,7 @@ use Rattle.best.specs.Search.{Found, figures, nothing, search}
 use Rattle.best.specs.Best.{routeOf, Outcome, found, none, outcome, best}
 use Rattle.answers.specs.declared.answer.Answer.{Answer}
 use Rattle.router.specs.Route.{Question, rulesAsked, Check, passes, fails, checks, figuresOf, answerFor, visitsFor, answerAfter, answerOf, visitsAfter, visitsOf}
-use Rattle.text.specs.Answers.{figuresLine, visitLines, answerText, Within}
+use Rattle.text.specs.Answers.{figuresLine, visitLines, answerText, VisitsWithin}
 use Rattle.printing.specs.Printed.{blank}
 
 -- the lines of the first visits read no later words
@@ -72,21 +72,21 @@ unfolding answerOf visitsOf
 same-text q s t a b e f = rw e (check-text (checks q (length t)) q a b f)
 
 -- an answer's visits are within the words lent
-outcome-within : (period room : ℕ) (o : Outcome) → Within (answerFor period room o) room
-unfolding answerFor Within figuresOf
+outcome-within : (period room : ℕ) (o : Outcome) → VisitsWithin (answerFor period room o) room
+unfolding answerFor VisitsWithin figuresOf
 outcome-within period room none = tt
 outcome-within period room (found r) = go (leb (2 * (steps r + 1)) room) refl
   where
-    go : (b : Bool) → leb (2 * (steps r + 1)) room ≡ b → Within (cond b (Answer.Found (figuresOf period r)) (Answer.NoRoom (figuresOf period r))) room
+    go : (b : Bool) → leb (2 * (steps r + 1)) room ≡ b → VisitsWithin (cond b (Answer.Found (figuresOf period r)) (Answer.NoRoom (figuresOf period r))) room
     go true e = leb-true _ _ e
     go false e = tt
 
-check-within : (x : Check) (q : Question) (a : List ℕ) → Within (answerAfter x q a) (length a)
-unfolding answerAfter Within
+check-within : (x : Check) (q : Question) (a : List ℕ) → VisitsWithin (answerAfter x q a) (length a)
+unfolding answerAfter VisitsWithin
 check-within passes q a = outcome-within (q .tables .period) (length a) (best (rulesAsked q))
 check-within (fails r) q a = tt
 
-pub within-lent : (q : Question) (s a : List ℕ) → Within (answerOf q s a) (length a)
+pub within-lent : (q : Question) (s a : List ℕ) → VisitsWithin (answerOf q s a) (length a)
 unfolding answerOf
 within-lent q s a = check-within (checks q (length s)) q a
 

@@ -14,11 +14,11 @@ use Rattle.job.specs.declared.read.Asked.{Asked}
 use Rattle.job.specs.declared.read.Job.{Job}
 use Rattle.job.proofs.Sound.{Small, asked-small}
 use Rattle.text.specs.Put.{Put}
-use Rattle.text.specs.Answers.{refusalText, answerText, Within}
+use Rattle.text.specs.Answers.{refusalText, answerText, VisitsWithin}
 use Rattle.printing.specs.Printed.{scratchWords, visitWords, blank, readingText, printed, Prints}
 use Rattle.printing.proofs.Lent.{same-text, within-lent, blank-length}
 
-pub within-answer : (r : Answer) (q : Question) (s a : List ℕ) (n : ℕ) → r ≡ answerOf q s a → n ≡ length a → Within r n
+pub within-answer : (r : Answer) (q : Question) (s a : List ℕ) (n : ℕ) → r ≡ answerOf q s a → n ≡ length a → VisitsWithin r n
 within-answer r q s a n e same = rw (e, same) (within-lent q s a)
 
 module _ (plan scratch visits : List ℕ) (a : Asked) (n : ℕ) where

@@ -17,7 +17,7 @@ use Rattle.budget.proofs.Layer.{row-of}
 use Rattle.budget.proofs.Colours.{source-in-step}
 use Rattle.budget.proofs.Reaches.{source-seed, seed-at-source, exact-view, reaches-start}
 use Rattle.layout.specs.Layout.{arrivalAt, labelsAt, orderAt, activeAt, seedsAt}
-use Rattle.lists.specs.Lists.{Place, Listed}
+use Rattle.lists.specs.Lists.{ListedAt, Listed}
 use Rattle.rows.specs.Words.{Kept}
 use Rattle.table.specs.Problem.{budgetOf, seedOf}
 use Rattle.table.specs.Layer.{ActiveIn}
@@ -28,7 +28,7 @@ use Rattle.labels.proofs.Labels.{unknown-not}
 use Rattle.search.proofs.Arrivals.{active-planted, cleared-table, cleared-seed, cleared-active}
 use Rattle.search.proofs.Fronts.{order-registers}
 use Rattle.search.proofs.NextFront.{seed-word, word-seed, coloured-planted}
-use Rattle.reach.specs.Reach.{FirstWith, Cleared, Due, Reaching, Started}
+use Rattle.reach.specs.Reach.{FirstWith, Cleared, Due, Running, Started}
 use Rattle.reach.proofs.Turns.{arrive-turn}
 
 exact-label : (R : Rules) (m : Labels) (k t c : ℕ) → 0 < k → T (exactSeed R m k t c) → T (m .known c) × (suc (m .registers c) ≡ k)
@@ -100,7 +100,7 @@ module _ (R : Rules) (n : ℕ) (old mid : List ℕ) (z : Cleared n old mid) wher
         go (inl h) = h
         go (inr h) = absurd (omega (arith, f .fewer end h, g .enough end (omega arith) (omega (arith, f .within))))
 
-    labels-start : (P : ℕ → ℕ → Bool) → Reaching R n k P old mid 0 0 from end count
+    labels-start : (P : ℕ → ℕ → Bool) → Running R n k P old mid 0 0 from end count
     labels-start P =
         record {
           same = z .same;
@@ -119,7 +119,7 @@ module _ (R : Rules) (n : ℕ) (old mid : List ℕ) (z : Cleared n old mid) wher
           coloured = coloured-none R 0 listed refl;
         }
       where
-        due : (c : ℕ) → suc (registersOf n old c) ≡ k → Place n old (n * orderAt) count c → Due n old from end c
+        due : (c : ℕ) → suc (registersOf n old c) ≡ k → ListedAt n old (n * orderAt) count c → Due n old from end c
         due c e p = go (split from (p .at)) (split end (p .at))
           where
             are : registersOf n mid (orderOf n mid (p .at)) ≡ registersOf n old c

@@ -31,7 +31,7 @@ use Rattle.search.proofs.Arrivals.{active-kept, active-arrived}
 use Rattle.search.proofs.Fronts.{bool-same, layer-seeds, order-same, order-steps}
 use Rattle.search.proofs.NextFront.{seed-word, word-seed, find, coloured-arrived}
 use Rattle.reach.specs.Cone.{Dropped}
-use Rattle.reach.specs.Reach.{NextSteps, Due, Reaching, Current}
+use Rattle.reach.specs.Reach.{NextSteps, Due, Running, Current}
 
 exact-early : (R : Rules) (m : Labels) (k u c : ℕ) → 0 < k → T (exactSeed R m k u c) → m .steps c ≤ u
 exact-early R m zero u c h t = absurd (omega arith)
@@ -49,7 +49,7 @@ module _ (R : Rules) (n k : ℕ) (P : ℕ → ℕ → Bool) (old : List ℕ) (co
   abbrev m : Labels
   m = labelsOf n old
 
-  module _ (words : List ℕ) (u active at end : ℕ) (f : Reaching R n k P old words u active at end count) where
+  module _ (words : List ℕ) (u active at end : ℕ) (f : Running R n k P old words u active at end count) where
     -- the order and its labels, read in the words
     order-is : (i : ℕ) → i < end → orderOf n words i ≡ orderOf n old i
     order-is i h = order-same n old words count (f .ordered) (f .labels) i (omega (arith, f .endCount))
@@ -72,7 +72,7 @@ module _ (R : Rules) (n k : ℕ) (P : ℕ → ℕ → Bool) (old : List ℕ) (co
     due-steps c d = omega (arith, sorted (d .place) (d .from) (d .below), ap (stepsOf n old) (d .holds))
 
   module _ (words : List ℕ) (u active at end : ℕ) (g : Current R n k P old words u active at end count) where
-    f : Reaching R n k P old words u active at end count
+    f : Running R n k P old words u active at end count
     f = g .reaching
 
     -- the seed flags are the exact seeds
@@ -92,7 +92,7 @@ module _ (R : Rules) (n k : ℕ) (P : ℕ → ℕ → Bool) (old : List ℕ) (co
       list-fewer : (v : ℕ) → u ≤ v → {new : List ℕ} {count : ℕ} → ActiveIn R n (P u) new count → ActiveIn R n (P v) new count
       list-fewer v h a = record { listed = a .listed; settled = λ c i t z. a .settled c i (shrinks-fewer shrinks u v c h t) z }
 
-      pub layer-turn : (t : Trail) (new : List ℕ) (next : Grown) → Layered R n t words new next → Reaching R n k P old new (u + 1) (next .count) at end count
+      pub layer-turn : (t : Trail) (new : List ℕ) (next : Grown) → Layered R n t words new next → Running R n k P old new (u + 1) (next .count) at end count
       layer-turn t new next l =
           record {
             same = l .same ∙ f .same;
@@ -140,7 +140,7 @@ module _ (R : Rules) (n k : ℕ) (P : ℕ → ℕ → Bool) (old : List ℕ) (co
         pub leap-tables : (s : ℕ) → u ≤ s → s ≤ t → RepresentsIn (P s) (budgetOf n words) (Reaches R m k s)
         leap-tables s lo hi = until-in R m k law shrinks u (budgetOf n words) (f .table) (quiet none) t (idle t first) s lo hi
 
-        pub leap-turn : Reaching R n k P old words t active at end count
+        pub leap-turn : Running R n k P old words t active at end count
         leap-turn =
             record {
               same = f .same;
@@ -160,7 +160,7 @@ module _ (R : Rules) (n k : ℕ) (P : ℕ → ℕ → Bool) (old : List ℕ) (co
             }
 
   -- labels whose steps have come become seeds
-  module _ (words : List ℕ) (u active at end : ℕ) (f : Reaching R n k P old words u active at end count) (new : List ℕ) (to active′ : ℕ) (a : ArrivedAll n at end u words new to active′) where
+  module _ (words : List ℕ) (u active at end : ℕ) (f : Running R n k P old words u active at end count) (new : List ℕ) (to active′ : ℕ) (a : ArrivedAll n at end u words new to active′) where
     in-end : (i : ℕ) → i < to → i < end
     in-end i h = omega (arith, a .within)
 

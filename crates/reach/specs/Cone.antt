@@ -6,7 +6,7 @@ use mathlib.Core.List.{List}
 use lib.Dec.{T}
 use lib.ListN.{length, getD}
 use Rattle.layout.specs.Layout.{activeAt, nextAt, seedsAt, trailAt}
-use Rattle.lists.specs.Lists.{flagOf, Place, Listed}
+use Rattle.lists.specs.Lists.{flagOf, ListedAt, Listed}
 use Rattle.table.specs.declared.problem.Problem.{Problem}
 
 -- no cell is flagged, and there are `active` cells at the active list
@@ -22,7 +22,7 @@ pub record ListAsks (n active width : ℕ) (words : List ℕ) : Type 0 where
 pub record ListedInside (n active : ℕ) (P : ℕ → Bool) (old new : List ℕ) (count : ℕ) : Type 0 where
   pub same : length new ≡ length old
   pub listed : Listed n new (n * nextAt) count
-  pub fewer : (c : ℕ) → c < n → flagOf n new c ≡ 1 → Place n old (n * activeAt) active c
+  pub fewer : (c : ℕ) → c < n → flagOf n new c ≡ 1 → ListedAt n old (n * activeAt) active c
   pub inside : (i : ℕ) → i < active → T (P (getD old (n * activeAt + i) 0)) → flagOf n new (getD old (n * activeAt + i) 0) ≡ 1
   pub low : (k : ℕ) → k < n * nextAt → getD new k 0 ≡ getD old k 0
   pub high : (k : ℕ) → n * seedsAt ≤ k → getD new k 0 ≡ getD old k 0

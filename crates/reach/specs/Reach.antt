@@ -68,7 +68,7 @@ pub record Due (n : ℕ) (words : List ℕ) (at end c : ℕ) : Type 0 where
 
 -- In the rows of P u the table is that of u steps, and the active list is right there. Each flagged seed is a seed at u steps, and each seed of the span is flagged or waits.
 -- `old` are the words from which the labels and the order are kept.
-pub record Reaching (R : Rules) (n k : ℕ) (P : ℕ → ℕ → Bool) (old words : List ℕ) (u active at end count : ℕ) : Type 0 where
+pub record Running (R : Rules) (n k : ℕ) (P : ℕ → ℕ → Bool) (old words : List ℕ) (u active at end count : ℕ) : Type 0 where
   pub same : length words ≡ length old
   pub labels : Kept (n * labelsAt) (n * activeAt) old words
   pub rest : KeptFrom (n * cellWords) old words
@@ -93,7 +93,7 @@ pub record Trailing (R : Rules) (n k : ℕ) (P : ℕ → ℕ → Bool) (old word
 
 -- and every label that waits has more steps than u
 pub record Current (R : Rules) (n k : ℕ) (P : ℕ → ℕ → Bool) (old words : List ℕ) (u active at end count : ℕ) : Type 0 where
-  pub reaching : Reaching R n k P old words u active at end count
+  pub reaching : Running R n k P old words u active at end count
   pub late : at < end → u < stepsOf n old (orderOf n old at)
 
 -- After `start_span`: no budget, and so the table of no steps in any rows.

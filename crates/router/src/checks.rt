@@ -3,7 +3,7 @@ ghost use mathlib.Core.Path.{_≡_};
 ghost use Rattle.plan.specs.Plan.{planOf};
 ghost use Rattle.plan.specs.Check.{checkedPlan};
 ghost use Rattle.plan.specs.declared.PlanCheck.{PlanCheck};
-ghost use Rattle.answers.specs.Tables.{readOf};
+ghost use Rattle.answers.specs.Tables.{checkedList};
 ghost use Rattle.router.specs.Route.{questionOf, Routed};
 use crate::ready::route_ready;
 use answers::Answer;
@@ -33,7 +33,7 @@ fn after_plan(
     scratch: &mut [u16],
     visits: &mut [u16],
 ) -> Answer
-    requires { ⌜ (checkedPlan (planOf width height (now plan)) ≡ PlanCheck.Valid) × (read ≡ readOf (read .list)) ⌝ }
+    requires { ⌜ (checkedPlan (planOf width height (now plan)) ≡ PlanCheck.Valid) × (read ≡ checkedList (read .list)) ⌝ }
     ensures { λ r. ⌜ Routed (questionOf (now (plan .entry)) width height tables (read .list) source sink) (now (scratch .entry)) (now (scratch .exit)) (now (visits .entry)) (now (visits .exit)) r ⌝ }
 {
     let checked = check_tables(tables, read);
@@ -76,7 +76,7 @@ pub fn route_read(
     scratch: &mut [u16],
     visits: &mut [u16],
 ) -> Answer
-    requires { ⌜ read ≡ readOf (read .list) ⌝ }
+    requires { ⌜ read ≡ checkedList (read .list) ⌝ }
     ensures { λ r. ⌜ Routed (questionOf (now (plan .entry)) width height tables (read .list) source sink) (now (scratch .entry)) (now (scratch .exit)) (now (visits .entry)) (now (visits .exit)) r ⌝ }
 {
     let grid = check_plan(plan, width, height);

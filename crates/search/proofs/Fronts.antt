@@ -17,7 +17,7 @@ use Rattle.budget.proofs.Active.{max-same, arrival-row, given-row, layer-least}
 use Rattle.budget.proofs.Search.{Arrived, seed-cases, seed-source, seed-arrived, same-table}
 use Rattle.budget.proofs.Turns.{layer-found, pending-turn, wave-turn, none-turn}
 use Rattle.layout.specs.Layout.{labelsAt, orderAt, activeAt}
-use Rattle.lists.specs.Lists.{Place}
+use Rattle.lists.specs.Lists.{ListedAt}
 use Rattle.lists.proofs.Lists.{empty-flags}
 use Rattle.rows.specs.Words.{Kept}
 use Rattle.table.specs.Problem.{budgetOf, seedOf}
@@ -71,7 +71,7 @@ module _ (R : Rules) (law : Lawful R) (n : ℕ) (cells : R .cellCount ≡ n) whe
     w : Waiting R n words k s active at end count
     w = f .waiting
 
-    place-seed : (c : ℕ) → Place n words (n * orderAt) count c → Arrived (labelsOf n words) k s c → T (seedOf n words c)
+    place-seed : (c : ℕ) → ListedAt n words (n * orderAt) count c → Arrived (labelsOf n words) k s c → T (seedOf n words c)
     place-seed c p a = go (split at (p .at)) (split end (p .at))
       where
         registers-are : registersOf n words (orderOf n words (p .at)) ≡ registersOf n words c
@@ -97,13 +97,13 @@ module _ (R : Rules) (law : Lawful R) (n : ℕ) (cells : R .cellCount ≡ n) whe
     pub front-seeds : (c : ℕ) → c < n → seedOf n words c ≡ seedAt R (labelsOf n words) k s c
     front-seeds c h = bool-same (seedOf n words c) (seedAt R (labelsOf n words) k s c) (λ t. to (w .seeds c h t)) (λ t. back (seed-cases R (labelsOf n words) k s c t))
       where
-        arrived : Place n words (n * orderAt) at c → Arrived (labelsOf n words) k s c
+        arrived : ListedAt n words (n * orderAt) at c → Arrived (labelsOf n words) k s c
         arrived p = rw (p .holds) at early
           where
             early : Arrived (labelsOf n words) k s (orderOf n words (p .at))
             early = record { known = w .ordered .known (p .at) (omega (arith, p .below, w .atEnd, w .endCount)); early = w .past (p .at) (p .below) }
 
-        to : (c ≡ R .source) ⊎ Place n words (n * orderAt) at c → T (seedAt R (labelsOf n words) k s c)
+        to : (c ≡ R .source) ⊎ ListedAt n words (n * orderAt) at c → T (seedAt R (labelsOf n words) k s c)
         to (inl e) = seed-source R (labelsOf n words) k s c e
         to (inr p) = seed-arrived R (labelsOf n words) k s c (arrived p)
 
@@ -179,10 +179,10 @@ module _ (R : Rules) (law : Lawful R) (n : ℕ) (cells : R .cellCount ≡ n) whe
             later : at < end → s < stepsOf n new (orderOf n new at)
             later h = rw (order-steps n words new count (w .ordered) (l .labels) at (omega (arith, w .endCount))) (f .late h)
 
-            seeds : (c : ℕ) → c < n → T (seedOf n words c) → (c ≡ R .source) ⊎ Place n new (n * orderAt) at c
+            seeds : (c : ℕ) → c < n → T (seedOf n words c) → (c ≡ R .source) ⊎ ListedAt n new (n * orderAt) at c
             seeds c h t = go (w .seeds c h t)
               where
-                go : (c ≡ R .source) ⊎ Place n words (n * orderAt) at c → (c ≡ R .source) ⊎ Place n new (n * orderAt) at c
+                go : (c ≡ R .source) ⊎ ListedAt n words (n * orderAt) at c → (c ≡ R .source) ⊎ ListedAt n new (n * orderAt) at c
                 go (inl e) = inl e
                 go (inr p) = inr (record { at = p .at; below = p .below; holds = order-same n words new count (w .ordered) (l .labels) (p .at) (omega (arith, p .below, w .atEnd, w .endCount)) ∙ p .holds })
 
@@ -192,17 +192,17 @@ module _ (R : Rules) (law : Lawful R) (n : ℕ) (cells : R .cellCount ≡ n) whe
     -- After a layer that changed nothing: the next label that waits, the next wave, or no route.
     module _ (quiet : Next R (labelsOf n words) k s (budgetOf n words) (budgetOf n words)) where
       -- the place of a labelled cell in the order
-      place : (c : ℕ) → T (knownOf n words c) → Place n words (n * orderAt) count c
+      place : (c : ℕ) → T (knownOf n words c) → ListedAt n words (n * orderAt) count c
       place c t = w .ordered .covered c t
 
-      label-at : (c : ℕ) (p : Place n words (n * orderAt) count c) → (registersOf n words (orderOf n words (p .at)) ≡ registersOf n words c) × (stepsOf n words (orderOf n words (p .at)) ≡ stepsOf n words c)
+      label-at : (c : ℕ) (p : ListedAt n words (n * orderAt) count c) → (registersOf n words (orderOf n words (p .at)) ≡ registersOf n words c) × (stepsOf n words (orderOf n words (p .at)) ≡ stepsOf n words c)
       label-at c p = (ap (registersOf n words) (p .holds), ap (stepsOf n words) (p .holds))
 
       -- labels with registers and a place before `end` that wait have at least the steps of the first that waits
       idle : at < end → IdleUntil (labelsOf n words) k s (stepsOf n words (orderOf n words at))
       idle h c t e = go (place c t)
         where
-          go : Place n words (n * orderAt) count c → (stepsOf n words c ≤ s) ⊎ (stepsOf n words (orderOf n words at) ≤ stepsOf n words c)
+          go : ListedAt n words (n * orderAt) count c → (stepsOf n words c ≤ s) ⊎ (stepsOf n words (orderOf n words at) ≤ stepsOf n words c)
           go p = pick (split at (p .at)) (split end (p .at))
             where
               early : NotAfter (suc (registersOf n words (orderOf n words (p .at)))) (stepsOf n words (orderOf n words (p .at))) k s → stepsOf n words c ≤ s
@@ -240,7 +240,7 @@ module _ (R : Rules) (law : Lawful R) (n : ℕ) (cells : R .cellCount ≡ n) whe
       none-waits : at ≡ end → NonePending (labelsOf n words) k s
       none-waits e c t q = go (place c t)
         where
-          go : Place n words (n * orderAt) count c → stepsOf n words c ≤ s
+          go : ListedAt n words (n * orderAt) count c → stepsOf n words c ≤ s
           go p = pick (split at (p .at))
             where
               early : NotAfter (suc (registersOf n words (orderOf n words (p .at)))) (stepsOf n words (orderOf n words (p .at))) k s → stepsOf n words c ≤ s
@@ -252,7 +252,7 @@ module _ (R : Rules) (law : Lawful R) (n : ℕ) (cells : R .cellCount ≡ n) whe
               pick (inl z) = absurd (omega (arith, w .own (p .at) (omega arith) (p .below), label-at c p))
 
       -- a label with k registers is this wave's own
-      own-place : (c : ℕ) → T (knownOf n words c) → registersOf n words c ≡ k → (p : Place n words (n * orderAt) count c) → at ≡ end → end ≤ p .at
+      own-place : (c : ℕ) → T (knownOf n words c) → registersOf n words c ≡ k → (p : ListedAt n words (n * orderAt) count c) → at ≡ end → end ≤ p .at
       own-place c t q p e = pick (split end (p .at))
         where
           never : NotAfter (suc (registersOf n words (orderOf n words (p .at)))) (stepsOf n words (orderOf n words (p .at))) k s → ⊥
@@ -288,7 +288,7 @@ module _ (R : Rules) (law : Lawful R) (n : ℕ) (cells : R .cellCount ≡ n) whe
           first : (c : ℕ) → T (knownOf n words c) → registersOf n words c ≡ k → stepsOf n words (orderOf n words at) ≤ stepsOf n words c
           first c t q = go (place c t)
             where
-              go : Place n words (n * orderAt) count c → stepsOf n words (orderOf n words at) ≤ stepsOf n words c
+              go : ListedAt n words (n * orderAt) count c → stepsOf n words (orderOf n words at) ≤ stepsOf n words c
               go p = sorted (w .ordered .ascending at (p .at) (omega (arith, own-place c t q p e)) (p .below))
                 where
                   sorted : NotAfter (registersOf n words (orderOf n words at)) (stepsOf n words (orderOf n words at)) (registersOf n words (orderOf n words (p .at))) (stepsOf n words (orderOf n words (p .at))) → stepsOf n words (orderOf n words at) ≤ stepsOf n words c
@@ -298,5 +298,5 @@ module _ (R : Rules) (law : Lawful R) (n : ℕ) (cells : R .cellCount ≡ n) whe
       pub none-front : at ≡ end → end ≡ count → (p q : ℕ) → FromSink R p q → ⊥
       none-front e g = none-turn R law (w .searching) quiet (none-waits e) (λ c t q. go c t q (place c t))
         where
-          go : (c : ℕ) → T (knownOf n words c) → registersOf n words c ≡ k → Place n words (n * orderAt) count c → ⊥
+          go : (c : ℕ) → T (knownOf n words c) → registersOf n words c ≡ k → ListedAt n words (n * orderAt) count c → ⊥
           go c t q p = omega (arith, own-place c t q p e, p .below)

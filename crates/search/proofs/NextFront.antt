@@ -18,7 +18,7 @@ use Rattle.budget.proofs.Search.{same-table}
 use Rattle.budget.proofs.Turns.{search-start, layer-turn}
 use Rattle.budget.proofs.Colours.{source-in-step, label-in-step}
 use Rattle.layout.specs.Layout.{labelsAt, orderAt, activeAt, listedAt, seedsAt}
-use Rattle.lists.specs.Lists.{flagOf, Place}
+use Rattle.lists.specs.Lists.{flagOf, ListedAt}
 use Rattle.lists.proofs.Lists.{bit-cases, listed-kept}
 use Rattle.rows.specs.Words.{Kept}
 use Rattle.table.specs.Problem.{budgetOf, seedOf}
@@ -166,7 +166,7 @@ module _ (R : Rules) (law : Lawful R) (n : ℕ) (cells : R .cellCount ≡ n) (wo
         labelsLow = λ c t. low c t (decided (knownOf n words c));
       }
     where
-      seeds : (c : ℕ) → (c ≡ R .source) ⊎ Place n words (n * orderAt) at c → (c ≡ R .source) ⊎ Place n last (n * orderAt) at c
+      seeds : (c : ℕ) → (c ≡ R .source) ⊎ ListedAt n words (n * orderAt) at c → (c ≡ R .source) ⊎ ListedAt n last (n * orderAt) at c
       seeds c (inl e) = inl e
       seeds c (inr p) = inr (record { at = p .at; below = p .below; holds = order-last (p .at) (omega (arith, p .below, w .atEnd, w .endCount)) ∙ p .holds })
 
@@ -241,14 +241,14 @@ module _ (R : Rules) (n : ℕ) (inPlan : R .source < n) (words : List ℕ) (k s 
           rw (order-same n words new count (w .ordered) labels-kept i (before i h))
           (word-seed n new (orderOf n words i) (a .arrived .seedsStay (orderOf n words i) (w .ordered .cells i (before i h)) (seed-word n words (orderOf n words i) (w .orderSeed i q))))
 
-      place : (c i : ℕ) → i < to → orderOf n words i ≡ c → Place n new (n * orderAt) to c
+      place : (c i : ℕ) → i < to → orderOf n words i ≡ c → ListedAt n new (n * orderAt) to c
       place c i h e = record { at = i; below = h; holds = order-same n words new count (w .ordered) labels-kept i (before i h) ∙ e }
 
-      seeds : (c : ℕ) → c < n → T (seedOf n new c) → ((i : ℕ) × (at ≤ i) × (i < to) × (orderOf n words i ≡ c)) ⊎ ((i : ℕ) → at ≤ i → i < to → orderOf n words i ≡ c → ⊥) → (c ≡ R .source) ⊎ Place n new (n * orderAt) to c
+      seeds : (c : ℕ) → c < n → T (seedOf n new c) → ((i : ℕ) × (at ≤ i) × (i < to) × (orderOf n words i ≡ c)) ⊎ ((i : ℕ) → at ≤ i → i < to → orderOf n words i ≡ c → ⊥) → (c ≡ R .source) ⊎ ListedAt n new (n * orderAt) to c
       seeds c h t (inl p) = inr (place c (p .0) (p .2) (p .3))
       seeds c h t (inr f) = old (w .seeds c h (word-seed n words c (sym (a .arrived .otherSeeds c h f) ∙ seed-word n new c t)))
         where
-          old : (c ≡ R .source) ⊎ Place n words (n * orderAt) at c → (c ≡ R .source) ⊎ Place n new (n * orderAt) to c
+          old : (c ≡ R .source) ⊎ ListedAt n words (n * orderAt) at c → (c ≡ R .source) ⊎ ListedAt n new (n * orderAt) to c
           old (inl e) = inl e
           old (inr p) = inr (place c (p .at) (omega (arith, p .below, a .arrived .forth)) (p .holds))
 
@@ -298,6 +298,6 @@ module _ (R : Rules) (n : ℕ) (inPlan : R .source < n) (words : List ℕ) (blan
       unknown c t =
           unknown-not (word-unknown n new c (p .low (n * labelsAt + c) (omega (arith, known-below n new c t)) ∙ blank .labels (n * labelsAt + c) (omega arith) (omega (arith, known-below n new c t)))) t
 
-      seeds : (c : ℕ) → c < n → T (seedOf n new c) → (c ≡ R .source) ⊎ (c ≡ R .source → ⊥) → (c ≡ R .source) ⊎ Place n new (n * orderAt) 0 c
+      seeds : (c : ℕ) → c < n → T (seedOf n new c) → (c ≡ R .source) ⊎ (c ≡ R .source → ⊥) → (c ≡ R .source) ⊎ ListedAt n new (n * orderAt) 0 c
       seeds c h t (inl e) = inl e
       seeds c h t (inr e) = absurd (omega (arith, seed-word n new c t, p .otherSeeds c h e, blank .labels (n * seedsAt + c) (omega arith) (omega arith)))

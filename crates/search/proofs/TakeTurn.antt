@@ -24,7 +24,7 @@ use Rattle.labels.proofs.Labels.{known-below, known-kept, label-kept, labelled-
 use Rattle.search.specs.declared.turns.Progress.{Progress}
 use Rattle.search.specs.declared.turns.Turn.{Turn}
 use Rattle.search.specs.Front.{total, Front}
-use Rattle.search.specs.Turn.{FrontOf, WaitingOf, quietTurn, Advance, TurnDone, TurnEffect}
+use Rattle.search.specs.Turn.{FrontOf, WaitingOf, turnWhenQuiet, Advance, TurnDone, TurnEffect}
 use Rattle.search.proofs.Total.{total-kept}
 use Rattle.search.proofs.Fronts.{layer-seeds, front-seeds, front-grows, front-sink, same-total, quiet-front, pending-front, wave-front, none-front}
 use Rattle.search.proofs.NextFront.{grown-front}
@@ -58,7 +58,7 @@ module _ (R : Rules) (law : Lawful R) (n : ℕ) (cells : R .cellCount ≡ n) whe
       quiet : Next R (labelsOf n new) k s (budgetOf n new) (budgetOf n new)
       quiet = quiet-next new k s (f .at) (f .end) (f .count) front′
 
-      pub turn-quiet : (t : Turn) → t ≡ quietTurn n new f → TurnEffect R n words f new t
+      pub turn-quiet : (t : Turn) → t ≡ turnWhenQuiet n new f → TurnEffect R n words f new t
       turn-quiet t e = record { same = l .same; rest = rest; done = go (equal (f .at) (f .end)) (equal (f .end) (f .count)) }
         where
           go : (f .at ≡ f .end) ⊎ (f .at ≡ f .end → ⊥) → (f .end ≡ f .count) ⊎ (f .end ≡ f .count → ⊥) → TurnDone R n words f new t

@@ -9,7 +9,7 @@ use Rattle.rules.specs.Rules.{Rules}
 use Rattle.budget.specs.Done.{NotAfter}
 use Rattle.budget.specs.Search.{Searching}
 use Rattle.layout.specs.Layout.{arrivalAt, orderAt}
-use Rattle.lists.specs.Lists.{sumBelow, Place}
+use Rattle.lists.specs.Lists.{sumBelow, ListedAt}
 use Rattle.table.specs.Problem.{budgetOf, seedOf}
 use Rattle.table.specs.Layer.{Active}
 use Rattle.table.specs.Colours.{Coloured}
@@ -27,7 +27,7 @@ pub record Waiting (R : Rules) (n : ℕ) (words : List ℕ) (k s active at end c
   pub sourceIn : R .source < n
   pub sourceSeed : T (seedOf n words (R .source))
   pub orderSeed : (i : ℕ) → i < at → T (seedOf n words (orderOf n words i))
-  pub seeds : (c : ℕ) → c < n → T (seedOf n words c) → (c ≡ R .source) ⊎ Place n words (n * orderAt) at c
+  pub seeds : (c : ℕ) → c < n → T (seedOf n words c) → (c ≡ R .source) ⊎ ListedAt n words (n * orderAt) at c
   pub past : (i : ℕ) → i < at → NotAfter (suc (registersOf n words (orderOf n words i))) (stepsOf n words (orderOf n words i)) k s
   pub waits : (i : ℕ) → at ≤ i → i < end → suc (registersOf n words (orderOf n words i)) ≡ k
   pub own : (i : ℕ) → end ≤ i → i < count → registersOf n words (orderOf n words i) ≡ k

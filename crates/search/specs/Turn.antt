@@ -22,8 +22,8 @@ abbrev pub WaitingOf : Rules → ℕ → List ℕ → Progress → Type 0
 WaitingOf R n words f = Waiting R n words (f .registers) (f .steps) (f .active) (f .at) (f .end) (f .count)
 
 -- the next label that waits, the next wave, or nothing
-unfoldable pub quietTurn : ℕ → List ℕ → Progress → Turn
-quietTurn n words f =
+unfoldable pub turnWhenQuiet : ℕ → List ℕ → Progress → Turn
+turnWhenQuiet n words f =
     cond (eqb (f .at) (f .end))
     (cond (eqb (f .end) (f .count)) Turn.Nothing
     (Turn.On

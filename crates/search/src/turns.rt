@@ -6,7 +6,7 @@ ghost use Rattle.costs.specs.Costs.{CostsOf};
 ghost use Rattle.layout.specs.Layout.{trailAt};
 ghost use Rattle.table.specs.Problem.{Ready, Room, rulesFor};
 ghost use Rattle.labels.specs.Labels.{Ordered};
-ghost use Rattle.search.specs.Turn.{FrontOf, quietTurn, TurnEffect};
+ghost use Rattle.search.specs.Turn.{FrontOf, turnWhenQuiet, TurnEffect};
 use costs::COSTS;
 use labels::fresh_in;
 use labels::label_active;
@@ -38,7 +38,7 @@ pub enum Turn {
 // After a layer that changed nothing.
 fn after_quiet(scratch: &[u16], n: usize, f: Progress) -> Turn
     requires { ⌜ Ordered n (now scratch) (f .count) × ((f .at ≤ f .end) × ((f .end ≤ f .count) × ((f .registers ≤ f .end) × ((n ≤ 1024) × (n * trailAt ≤ length (now scratch)))))) ⌝ }
-    ensures { λ r. ⌜ r ≡ quietTurn n (now (scratch .entry)) f ⌝ }
+    ensures { λ r. ⌜ r ≡ turnWhenQuiet n (now (scratch .entry)) f ⌝ }
 {
     let at = f.at;
     let end = f.end;

@@ -20,7 +20,7 @@ use Rattle.session.proofs.Answered.{open-done}
 use Rattle.session_model.specs.Asks.{Ask, gives, answerTo}
 use Rattle.session_model.specs.Calls.{Move, Call, move, undo, ask, reply}
 use Rattle.session_model.specs.Model.{laid, entries, history, moveNumber, standing, modelGives, modelView, modelLines, standingAfter}
-use Rattle.session_model.specs.Run.{start, callGives, next, viewOf, sessionLines, givenAt, stateAfter, movesOf}
+use Rattle.session_model.specs.Run.{start, callGives, next, sessionView, sessionLines, givenAt, stateAfter, movesOf}
 use Rattle.session_model.specs.Demand3.{Opens, Answered, Refused, Demand3}
 use Rattle.session_model.proofs.Laid.{Stands, none, more, laid-valid}
 use Rattle.session_model.proofs.Entries.{history-length}
@@ -36,8 +36,8 @@ module _ (p : Plan) (ok : checkedPlan p ≡ PlanCheck.Valid) (rest : List ℕ) w
   turn (m ∷ before) (more s inside fair space) undo = undo-turn p ok rest m before s inside fair space
   turn moves s (ask a) = record { gave = ap reply (gives-is a (laid (p .marks) moves)); left = refl; stands = s }
 
-  view-is : (moves : List Move) → Stands p moves → viewOf (modelState p moves rest) ≡ modelView p moves
-  unfolding viewOf modelState modelView
+  view-is : (moves : List Move) → Stands p moves → sessionView (modelState p moves rest) ≡ modelView p moves
+  unfolding sessionView modelState modelView
   view-is moves s = rw (take-at (history (p .marks) moves) rest journalBytes (history-length (p .marks) moves (stands-few p s)))
 
   -- a list of calls, from any standing moves
@@ -107,7 +107,7 @@ module _ (p : Plan) (ok : checkedPlan p ≡ PlanCheck.Valid) (journal : List ℕ
   unfolding modelState
   sides-after = rw state-is (laid-valid p stand ok standing-moves)
 
-  view-after : viewOf (stateAfter (start p journal) calls) ≡ modelView p stand
+  view-after : sessionView (stateAfter (start p journal) calls) ≡ modelView p stand
   view-after = rw state-is (view-is p ok rest stand standing-moves)
 
   marks-after : stateAfter (start p journal) calls .marks ≡ laid (p .marks) stand

@@ -14,7 +14,7 @@ use Rattle.session.specs.Steps.{stateOf}
 use Rattle.session_model.specs.Asks.{Ask, Reply, Alike, gives, ByRules}
 use Rattle.session_model.specs.Calls.{Move, Call, move, undo, ask, number, reply, Line}
 use Rattle.session_model.specs.Model.{laid, modelView, modelLines, standingAfter}
-use Rattle.session_model.specs.Run.{start, callGives, next, viewOf, sessionLines, givenAt, stateAfter, movesOf}
+use Rattle.session_model.specs.Run.{start, callGives, next, sessionView, sessionLines, givenAt, stateAfter, movesOf}
 
 -- an opening on this plan with this journal answers 0
 abbrev pub Opens : Plan → List ℕ → Type 0
@@ -33,13 +33,13 @@ pub record Answered (p : Plan) (journal : List ℕ) (calls : List Call) : Type 0
   -- each question of the list got the whole reply, answer and words filled, that the rules give for the model's plan at its place: with the moves that stand after the calls before it
   pub questions : (before later : List Call) (a : Ask) → calls ≡ before ++ (ask a ∷ later) → AnsweredAt (sessionLines (start p journal) calls) (length before) a (laid (p .marks) (standingAfter p [] before))
   -- the whole list left what the model has
-  pub last : viewOf (stateAfter (start p journal) calls) ≡ modelView p (standingAfter p [] calls)
+  pub last : sessionView (stateAfter (start p journal) calls) ≡ modelView p (standingAfter p [] calls)
   -- the journal's bytes beyond the used ones stay
   pub beyond : drop journalBytes (stateAfter (start p journal) calls .journal) ≡ drop journalBytes journal
   -- the record's sides and the plan's bytes make a valid plan: a question asked with these sides is not refused with 1, 2 or 3
   pub sides : let s = stateAfter (start p journal) calls in checkedPlan (planOf (s .session .width) (s .session .height) (s .marks)) ≡ PlanCheck.Valid
   -- a second session on the same plan, given only the moves that still stand, is alike
-  pub twin : (other : List ℕ) → Opens p other → viewOf (stateAfter (start p other) (movesOf (standingAfter p [] calls))) ≡ viewOf (stateAfter (start p journal) calls)
+  pub twin : (other : List ℕ) → Opens p other → sessionView (stateAfter (start p other) (movesOf (standingAfter p [] calls))) ≡ sessionView (stateAfter (start p journal) calls)
   -- and gives the same answer to every question put to both
   pub twin-answers : (other : List ℕ) → Opens p other → (a b : Ask) → Alike a b → gives a (stateAfter (start p journal) calls .marks) ≡ gives b (stateAfter (start p other) (movesOf (standingAfter p [] calls)) .marks)
 

@@ -23,8 +23,8 @@ next s (move m) = moved s (m .cell) (m .marks) .state
 next s undo = undone s .state
 next s (ask a) = s
 
-unfoldable pub viewOf : State → View
-viewOf s =
+unfoldable pub sessionView : State → View
+sessionView s =
     record {
       marks = s .marks;
       width = s .session .width;
@@ -35,7 +35,7 @@ viewOf s =
 
 unfoldable pub sessionLines : State → List Call → List Line
 sessionLines s [] = []
-sessionLines s (c ∷ calls) = record { given = callGives s c; view = viewOf (next s c) } ∷ sessionLines (next s c) calls
+sessionLines s (c ∷ calls) = record { given = callGives s c; view = sessionView (next s c) } ∷ sessionLines (next s c) calls
 
 -- what the call at a place of the list was given; past the end a number, which no question gets
 unfoldable pub givenAt : List Line → ℕ → Given

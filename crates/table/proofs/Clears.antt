@@ -10,7 +10,7 @@ use Rattle.plan.proofs.Truth.{split, equal}
 use Rattle.layout.specs.Layout.{activeAt, listedAt, seedsAt, cellWords}
 use Rattle.rows.specs.Words.{Kept, KeptFrom}
 use Rattle.costs.specs.Costs.{CostsOf}
-use Rattle.lists.specs.Lists.{flagOf, Place, Listed}
+use Rattle.lists.specs.Lists.{flagOf, ListedAt, Listed}
 use Rattle.lists.proofs.Lists.{bit-cases, listed-count}
 use Rattle.trail.specs.declared.Trail.{Trail}
 use Rattle.trail.specs.Trail.{Sound}
@@ -48,7 +48,7 @@ clear-all {n} {active} {old} {now} listed f =
       rest = f .rest;
     }
   where
-    listed-clear : (c : ℕ) → Place n old (n * activeAt) active c → flagOf n now c ≡ 0
+    listed-clear : (c : ℕ) → ListedAt n old (n * activeAt) active c → flagOf n now c ≡ 0
     listed-clear c p = rw (p .holds) at (f .cleared (p .at) (p .below))
 
     clear : (c : ℕ) → c < n → (flagOf n old c ≡ 0) ⊎ (flagOf n old c ≡ 1) → (flagOf n now c ≡ 0) ⊎ (flagOf n now c ≡ flagOf n old c) → flagOf n now c ≡ 0

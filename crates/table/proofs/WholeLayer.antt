@@ -13,7 +13,7 @@ use Rattle.budget.proofs.Active.{pushes-layer, given-most, layer-least, arrival
 use Rattle.costs.specs.Costs.{rowWords}
 use Rattle.layout.specs.Layout.{activeAt, listedAt, seedsAt, trailAt}
 use Rattle.rows.specs.Words.{Kept}
-use Rattle.lists.specs.Lists.{flagOf, Place, Listed, Taken}
+use Rattle.lists.specs.Lists.{flagOf, ListedAt, Listed, Taken}
 use Rattle.lists.proofs.Lists.{bit-cases, listed-count}
 use Rattle.trail.specs.declared.Trail.{Trail}
 use Rattle.trail.specs.Trail.{Sound, TrailKept, History}
@@ -89,7 +89,7 @@ module _ (R : Rules) (n : ℕ) (t : Trail) (old mid pushed new : List ℕ) (acti
   all : {P : ℕ → Bool} {count : ℕ} → ActiveIn R n P old count → (x c l : ℕ) → x < n → T (P x) → given R B x c l ≤ budgetOf n new c l
   all right x c l h t = go (bit-cases (flagOf n old x) (start .bits x h))
     where
-      listed : Place n old (n * activeAt) active x → given R B x c l ≤ budgetOf n new c l
+      listed : ListedAt n old (n * activeAt) active x → given R B x c l ≤ budgetOf n new c l
       listed p =
           let q : given R B (getD old (n * activeAt + p .at) 0) c l ≤ budgetOf n new c l = omega (arith, gives (p .at) (p .below) c l, spread .gave (p .at) (p .below) c l, final-budget c l) in
           rw (p .holds) at q

@@ -12,7 +12,7 @@ use Rattle.answers.specs.declared.answer.Refusal.{Refusal}
 use Rattle.answers.specs.declared.answer.Answer.{Answer}
 use Rattle.text.specs.Decimal.{decimal}
 use Rattle.text.specs.Put.{Put}
-use Rattle.text.specs.Answers.{newline, space, routeWord, refusedWord, noneLine, noRoute, refusedLine, refusalText, figuresLine, visitLine, visitLines, answerText, Within}
+use Rattle.text.specs.Answers.{newline, space, routeWord, refusedWord, noneLine, noRoute, refusedLine, refusalText, figuresLine, visitLine, visitLines, answerText, VisitsWithin}
 use Rattle.text.proofs.Texts.{put-none, put-then, short, long}
 
 module _ {old new : List ℕ} {r : ℕ} (n : ℕ) where
@@ -46,8 +46,8 @@ unfolding visitLines
 lines-more visits i p q = rw add-one (put-then p q)
 
 -- the visits of an answer that was found are within the words lent
-pub within-found : (a : Answer) (f : Figures) (n : ℕ) → a ≡ Answer.Found f → Within a n → 2 * (f .steps + 1) ≤ n
-unfolding Within
+pub within-found : (a : Answer) (f : Figures) (n : ℕ) → a ≡ Answer.Found f → VisitsWithin a n → 2 * (f .steps + 1) ≤ n
+unfolding VisitsWithin
 within-found a f n e w = rw e at w
 
 pub text-found : (a : Answer) (f : Figures) (visits : List ℕ) → a ≡ Answer.Found f → figuresLine f ++ visitLines visits (f .steps + 1) ≡ answerText a visits

@@ -59,10 +59,10 @@ answerText (NoRoom f) visits = refusalText (answerNumber (NoRoom f))
 answerText (Refused r) visits = refusalText (refusalNumber r)
 
 -- the visits that an answer speaks of stand in this many words
-unfoldable pub Within : Answer → ℕ → Type 0
-Within (Found f) words = 2 * (f .steps + 1) ≤ words
-Within (NoRoom f) words = Unit
-Within (Refused r) words = Unit
+unfoldable pub VisitsWithin : Answer → ℕ → Type 0
+VisitsWithin (Found f) words = 2 * (f .steps + 1) ≤ words
+VisitsWithin (NoRoom f) words = Unit
+VisitsWithin (Refused r) words = Unit
 
 -- bytes that suffice for every answer with so many words of visits: 34 for the first line, 12 a visit
 abbrev pub textRoom : ℕ → ℕ

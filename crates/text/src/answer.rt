@@ -2,7 +2,7 @@
 ghost use Prim.Native.Nat.{_+_, _*_, _≤_};
 ghost use lib.ListN.{length};
 ghost use Rattle.text.specs.Put.{Put};
-ghost use Rattle.text.specs.Answers.{refusalText, figuresLine, visitLine, visitLines, answerText, Within, textRoom};
+ghost use Rattle.text.specs.Answers.{refusalText, figuresLine, visitLine, visitLines, answerText, VisitsWithin, textRoom};
 use crate::put::put_byte;
 use crate::put::put_decimal;
 use crate::put::put_word;
@@ -66,7 +66,7 @@ fn put_visits(visits: &[u16], n: usize, out: &mut [u8], start: usize) -> usize
 
 // The text of a route call's answer.
 pub fn put_answer(answer: Answer, visits: &[u16], out: &mut [u8]) -> usize
-    requires { ⌜ Within answer (length (now visits)) × (textRoom (length (now visits)) ≤ length (now out)) ⌝ }
+    requires { ⌜ VisitsWithin answer (length (now visits)) × (textRoom (length (now visits)) ≤ length (now out)) ⌝ }
     ensures { λ r. ⌜ Put (answerText answer (now (visits .entry))) 0 r (now (out .entry)) (now (out .exit)) ⌝ }
 {
     match answer {

@@ -1,7 +1,7 @@
--- The question of the words is the one that the route call was asked.
+-- The question of the words is the one that the route call was benchQuestion.
 use mathlib.Core.Path.{ap, _∙_}
 use borrow.Author.Needs.{needs}
-use Rattle.bench_entry.specs.Words.{asked, figureWords}
+use Rattle.bench_entry.specs.Words.{benchQuestion, figureWords}
 use Rattle.answers.specs.Numbers.{answerNumber}
 use Rattle.bench_entry.proofs.ask.Statement.{statement}
 use Rattle.bench_entry.proofs.ask.Tie as tie
@@ -31,7 +31,7 @@ same-length-3 : tie.Need-same-length-3
 same-length-3 c = search needs
 
 returns : tie.Need-returns
-unfolding asked
+unfolding benchQuestion
 returns c =
     let done = rw (c .before .before .before .before .before .before .before .before .before .before .before .before .before .tables-of .ensures, c .before .before .before .before .before .before .before .before .before .before .before .before .read-buffers .ensures) at (c .before .before .before .before .before .before .before .before .before .route-with .ensures) in
     record {

@@ -49,7 +49,7 @@ use Rattle.answers.specs.declared.records.Tables.{Tables as Tablesᴰ}
 use Rattle.answers.proofs.records.Tables as Tablesᵀ
 use Rattle.answers.proofs.records.Tables.Laws as Tablesᴸ
 use Rattle.answers.specs.Lists.{listOf}
-use Rattle.answers.specs.Tables.{readOf}
+use Rattle.answers.specs.Tables.{checkedList}
 use Rattle.answers.proofs.FirstFault.{read-own}
 use Rattle.router.specs.Route.{questionOf, Routed}
 use Rattle.planner.proofs.buffers.read_buffers as reader
@@ -92,8 +92,8 @@ module _ {M : Type 1} (𝓤 : URA M) (H : Heap 𝓤) (A : Atoms 𝓤) (W : Given
   goes-reader : ent 𝓤 (onEntry 𝓤 H A reader.signature (κ₁, tt) (q₁, tt) (buffers, tt) (sliceVal (buffers .ptr) (length (now buffers)) ∷ [], tt)) (Reader 𝓤 H A at-mem run .pre to-reader)
   goes-reader = qed W ((‵ (flft κ₁ q₁) ⊛ ‵ ftrue) ∷ ‵ (owns (ShrSlice (named 0) κ₁ BufferRecordᵀ.the-row ∷ []) (buffers, tt) (sliceVal (buffers .ptr) (length (now buffers)) ∷ [], tt)) ∷ []) ∵ join ! $ frame ! $ done !
 
-  said-reader : (r : BuffersReadᴰ) → ent 𝓤 (ensured 𝓤 H A reader.ended (reader.clauses 𝓤 H A at-mem run) (κ₁, tt) (buffers, tt) tt r) (fact 𝓤 (r ≡ (readOf (listOf (now buffers)))))
-  said-reader r = exE 𝓤 _ (λ ws. snd∗ 𝓤 (sem 𝓤 H A (lasts reader.ended (κ₁, tt) (buffers, tt) ws)) (fact 𝓤 (r ≡ (readOf (listOf (now buffers))))))
+  said-reader : (r : BuffersReadᴰ) → ent 𝓤 (ensured 𝓤 H A reader.ended (reader.clauses 𝓤 H A at-mem run) (κ₁, tt) (buffers, tt) tt r) (fact 𝓤 (r ≡ (checkedList (listOf (now buffers)))))
+  said-reader r = exE 𝓤 _ (λ ws. snd∗ 𝓤 (sem 𝓤 H A (lasts reader.ended (κ₁, tt) (buffers, tt) ws)) (fact 𝓤 (r ≡ (checkedList (listOf (now buffers))))))
 
   abbrev given : (read : BuffersReadᴰ) (read-val : Val) → RefT (List ℕ) × (ℕ × (ℕ × (Tablesᴰ × (BuffersReadᴰ × (ℕ × (ℕ × (RefT (List ℕ) × (RefT (List ℕ) × (Unit {0})))))))))
   given read read-val = (plan, (width, (height, (t, (read, (source, (sink, (scratch, (visits, tt)))))))))
@@ -104,15 +104,15 @@ module _ {M : Type 1} (𝓤 : URA M) (H : Heap 𝓤) (A : Atoms 𝓤) (W : Given
   abbrev to-work : (read : BuffersReadᴰ) (read-val : Val) → Work 𝓤 H A at-mem run .Ghost
   to-work read read-val = (((κ₀, (κ₂, (κ₃, tt))), (q₀, (q₂, (q₃, tt))), tt, (given read read-val), (passed read read-val)), tt)
 
-  goes-work : (read : BuffersReadᴰ) (read-val : Val) → read ≡ readOf (read .list) → ent 𝓤 (onEntry 𝓤 H A work.signature (κ₀, (κ₂, (κ₃, tt))) (q₀, (q₂, (q₃, tt))) (given read read-val) (passed read read-val)) (Work 𝓤 H A at-mem run .pre (to-work read read-val))
+  goes-work : (read : BuffersReadᴰ) (read-val : Val) → read ≡ checkedList (read .list) → ent 𝓤 (onEntry 𝓤 H A work.signature (κ₀, (κ₂, (κ₃, tt))) (q₀, (q₂, (q₃, tt))) (given read read-val) (passed read read-val)) (Work 𝓤 H A at-mem run .pre (to-work read read-val))
   goes-work read read-val own = qed W ((‵ (flft κ₀ q₀) ⊛ ‵ (flft κ₂ q₂) ⊛ ‵ (flft κ₃ q₃) ⊛ ‵ ftrue) ∷ ‵ (owns (ShrSlice (named 0) κ₀ u8 ∷ u16 ∷ u16 ∷ Tablesᵀ.the-row ∷ BuffersReadᵀ.the-row ∷ u16 ∷ u16 ∷ MutSlice (named 1) κ₂ u16 ∷ MutSlice (named 2) κ₃ u16 ∷ []) (given read read-val) (passed read read-val)) ∷ []) ∵ says ! own $ join ! $ done !
 
   abbrev Done : (read : BuffersReadᴰ) → Answerᴰ → List ℕ → List ℕ → Type 0
   Done read r scratch-end visits-end = Routed (questionOf (now plan) width height t (read .list) source sink) (now scratch) scratch-end (now visits) visits-end r
 
-  exits : (r : Answerᴰ) (v : Val) (scratch-end visits-end : List ℕ) → Done (readOf (listOf (now buffers))) r scratch-end visits-end → length scratch-end ≡ length (now scratch) → length visits-end ≡ length (now visits)
+  exits : (r : Answerᴰ) (v : Val) (scratch-end visits-end : List ℕ) → Done (checkedList (listOf (now buffers))) r scratch-end visits-end → length scratch-end ≡ length (now scratch) → length visits-end ≡ length (now visits)
       → ent 𝓤 (⋆ 𝓤 H A (‵ (Answerᵀ.the-row .own r (v ∷ [])) ∷ (‵ (flft κ₀ q₀) ⊛ ‵ (flft κ₂ q₂) ⊛ ‵ (flft κ₃ q₃) ⊛ ‵ ftrue) ∷ ‵ (finally u16 (name visits) visits-end) ∷ ‵ (finally u16 (name scratch) scratch-end) ∷ ‵ (flft κ₁ q₁) ∷ [])) (Post (v))
-  unfolding readOf
+  unfolding checkedList
   exits r v scratch-end visits-end e scratch-len visits-len =
       qed W (‵ (Answerᵀ.the-row .own r (v ∷ [])) ∷ (‵ (flft κ₀ q₀) ⊛ ‵ (flft κ₂ q₂) ⊛ ‵ (flft κ₃ q₃) ⊛ ‵ ftrue) ∷ ‵ (finally u16 (name visits) visits-end) ∷ ‵ (finally u16 (name scratch) scratch-end) ∷ ‵ (flft κ₁ q₁) ∷ []) ∵
       suffices ! _ (ends-at 𝓤 H A self.ended stayed (self.clauses 𝓤 H A at-mem run) W (((κ₀, (κ₁, (κ₂, (κ₃, tt)))), (q₀, (q₁, (q₂, (q₃, tt)))), bounds, args, vals), tt) (v) r (tt, (tt, (tt, (tt, (tt, (tt, (tt, (scratch-end, (visits-end, tt))))))))) (tt, (tt, (tt, (tt, (tt, (tt, (tt, (scratch-len, (visits-len, tt)))))))))) $ says ! e $
@@ -132,7 +132,7 @@ module _ {M : Type 1} (𝓤 : URA M) (H : Heap 𝓤) (A : Atoms 𝓤) (W : Given
         nothing ! $ move ! (2 ∷ 0 ∷ []) $ fjoin ! $ nothing ! $ move ! (2 ∷ 0 ∷ []) $ join ! $ use2 W (raw (Reader 𝓤 H A at-mem run .pre to-reader)) goes-reader $
         calls-at ! fm (Reader 𝓤 H A at-mem run) known-reader to-reader (and-then ! (load ! (from ! (stop !)) (look ! 25 refl)) (no-more !)) (λ read-val.
         use1 W (later (some (λ (r : BuffersReadᴰ). ((‵ (flft κ₁ q₁) ⊛ ‵ ftrue) ⊛ ‵ (BuffersReadᵀ.the-row .own r (read-val ∷ []))) ⊛ raw (ensured 𝓤 H A reader.ended (reader.clauses 𝓤 H A at-mem run) (κ₁, tt) (buffers, tt) tt r)))) (id⊢ 𝓤 _) $ await ! tt $ pick ! (λ read.
-        split ! $ move ! (1 ∷ []) $ use1 W (raw (fact 𝓤 (read ≡ (readOf (listOf (now buffers)))))) (said-reader read) $ heard ! (read ≡ (readOf (listOf (now buffers)))) (λ read-said. split ! $ move ! (1 ∷ []) $ peeks ! BuffersReadᵀ.the-row (Is BuffersReadᵀ.the-row) (shows 𝓤 H A BuffersReadᵀ.the-row) read (read-val ∷ []) (λ read-is. drop ! $ split ! $ move ! (1 ∷ []) $ drop ! $
+        split ! $ move ! (1 ∷ []) $ use1 W (raw (fact 𝓤 (read ≡ (checkedList (listOf (now buffers)))))) (said-reader read) $ heard ! (read ≡ (checkedList (listOf (now buffers)))) (λ read-said. split ! $ move ! (1 ∷ []) $ peeks ! BuffersReadᵀ.the-row (Is BuffersReadᵀ.the-row) (shows 𝓤 H A BuffersReadᵀ.the-row) read (read-val ∷ []) (λ read-is. drop ! $ split ! $ move ! (1 ∷ []) $ drop ! $
         -- [κ buffers; κ plan; plan; κ scratch; scratch; κ visits; visits; the locals]
         land ! (from ! (stop !)) (init ! 15 refl (LL.lawful BuffersReadᵀ.the-type BuffersReadᴸ.the-laws 𝓤 H A W .typed read _ read-is .0)) $
         assigns ! (addr ! (from ! (fld ! refl (hop ! (look-in ! 19 (sub ! 0 refl (whole !))) (stop !))))) (from ! (stop !)) (init ! 13 refl (tt, tt)) $

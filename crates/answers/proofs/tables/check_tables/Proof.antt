@@ -5,7 +5,7 @@ use borrow.Author.Tests.{le-leb, lt-leb}
 use Rattle.timing.proofs.Checked.{wire-valid, wire-out, register-valid, register-out}
 use Rattle.answers.specs.declared.tables.ElementFault.the-variants.{Nothing}
 use Rattle.answers.specs.declared.tables.BuffersRead.{BuffersRead}
-use Rattle.answers.specs.Tables.{periodInRange, wireOk, registerOk, wireFrom, registerFrom, listFault, readOf, elementsOf}
+use Rattle.answers.specs.Tables.{periodInRange, wireOk, registerOk, wireFrom, registerFrom, listFault, checkedList, elementsOf}
 use Rattle.answers.proofs.FirstFault.{UpToPeriod, UpToLimit, UpToHorizontal, UpToVertical, UpToRegister, period, limit, horizontal, vertical, register, list-first, read-clean, tables-refused, tables-clean, fault-is}
 use Rattle.answers.proofs.tables.check_tables.Statement.{statement}
 use Rattle.answers.proofs.tables.check_tables.Tie as tie
@@ -51,7 +51,7 @@ register-in c =
 
 -- what was read of the list is its check
 fault-in : (c : tie.Start) → c .args .read .fault ≡ listFault (c .args .read .list)
-unfolding readOf
+unfolding checkedList
 fault-in c = ap (λ (r : BuffersRead). r .fault) (c .pre)
 
 refused-requires : tie.Need-refused-requires

@@ -5,7 +5,7 @@ use native.Mathlib.Omega.{arith}
 use borrow.Author.Needs.{needs}
 use borrow.Author.Tests.{le-leb, lt-leb}
 use Rattle.timing.proofs.Checked.{buffer-valid, buffer-out}
-use Rattle.answers.specs.Tables.{bufferOk, bufferFrom, listFault, placesFor, readOf, noBuffers, sixPlaces}
+use Rattle.answers.specs.Tables.{bufferOk, bufferFrom, listFault, placesFor, checkedList, noBuffers, sixPlaces}
 use Rattle.answers.proofs.Scan.{Scanned, scanned-none, scanned-more, scanned-bad, scanned-clean, scanned-all}
 use Rattle.answers.proofs.tables.read_list.Statement.{statement}
 use Rattle.answers.proofs.tables.read_list.Tie as tie
@@ -20,7 +20,7 @@ no-buffers-requires : tie.Need-no-buffers-requires Inv-loop μ-loop
 no-buffers-requires c κs = search needs
 
 returns : tie.Need-returns Inv-loop μ-loop
-unfolding readOf placesFor listFault
+unfolding checkedList placesFor listFault
 returns c = c .no-buffers .ensures ∙ simp (lt-leb _ _ (c .before .if1 .taken))
 
 zero-requires : tie.Need-zero-requires Inv-loop μ-loop
@@ -55,7 +55,7 @@ no-buffers-requires-2 : tie.Need-no-buffers-requires-2 Inv-loop μ-loop
 no-buffers-requires-2 c κs = search needs
 
 returns-2 : tie.Need-returns-2 Inv-loop μ-loop
-unfolding bufferOk readOf placesFor listFault
+unfolding bufferOk checkedList placesFor listFault
 returns-2 c =
     let a = c .before .before .before .before .before .before in
     let out = buffer-out _ _ _ (sym (c .before .before .before .checked .ensures) ∙ c .before .enum-told .given .1) in
@@ -83,7 +83,7 @@ loop-again c =
     (omega arith, rw (v .1) (scanned-more l (a .loop .i) (a .loop .buffers) (a .loop .inv .1) (omega arith) (a .before .before .if1 .left) (v .0)))
 
 returns-3 : tie.Need-returns-3 Inv-loop μ-loop
-unfolding readOf placesFor listFault
+unfolding checkedList placesFor listFault
 returns-3 c =
     let a = c .before in
     let s = a .loop .inv .1 in

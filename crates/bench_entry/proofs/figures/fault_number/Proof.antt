@@ -1,7 +1,7 @@
 -- The place of each case; a buffer's is 6 and the place that it holds.
 use mathlib.Core.Path.{sym, ap}
 use borrow.Author.Needs.{needs}
-use Rattle.bench_entry.specs.Words.{faultNumber}
+use Rattle.bench_entry.specs.Words.{faultPlace}
 use Rattle.bench_entry.proofs.figures.fault_number.Statement.{statement}
 use Rattle.bench_entry.proofs.figures.fault_number.Tie as tie
 
@@ -51,7 +51,7 @@ returns-6 : tie.Need-returns-6
 returns-6 c = search needs
 
 returns-7 : tie.Need-returns-7
-returns-7 c = sym (ap faultNumber (c .before .fault .given .1))
+returns-7 c = sym (ap faultPlace (c .before .fault .given .1))
 
 pub fault-number-spec : {M : Type 1} → statement M
 fault-number-spec =

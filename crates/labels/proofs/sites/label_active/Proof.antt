@@ -5,7 +5,7 @@ use mathlib.Core.List.{List}
 use native.Mathlib.Omega.{arith}
 use lib.ListN.{length, getD}
 use Rattle.layout.specs.Layout.{activeAt}
-use Rattle.lists.specs.Lists.{flagOf, Place, Listed}
+use Rattle.lists.specs.Lists.{flagOf, ListedAt, Listed}
 use Rattle.lists.proofs.Lists.{listed-count}
 use Rattle.table.specs.declared.problem.Problem.{Problem}
 use Rattle.table.specs.Problem.{rulesFor}
@@ -18,7 +18,7 @@ use Rattle.labels.proofs.sites.label_active.Tie as tie
 -- the first i cells have been tried
 abbrev Tried : Problem → List ℕ → ℕ → ℕ → ℕ → List ℕ → ℕ → List ℕ → ℕ → Type 0
 Tried p marks registers steps count old i new known =
-    LabelsAddedAmong (rulesFor p marks) (length marks) (Place (length marks) old (length marks * activeAt) i) registers steps old new count known
+    LabelsAddedAmong (rulesFor p marks) (length marks) (ListedAt (length marks) old (length marks * activeAt) i) registers steps old new count known
 
 module _ (p : Problem) (marks : List ℕ) (active registers steps count : ℕ) (old : List ℕ) (asks : LabelAsks p marks registers steps count old) (listed : Listed (length marks) old (length marks * activeAt) active) where
   abbrev n : ℕ

@@ -37,7 +37,7 @@ use denote.Triple.Spec.{Meets, tripleOf}
 use denote.Triple.Table.{entered, cited}
 use denote.Triple.Walked.{says, Stays, stay-dropped, walkOf, AllGo, goes-dropped, Walks, ends-at, walked, walk-meets}
 use Rattle.answers.specs.Lists.{noBuffer, listOf}
-use Rattle.answers.specs.Tables.{readOf}
+use Rattle.answers.specs.Tables.{checkedList}
 use Rattle.answers.proofs.Lists.{list-is}
 use Rattle.answers.specs.declared.records.BufferRecord.{BufferRecord}
 use Rattle.answers.proofs.records.BufferRecord as T
@@ -113,12 +113,12 @@ module _ {M : Type 1} (𝓤 : URA M) (H : Heap 𝓤) (A : Atoms 𝓤) (W : Given
     goes-make = qed W (‵ ftrue ∷ ‵ (owns (usize ∷ T.the-row ∷ T.the-row ∷ T.the-row ∷ T.the-row ∷ T.the-row ∷ T.the-row ∷ []) given passed) ∷ []) ∵ join ! $ frame ! $ done !
 
     abbrev Made : BuffersRead → Type 0
-    Made r = r ≡ readOf (record { n = count; items = b0 ∷ b1 ∷ b2 ∷ b3 ∷ b4 ∷ b5 ∷ [] })
+    Made r = r ≡ checkedList (record { n = count; items = b0 ∷ b1 ∷ b2 ∷ b3 ∷ b4 ∷ b5 ∷ [] })
 
     said-make : (r : BuffersRead) → ent 𝓤 (ensured 𝓤 H A make.ended (make.clauses 𝓤 H A at-mem run) tt given tt r) (fact 𝓤 (Made r))
     said-make r = exE 𝓤 _ (λ ws. snd∗ 𝓤 (sem 𝓤 H A (lasts make.ended tt given ws)) (fact 𝓤 (Made r)))
 
-  exits : (r : BuffersRead) (v : Val) → r ≡ readOf (listOf (now bs)) → ent 𝓤 (⋆ 𝓤 H A (‵ (L.the-row .own r (v ∷ [])) ∷ (‵ (flft κ q) ⊛ ‵ ftrue) ∷ [])) (Post v)
+  exits : (r : BuffersRead) (v : Val) → r ≡ checkedList (listOf (now bs)) → ent 𝓤 (⋆ 𝓤 H A (‵ (L.the-row .own r (v ∷ [])) ∷ (‵ (flft κ q) ⊛ ‵ ftrue) ∷ [])) (Post v)
   exits r v e =
       qed W (‵ (L.the-row .own r (v ∷ [])) ∷ (‵ (flft κ q) ⊛ ‵ ftrue) ∷ []) ∵
       suffices ! _ (ends-at 𝓤 H A self.ended stayed (self.clauses 𝓤 H A at-mem run) W (((κ, tt), (q, tt), tt, (bs, tt), (sv ∷ [], tt)), tt) v r (tt, tt) (tt, tt)) $ says ! e $
@@ -178,7 +178,7 @@ module _ {M : Type 1} (𝓤 : URA M) (H : Heap 𝓤) (A : Atoms 𝓤) (W : Given
         land ! (from ! (stop !)) (init ! 18 refl (LL.lawful L.the-type L′.the-laws 𝓤 H A W .typed r _ r-is .0)) $
         returns ! (look ! 18 refl) $ forget ! 2 refl $ forget ! 4 refl $ forget ! 6 refl $ forget ! 8 refl $ forget ! 10 refl $ forget ! 12 refl $ forget ! 14 refl $ forget ! 16 refl $ forget ! 18 refl $
         move ! (18 ∷ 19 ∷ []) $ free1 ! $ move ! (16 ∷ 17 ∷ []) $ free1 ! $ move ! (14 ∷ 15 ∷ []) $ free1 ! $ move ! (12 ∷ 13 ∷ []) $ free1 ! $ move ! (10 ∷ 11 ∷ []) $ free1 ! $ move ! (8 ∷ 9 ∷ []) $ free1 ! $ move ! (6 ∷ 7 ∷ []) $ free1 ! $ move ! (4 ∷ 5 ∷ []) $ free1 ! $ move ! (2 ∷ 3 ∷ []) $ free1 ! $ free0 ! $
-        by ! (exits r v (e ∙ ap readOf (list-is (now bs) b0 b1 b2 b3 b4 b5 e0 e1 e2 e3 e4 e5))))))))))))))))))))))))))))))))))))))))
+        by ! (exits r v (e ∙ ap checkedList (list-is (now bs) b0 b1 b2 b3 b4 b5 e0 e1 e2 e3 e4 e5))))))))))))))))))))))))))))))))))))))))
 
 module _ {M : Type 1} (𝓤 : URA M) (H : Heap 𝓤) (A : Atoms 𝓤) (W : Given 𝓤 H A) (at-mem : Memory → SProp 𝓤) (run : Routine → Fun 𝓤) where
   self-walks : (C : Calls 𝓤 H) (Λ : Loops 𝓤 H) → FmC 𝓤 H (W .laws) C → Triple 𝓤 (C #planner·pick-or) (Pick 𝓤 H A at-mem run) → Triple 𝓤 (C #planner·read-six) (Make 𝓤 H A at-mem run) → Walks 𝓤 H A self.ended stayed (WpFn 𝓤 H C Λ code.function) (self.clauses 𝓤 H A at-mem run)

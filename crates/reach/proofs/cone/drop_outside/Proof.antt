@@ -10,7 +10,7 @@ use lib.Dec.{T}
 use lib.ListN.{getD}
 use Rattle.layout.specs.Layout.{activeAt, listedAt, seedsAt}
 use Rattle.rows.specs.Words.{Filled}
-use Rattle.lists.specs.Lists.{flagOf, Place, Listed, Taken}
+use Rattle.lists.specs.Lists.{flagOf, ListedAt, Listed, Taken}
 use Rattle.lists.proofs.Lists.{bit-cases, listed-count}
 use Rattle.table.specs.declared.problem.Problem.{Problem}
 use Rattle.reach.specs.Cone.{ListAsks, ListedInside, DropAsks, Dropped}
@@ -37,14 +37,14 @@ module _ (n active : ℕ) (P : ℕ → Bool) (old : List ℕ) (a : Listed n old 
 
   was : (c : ℕ) → c < n → flagOf n new c ≡ 1 → flagOf n old c ≡ 1
   was c h e =
-      let p : Place n mid (n * activeAt) active c = i .fewer c h (sym (flag-same c) ∙ e) in
+      let p : ListedAt n mid (n * activeAt) active c = i .fewer c h (sym (flag-same c) ∙ e) in
       rw (sym (list-same (p .at) (p .below)) ∙ p .holds) at (a .flagged (p .at) (p .below))
 
   stays : (c : ℕ) → c < n → T (P c) → (flagOf n old c ≡ 0) ⊎ (flagOf n old c ≡ 1) → (flagOf n new c ≡ 0) ⊎ (flagOf n new c ≡ 1) → flagOf n new c ≡ flagOf n old c
   stays c h q (inl e) (inl g) = g ∙ sym e
   stays c h q (inl e) (inr g) = absurd (omega (arith, was c h g))
   stays c h q (inr e) g =
-      let p : Place n old (n * activeAt) active c = a .covered c h e in
+      let p : ListedAt n old (n * activeAt) active c = a .covered c h e in
       let at : getD mid (n * activeAt + p .at) 0 ≡ c = list-same (p .at) (p .below) ∙ p .holds in
       flag-same c ∙ (rw at at (i .inside (p .at) (p .below) (rw at q)) ∙ sym e)
 

@@ -12,7 +12,7 @@ use Rattle.plan.specs.Apart.{apartBy}
 use Rattle.plan.proofs.Truth.{equal}
 use Rattle.budget.specs.Cone.{inCone}
 use Rattle.layout.specs.Layout.{activeAt, nextAt}
-use Rattle.lists.specs.Lists.{flagOf, Place, Enlisted}
+use Rattle.lists.specs.Lists.{flagOf, ListedAt, Enlisted}
 use Rattle.lists.proofs.Lists.{listed-none, enlisted-stays}
 use Rattle.labels.proofs.Labels.{unknown-not}
 use Rattle.reach.specs.Cone.{ListAsks, ListedInside}
@@ -33,7 +33,7 @@ module _ (n : ℕ) (P : ℕ → Bool) (old : List ℕ) where
 
   -- one cell more
   module _ (i count : ℕ) (mid : List ℕ) (f : ListedInside n i P old mid count) where
-    place-more : {c : ℕ} → Place n old (n * activeAt) i c → Place n old (n * activeAt) (i + 1) c
+    place-more : {c : ℕ} → ListedAt n old (n * activeAt) i c → ListedAt n old (n * activeAt) (i + 1) c
     place-more p = record { at = p .at; below = omega arith; holds = p .holds }
 
     not-inside : (T (P (getD old (n * activeAt + i) 0)) → ⊥) → ListedInside n (i + 1) P old mid count
@@ -62,7 +62,7 @@ module _ (n : ℕ) (P : ℕ → Bool) (old : List ℕ) where
           high = λ k h. p .high k h ∙ f .high k h;
         }
       where
-        was : (c : ℕ) → c < n → flagOf n new c ≡ 1 → (c ≡ cell) ⊎ (c ≡ cell → ⊥) → Place n old (n * activeAt) (i + 1) c
+        was : (c : ℕ) → c < n → flagOf n new c ≡ 1 → (c ≡ cell) ⊎ (c ≡ cell → ⊥) → ListedAt n old (n * activeAt) (i + 1) c
         was c h e (inl q) = record { at = i; below = omega arith; holds = sym (q ∙ is) }
         was c h e (inr q) = place-more (f .fewer c h (sym (p .others c h q) ∙ e))
 

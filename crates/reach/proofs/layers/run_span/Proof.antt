@@ -17,7 +17,7 @@ use Rattle.table.specs.Problem.{planFor, rulesFor}
 use Rattle.table.proofs.Spreads.{few-cells}
 use Rattle.table.proofs.Colours.{problem-colouring, coloured-unlinked}
 use Rattle.labels.proofs.Labels.{ordered-count}
-use Rattle.reach.specs.Reach.{Reaching, Started, Current, Trailing}
+use Rattle.reach.specs.Reach.{Running, Started, Current, Trailing}
 use Rattle.search.proofs.Ready.{rules-apart, ready-lawful, ready-cells}
 use Rattle.reach.proofs.Turns.{layer-turn, leap-forth, leap-turn, leap-tables, arrive-turn, drop-turn, cells-in}
 use Rattle.reach.proofs.Trailing.{trail-start, trail-layer, trail-leap, trail-arrive, trail-drop, trail-sound, span-loaded}
@@ -74,7 +74,7 @@ forth j =
     (j .if1 .came)
 
 -- before the arrivals
-middle : (j : tie.Joined1 Inv-loop μ-loop) (old : List ℕ) → let a = j .before .before in let s = start a .args in Turning (s .p) (s .plan .now) (s .count) (s .cell) (s .registers) (s .steps) old (a .loop .scratch) (a .loop .u) (a .loop .active) (a .loop .at) (end a) (a .loop .trail) → Reaching (R a) (cells a) (s .registers) (cone a) old (j .if1 .scratch) (j .if1 .u) (j .if1 .active) (a .loop .at) (end a) (s .count) × Trailing (R a) (cells a) (s .registers) (cone a) old (j .if1 .scratch) (j .if1 .u) (j .if1 .trail)
+middle : (j : tie.Joined1 Inv-loop μ-loop) (old : List ℕ) → let a = j .before .before in let s = start a .args in Turning (s .p) (s .plan .now) (s .count) (s .cell) (s .registers) (s .steps) old (a .loop .scratch) (a .loop .u) (a .loop .active) (a .loop .at) (end a) (a .loop .trail) → Running (R a) (cells a) (s .registers) (cone a) old (j .if1 .scratch) (j .if1 .u) (j .if1 .active) (a .loop .at) (end a) (s .count) × Trailing (R a) (cells a) (s .registers) (cone a) old (j .if1 .scratch) (j .if1 .u) (j .if1 .trail)
 middle j old g =
     let a = j .before .before in
     let law = ready-lawful _ _ (start a .pre .ready) in

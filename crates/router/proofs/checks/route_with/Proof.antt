@@ -1,6 +1,6 @@
 -- `router::checks::route_with` meets its contract: the list is read, and the route call is asked about what was read.
 use borrow.Author.Needs.{needs}
-use Rattle.answers.specs.Tables.{readOf}
+use Rattle.answers.specs.Tables.{checkedList}
 use Rattle.answers.proofs.FirstFault.{read-own}
 use Rattle.router.proofs.checks.route_with.Statement.{statement}
 use Rattle.router.proofs.checks.route_with.Tie as tie
@@ -19,7 +19,7 @@ same-length-2 : tie.Need-same-length-2
 same-length-2 c = search needs
 
 returns : tie.Need-returns
-unfolding readOf
+unfolding checkedList
 returns c = rw (c .before .before .before .before .before .before .before .read-list .ensures) at (c .before .before .before .before .route-read .ensures)
 
 pub route-with-spec : {M : Type 1} → statement M

@@ -1,7 +1,7 @@
 -- The fault that `check_tables` answers, as a number.
 use mathlib.Core.Path.{ap, _∙_}
 use Rattle.answers.specs.declared.tables.TablesCheck.{TablesCheck}
-use Rattle.answers.specs.Tables.{readOf}
+use Rattle.answers.specs.Tables.{checkedList}
 use Rattle.answers.proofs.FirstFault.{tables-fault, read-own}
 use Rattle.timing_check.specs.Faults.{faultNumber, tablesWith, listWith, faultWith}
 use borrow.Author.Needs.{needs}
@@ -18,7 +18,7 @@ number-requires : tie.Need-number-requires
 number-requires c κs = search needs
 
 returns : tie.Need-returns
-unfolding faultWith tablesWith listWith readOf
+unfolding faultWith tablesWith listWith checkedList
 returns c =
     let checked = rw (c .before .before .read-list .ensures) at (c .before .check-tables .ensures) in
     c .number .ensures ∙ ap faultNumber (ap (λ (r : TablesCheck). r .fault) checked ∙ tables-fault _ _)
