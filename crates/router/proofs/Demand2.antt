@@ -7,18 +7,14 @@ use mathlib.Core.List.{List, _++_}
 use mathlib.Core.Logic.{_⊎_, inl, inr}
 use lib.Dec.{T, leb}
 use lib.ListN.{length, drop}
-use Rattle.plan.specs.Plan.{planOf}
 use Rattle.rules.specs.Legal.{Route, legal}
 use Rattle.rules.specs.Ranking.{steps, written, IsBest}
 use Rattle.plan.proofs.Truth.{decided}
-use Rattle.timing.specs.Valid.{Valid}
-use Rattle.answers.specs.Tables.{elementsOf}
 use Rattle.answers.specs.declared.answer.Answer.{Answer}
 use Rattle.answers.specs.declared.answer.Refusal.{Refusal}
 use Rattle.best.specs.Best.{Outcome, found, none, best}
-use Rattle.best.proofs.Document01.{rules-best, rules-none}
 use Rattle.router.specs.Route.{Question, rulesAsked, checks, passes, figuresOf, answerFor, answerAfter, answerOf, visitsFor, visitsAfter, visitsOf}
-use Rattle.router.proofs.Passed.{passed-valid}
+use Rattle.router.proofs.Passed.{asked-best, asked-none}
 
 -- what demand 2 asks of an answer and of the visits afterwards
 pub data Demand2 (q : Question) (visits after : List ℕ) : Answer → Type 0 where
@@ -30,30 +26,15 @@ pub data Demand2 (q : Question) (visits after : List ℕ) : Answer → Type 0 wh
   noRoute : ((r : Route) → T (legal (rulesAsked q) r) → ⊥) → after ≡ visits → Demand2 q visits after (Answer.Refused Refusal.NoRoute)
 
 module _ (q : Question) (scratch visits : List ℕ) (pass : checks q (length scratch) ≡ passes) where
-  valid : Valid (elementsOf (q .tables) (q .buffers))
-  valid = passed-valid q (length scratch) pass
-
-  best-of : (r : Route) → best (rulesAsked q) ≡ found r → IsBest (rulesAsked q) r
-  unfolding rulesAsked
-  best-of r e = rules-best (planOf (q .width) (q .height) (q .marks)) (elementsOf (q .tables) (q .buffers)) (q .source) (q .sink) valid r .0 e
-
-  none-of : best (rulesAsked q) ≡ none → (r : Route) → T (legal (rulesAsked q) r) → ⊥
-  unfolding rulesAsked
-  none-of e = rules-none (planOf (q .width) (q .height) (q .marks)) (elementsOf (q .tables) (q .buffers)) (q .source) (q .sink) valid .0 e
-
-  of-none : ((r : Route) → T (legal (rulesAsked q) r) → ⊥) → best (rulesAsked q) ≡ none
-  unfolding rulesAsked
-  of-none f = rules-none (planOf (q .width) (q .height) (q .marks)) (elementsOf (q .tables) (q .buffers)) (q .source) (q .sink) valid .1 f
-
   -- the outcome decides the answer and the visits
   by-outcome : (o : Outcome) → best (rulesAsked q) ≡ o → Demand2 q visits (visitsFor o visits) (answerFor (q .tables .period) (length visits) o)
   unfolding answerFor visitsFor
-  by-outcome none e = Demand2.noRoute (none-of e) refl
+  by-outcome none e = Demand2.noRoute (asked-none q (length scratch) pass .0 e) refl
   by-outcome (found r) e = go (decided (leb (2 * (steps r + 1)) (length visits)))
     where
       go : T (leb (2 * (steps r + 1)) (length visits)) ⊎ T (not (leb (2 * (steps r + 1)) (length visits))) → Demand2 q visits (cond (leb (2 * (steps r + 1)) (length visits)) (written r ++ drop (length (written r)) visits) visits) (cond (leb (2 * (steps r + 1)) (length visits)) (Answer.Found (figuresOf (q .tables .period) r)) (Answer.NoRoom (figuresOf (q .tables .period) r)))
-      go (inl h) = rw (Rattle.plan.proofs.Truth.is-true (leb (2 * (steps r + 1)) (length visits)) h) (Demand2.isFound r (best-of r e) (lib.Dec.leb→le _ _ h) refl)
-      go (inr h) = rw (Rattle.plan.proofs.Truth.is-false (leb (2 * (steps r + 1)) (length visits)) h) (Demand2.noRoom r (best-of r e) (lib.Dec.nleb→lt _ _ h) refl)
+      go (inl h) = rw (Rattle.plan.proofs.Truth.is-true (leb (2 * (steps r + 1)) (length visits)) h) (Demand2.isFound r (asked-best q (length scratch) pass r .0 e) (lib.Dec.leb→le _ _ h) refl)
+      go (inr h) = rw (Rattle.plan.proofs.Truth.is-false (leb (2 * (steps r + 1)) (length visits)) h) (Demand2.noRoom r (asked-best q (length scratch) pass r .0 e) (lib.Dec.nleb→lt _ _ h) refl)
 
   -- Demand 2, for every question that the checks pass.
   pub demand-2 : Demand2 q visits (visitsOf q scratch visits) (answerOf q scratch visits)
@@ -63,4 +44,4 @@ module _ (q : Question) (scratch visits : List ℕ) (pass : checks q (length scr
   -- 7 if no legal route exists
   pub demand-2-none : ((r : Route) → T (legal (rulesAsked q) r) → ⊥) → answerOf q scratch visits ≡ Answer.Refused Refusal.NoRoute
   unfolding answerOf answerAfter answerFor
-  demand-2-none f = rw (pass, answerAfter, of-none f)
+  demand-2-none f = rw (pass, answerAfter, asked-none q (length scratch) pass .1 f)

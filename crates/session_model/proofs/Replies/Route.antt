@@ -8,19 +8,16 @@ use borrow.Author.Tests.{ne-eqb, le-leb, lt-leb}
 use lib.Dec.{T}
 use lib.ListN.{length, take, replicate, length-replicate}
 use lib.Seq.{take-at}
-use Rattle.plan.specs.Plan.{planOf, cells}
+use Rattle.plan.specs.Plan.{cells}
 use Rattle.plan.specs.Check.{gridFault, lengthFault, checkedPlan}
 use Rattle.rules.specs.Rules.{Rules}
 use Rattle.rules.specs.Legal.{Route, legal}
-use Rattle.rules.specs.Ranking.{steps, written, IsBest}
-use Rattle.best.specs.Best.{found, none, best}
-use Rattle.best.proofs.Document01.{rules-best, rules-none}
-use Rattle.answers.specs.Tables.{elementsOf}
+use Rattle.rules.specs.Ranking.{steps, written}
 use Rattle.answers.specs.declared.answer.Answer.{Answer}
 use Rattle.answers.specs.declared.answer.Refusal.{Refusal}
 use Rattle.emission.proofs.Visits.{written-length}
 use Rattle.router.specs.Route.{Question, rulesAsked, cellsAsked, cellWords, Check, passes, fails, afterPlan, checks, figuresOf, answerAfter, answerOf, visitsAfter, visitsOf, zeroed, scratchAfter, scratchOf}
-use Rattle.router.proofs.Passed.{passed-valid}
+use Rattle.router.proofs.Passed.{asked-best, asked-none}
 use Rattle.router.proofs.Demand2.{Demand2, demand-2}
 use Rattle.session_model.specs.Asks.Route.{RouteAsk, RouteReply, AlikeRoutes, asked, filledWords, zeroedWords, routeGives, zeros, bestReply, checkedReply, routeReply, RouteAnswered, isRefused, noRoute, noRoom, isFound}
 
@@ -37,21 +34,12 @@ written-words R r h = omega (arith, written-length r, some-visit R r h)
 
 -- The rules give one reply, and it is the model's.
 module _ (q : Question) (scratch room : ℕ) where
-  module _ (pass : checks q scratch ≡ passes) where
-    best-found : (r : Route) → IsBest (rulesAsked q) r → best (rulesAsked q) ≡ found r
-    unfolding rulesAsked
-    best-found r b = rules-best (planOf (q .width) (q .height) (q .marks)) (elementsOf (q .tables) (q .buffers)) (q .source) (q .sink) (passed-valid q scratch pass) r .1 b
-
-    best-none : ((r : Route) → T (legal (rulesAsked q) r) → ⊥) → best (rulesAsked q) ≡ none
-    unfolding rulesAsked
-    best-none n = rules-none (planOf (q .width) (q .height) (q .marks)) (elementsOf (q .tables) (q .buffers)) (q .source) (q .sink) (passed-valid q scratch pass) .1 n
-
   pub route-only : {a : RouteReply} → RouteAnswered q scratch room a → a ≡ routeReply q scratch room
   unfolding routeReply checkedReply bestReply
   route-only (isRefused r e) = rw e
-  route-only (noRoute pass n) = rw (pass, best-none pass n)
-  route-only (noRoom r pass b short) = rw (pass, best-found pass r b, lt-leb _ _ short)
-  route-only (isFound r pass b fits) = rw (pass, best-found pass r b, le-leb _ _ fits)
+  route-only (noRoute pass n) = rw (pass, asked-none q scratch pass .1 n)
+  route-only (noRoom r pass b short) = rw (pass, asked-best q scratch pass r .1 b, lt-leb _ _ short)
+  route-only (isFound r pass b fits) = rw (pass, asked-best q scratch pass r .1 b, le-leb _ _ fits)
 
 -- What the call hands back and fills is that reply: its answer and visits are demand 2's.
 module _ (q : Question) (scratch visits : List ℕ) where
