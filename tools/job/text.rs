@@ -1,0 +1,267 @@
+// A plan text to a job; examples/README.md tells the format.
+// It checks the form only: numbers outside their ranges pass, so that the planner's own refusals can be tried.
+
+use crate::cells;
+use crate::job::{Job, BUFFER, BUFFERS, LARGEST, REGISTER, WIRE};
+use crate::words::shown;
+use std::collections::BTreeMap;
+
+// A message about a line of the text.
+pub struct Wrong {
+    pub line: usize,
+    pub message: String,
+}
+
+type Text<T> = Result<T, String>;
+
+pub fn number(word: &str) -> Text<u32> {
+    let digits = !word.is_empty() && word.bytes().all(|b| b.is_ascii_digit());
+    if !digits {
+        return Err(format!("'{}' is not a whole number", shown(word)));
+    }
+    match word.parse::<u64>() {
+        Ok(value) if value <= LARGEST as u64 => Ok(value as u32),
+        _ => Err(format!("{} is above {LARGEST}, the largest number of a job", shown(word))),
+    }
+}
+
+fn one_number(words: &[&str]) -> Text<u32> {
+    match words {
+        [word] => number(word),
+        _ => Err(format!("one number is expected here, not {}", words.len())),
+    }
+}
+
+// Named numbers, each name once, in any order.
+fn named(words: &[&str], names: &[&str]) -> Text<Vec<u32>> {
+    let form = || names.iter().map(|n| format!("{n} NUMBER")).collect::<Vec<_>>().join(" ");
+    let mut values: Vec<Option<u32>> = vec![None; names.len()];
+    for pair in words.chunks(2) {
+        let at = names.iter().position(|name| *name == pair[0]);
+        let at = at.ok_or_else(|| format!("'{}' is not expected here; the form is: {}", shown(pair[0]), form()))?;
+        let word = pair.get(1).ok_or_else(|| format!("{} has no number; the form is: {}", pair[0], form()))?;
+        if values[at].replace(number(word)?).is_some() {
+            return Err(format!("{} is given twice", pair[0]));
+        }
+    }
+    let missing = values.iter().position(|value| value.is_none());
+    match missing {
+        Some(at) => Err(format!("{} is missing; the form is: {}", names[at], form())),
+        None => Ok(values.into_iter().flatten().collect()),
+    }
+}
+
+// What an end's line gives: the cell, or its row and column.
+enum End {
+    Cell(u32),
+    At(u32, u32),
+}
+
+fn end(words: &[&str]) -> Text<End> {
+    match words {
+        [word] => Ok(End::Cell(number(word)?)),
+        [row, column] => Ok(End::At(number(row)?, number(column)?)),
+        _ => Err("an end is a row and a column, or one cell number".to_string()),
+    }
+}
+
+impl End {
+    fn cell(&self, job: &Job) -> Text<u32> {
+        match *self {
+            End::Cell(cell) => Ok(cell),
+            End::At(row, column) if row < job.height && column < job.width => Ok(row * job.width + column),
+            End::At(row, column) => Err(format!(
+                "row {row}, column {column} is outside the plan of {} rows and {} columns (counted from 0)",
+                job.height, job.width
+            )),
+        }
+    }
+}
+
+// The lines in which the parts of a text stand.
+#[derive(Default)]
+pub struct Lines {
+    pub rows: Vec<usize>,
+    pub buffers: Vec<usize>,
+    named: BTreeMap<String, usize>,
+    last: usize,
+}
+
+impl Lines {
+    // A line that is given once; the last one if it is missing.
+    pub fn of(&self, name: &str) -> usize {
+        *self.named.get(name).unwrap_or(&self.last)
+    }
+
+    // The row at this place, or the size where no rows are drawn.
+    pub fn row(&self, place: usize) -> usize {
+        self.rows.get(place).copied().unwrap_or_else(|| self.of("size"))
+    }
+}
+
+const ONCE: [&str; 7] = ["register", "horizontal", "vertical", "period", "limit", "source", "sink"];
+
+const HASH: &str = "'#' starts a comment; a blocked cell is drawn x";
+
+// All that the text has given so far.
+#[derive(Default)]
+struct Parts {
+    job: Job,
+    lines: Lines,
+    hash: bool, // whether the first row has a comment
+    size: Option<(u32, u32)>,
+    source: Option<End>,
+    sink: Option<End>,
+}
+
+impl Parts {
+    fn row(&mut self, line: usize, words: &[&str], comment: Option<&str>) -> Text<()> {
+        let marks = words.iter().map(|word| cells::read(word)).collect::<Text<Vec<u32>>>()?;
+        if comment.is_some_and(cells::drawn) {
+            return Err(HASH.to_string());
+        }
+        let (here, there) = (marks.len() as u32, self.job.width);
+        match self.lines.rows.first() {
+            None => {
+                self.job.width = here;
+                self.hash = comment.is_some();
+            }
+            Some(first) if here != there => {
+                let hint = if comment.is_some() || self.hash { format!(" ({HASH})") } else { String::new() };
+                return Err(format!("this row has {here} cells, the first row (line {first}) has {there}{hint}"));
+            }
+            _ => {}
+        }
+        self.lines.rows.push(line);
+        self.job.height += 1;
+        self.job.marks.extend(marks);
+        Ok(())
+    }
+
+    fn line(&mut self, line: usize, name: &str, words: &[&str], comment: Option<&str>) -> Text<()> {
+        if name == "row" {
+            return self.row(line, words, comment);
+        }
+        if name == "buffer" {
+            self.job.buffers.push(named(words, &BUFFER)?);
+            self.lines.buffers.push(line);
+            return Ok(());
+        }
+        if name != "size" && !ONCE.contains(&name) {
+            let (name, names) = (shown(name), ONCE.join(", "));
+            return Err(format!("'{name}' is not the name of a line; the names are row, size, {names}, buffer"));
+        }
+        if let Some(before) = self.lines.named.insert(name.to_string(), line) {
+            return Err(format!("{name} is given already in line {before}"));
+        }
+        match name {
+            "register" => self.job.register = named(words, &REGISTER)?,
+            "horizontal" => self.job.horizontal = named(words, &WIRE)?,
+            "vertical" => self.job.vertical = named(words, &WIRE)?,
+            "period" => self.job.period = one_number(words)?,
+            "limit" => self.job.limit = one_number(words)?,
+            "source" => self.source = Some(end(words)?),
+            "sink" => self.sink = Some(end(words)?),
+            _ => match words {
+                [width, height] => self.size = Some((number(width)?, number(height)?)),
+                _ => return Err("the form is: size WIDTH HEIGHT".to_string()),
+            },
+        }
+        Ok(())
+    }
+
+    // The plan's size is the rows'; without rows it is the line's, and every cell is open.
+    fn settle_size(&mut self) -> Result<(), Wrong> {
+        let job = &mut self.job;
+        let wrong = |line: usize, message: String| Err(Wrong { line, message });
+        match self.size {
+            None if self.lines.rows.is_empty() => {
+                return wrong(self.lines.last, "the text ends without a row of the plan, and without its size".to_string())
+            }
+            Some((width, height)) if self.lines.rows.is_empty() => (job.width, job.height) = (width, height),
+            Some((width, height)) if (width, height) != (job.width, job.height) => {
+                let drawn = format!("the rows are {} wide and {} high", job.width, job.height);
+                let message = format!("the size is {width} wide and {height} high, but {drawn}");
+                return wrong(self.lines.of("size"), message);
+            }
+            _ => {}
+        }
+        let large = LARGEST as u64;
+        if job.cells() > large || job.width as u64 > large || job.height as u64 > large {
+            return wrong(self.lines.row(0), job.sides());
+        }
+        job.marks.resize(job.cells() as usize, 0);
+        Ok(())
+    }
+
+    // A cell outside a plan whose sides do not fit is the plan's fault.
+    fn end_cell(&self, name: &str, end: &Option<End>) -> Result<u32, Wrong> {
+        let found = end.as_ref().unwrap().cell(&self.job);
+        found.map_err(|message| match self.job.sides_fit() {
+            true => Wrong { line: self.lines.of(name), message },
+            false => Wrong { line: self.lines.row(0), message: self.job.sides() },
+        })
+    }
+
+    // The whole job; what is missing is told at the text's last line.
+    fn finish(mut self) -> Result<(Job, Lines), Wrong> {
+        self.settle_size()?;
+        if let Some(name) = ONCE.iter().find(|name| !self.lines.named.contains_key(**name)) {
+            return Err(Wrong { line: self.lines.last, message: format!("the text ends without the line '{name}'") });
+        }
+        if self.job.buffers.len() > LARGEST as usize {
+            let message = format!("{} buffers are given, over {BUFFERS}", self.job.buffers.len());
+            return Err(Wrong { line: self.lines.buffers[BUFFERS], message });
+        }
+        self.job.source = self.end_cell("source", &self.source)?;
+        self.job.sink = self.end_cell("sink", &self.sink)?;
+        Ok((self.job, self.lines))
+    }
+}
+
+// The first character that no plan text has.
+fn check_characters(line: &str) -> Text<()> {
+    match line.chars().find(|c| c.is_control() && *c != '\t') {
+        None => Ok(()),
+        Some('\r') => Err("a carriage return stands within the line; save the text with a line feed at each line's end".to_string()),
+        Some(c) => Err(format!("a control character ({}) is no text (is it a job? 'job read' prints one)", shown(&c.to_string()))),
+    }
+}
+
+pub fn parse(text: &str) -> Result<(Job, Lines), Wrong> {
+    let mut parts = Parts::default();
+    for (i, line) in text.split('\n').enumerate() {
+        let line = line.strip_suffix('\r').unwrap_or(line);
+        let at = i + 1;
+        let mut read = || {
+            check_characters(line)?;
+            let (code, comment) = line.split_once('#').map_or((line, None), |(code, rest)| (code, Some(rest)));
+            let words: Vec<&str> = code.split_whitespace().collect();
+            match &words[..] {
+                [name, rest @ ..] => parts.line(at, name, rest, comment),
+                [] => Ok(()),
+            }
+        };
+        read().map_err(|message| Wrong { line: at, message })?;
+        if !line.is_empty() || at == 1 {
+            parts.lines.last = at;
+        }
+    }
+    parts.finish()
+}
+
+// The text of a file's bytes.
+pub fn decode(bytes: Vec<u8>) -> Result<String, Wrong> {
+    let at_start = |message: &str| Err(Wrong { line: 1, message: message.to_string() });
+    if bytes.starts_with(b"\xef\xbb\xbf") {
+        return at_start("the text starts with a byte order mark; save it as UTF-8 without one");
+    }
+    if bytes.starts_with(b"\xff\xfe") || bytes.starts_with(b"\xfe\xff") {
+        return at_start("the text is in UTF-16; save it as UTF-8 without a byte order mark");
+    }
+    String::from_utf8(bytes).map_err(|e| {
+        let before = &e.as_bytes()[..e.utf8_error().valid_up_to()];
+        let line = before.iter().filter(|&&b| b == b'\n').count() + 1;
+        Wrong { line, message: "this is no text (is it a job? 'job read' prints one)".to_string() }
+    })
+}
