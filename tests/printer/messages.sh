@@ -68,7 +68,8 @@ message "$(line '^limit'): '$cut' is not a whole number" "s/^limit.*/limit $long
 message "$(line '^limit'): '$cut' is not the name of a line; the names are row, size, register, horizontal, vertical, period, limit, source, sink, buffer" "s/^limit.*/$long/"
 message "$(line '^register'): '$cut' is not expected here; the form is: R NUMBER K NUMBER C NUMBER setup NUMBER" "s/^register.*/register $long 1/"
 message "$(line '# row 2'): cell '$cut': 'a' is none of . x t | _" "s/\.\( *# row 2\)/$long\1/"
-message "$(line '^limit'): ${cut//a/9} is above 65535, the largest number of a job" "s/^limit.*/limit ${long//a/9}/"
+digits=$(tr a 9 <<<"$long")
+message "$(line '^limit'): ${cut//a/9} is above 65535, the largest number of a job" "s/^limit.*/limit $digits/"
 told "an endless text" 2 "" "standard input: longer than 16777216 bytes; no plan is" sh -c "yes | $job write"
 told "an endless job" 2 "" "/dev/zero: longer than 16777216 bytes; no plan is" $job read /dev/zero
 

@@ -26,6 +26,6 @@ told "endless zeros" 0 "refused 1" "" from /dev/zero
 same "endless input" "refused 1" "$(yes | timeout 20 $printer)"
 same "a job, then no end" "refused 15" "$( (cat "$work/job"; yes) | timeout 20 $printer)"
 same "222 bytes, then nothing, the input still open" "refused 15" \
-    "$(timeout 10 $printer < <(yes "" | tr '\n' '\001' | head -c 222; sleep 12))"
+    "$(timeout 10 $printer < <(yes "" | tr '\n' '\001' | head -c 222; exec sleep 12 2>/dev/null))"
 checks=$((checks + 1))
 timeout 60 target/tools/reads $printer <"$work/job" || fail "input that does not come whole"

@@ -7,7 +7,7 @@ refuse() { # NUMBER LINE: REASON, SED
 }
 sides="each must be 1 to 32"
 refuse 1 "$(line '# row 0'): the plan is 48 cells wide and 8 high; $sides" 's/^row  *\([^#]*\)#.*/row \1 \1 \1/'
-refuse 1 "$(line '# row 0'): the plan is 33 cells wide and 1 high; $sides" "/^row/d; $(($(line '# row 0') - 1))a row$(printf ' .%.0s' {1..33})"
+refuse 1 "$(line '# row 0'): the plan is 33 cells wide and 1 high; $sides" "s/^source.*/source 0 0/; s/^sink.*/sink 0 32/; /^row/d; $(($(line '# row 0') - 1))a row$(printf ' .%.0s' {1..33})"
 refuse 1 "$((8 + 31)): the plan is 16 cells wide and 40 high; $sides" 's/^row[^#]*/&\n&\n&\n&\n&/'
 refuse 1 "$(line '^source'): the plan is 0 cells wide and 9 high; $sides" 's/^row.*//; s/^source.*/size 0 9\nsource 0/; s/^sink.*/sink 1/'
 refuse 1 "$(line '^source'): the plan is 33 cells wide and 2 high; $sides" 's/^row.*//; s/^source.*/size 33 2\nsource 0 32/; s/^sink.*/sink 1/'
