@@ -25,6 +25,9 @@ grep -q "$full" "$work/err" || fail "tools/route --version on a full disk says n
 printer_full() { $printer <examples/crossing.job >/dev/full; }
 told "the program on a full disk" 0 "" "route_printer: standard output: $full" printer_full
 
+closed() { tools/route examples/crossing.txt >&-; }
+told "tools/route with its output closed" 4 "" "tools/route: standard output is closed" closed
+
 # A reader that goes away: no word, status 0 or 4, never a panic.
 closed_pipe() { # COMMAND..
     local status

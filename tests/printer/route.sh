@@ -65,7 +65,6 @@ same "the compiler's words" "rustc -O --edition 2021 -o target/tools/NEW/job too
 log=target/log/tools_route.log
 wait="proving the planner, 2 parts; this takes several minutes the first time ($log has the prover's lines)"
 told "the first run" 0 "$twice" "$wait
-[1 of 2] plan, proved before
 [2 of 2] route_printer, 59 s" in_fake "$work/twice.txt"
 same "the prover's words" "rt check route_printer" "$(cat "$work/calls")"
 same "the log" "logic=proved and more
@@ -86,7 +85,6 @@ told "a run after a change of the tool" 0 "$twice" "" in_fake "$work/twice.txt"
 same "compilations after a change of the tool" 2 "$(wc -l <"$work/compiled")"
 touch "$fake/crates.txt" "$work/broken"
 told "a proof that fails" 4 "" "$wait
-[1 of 2] plan, proved before
 route_printer NOT PROVED (exit 1, 3 s)
 tools/route: rt check route_printer failed; $log has the prover's lines" in_fake "$work/twice.txt"
 rm "$work/broken"

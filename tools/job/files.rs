@@ -1,6 +1,7 @@
 // Input and output. Every read and every write is checked, and what cannot be done has status 4.
 
 use crate::words::shown_name;
+use std::ffi::{OsStr, OsString};
 use std::io::{Error, ErrorKind, Read, Write};
 
 // How the tool ends.
@@ -19,24 +20,24 @@ pub fn failure<T>(status: u8, message: String) -> Result<T, Failure> {
     Err(Failure { status, message })
 }
 
-pub fn failed(name: &str, error: &Error) -> Failure {
-    Failure { status: FAILED, message: format!("{}: {error}", shown_name(name)) }
+pub fn failed(file: &OsStr, error: &Error) -> Failure {
+    Failure { status: FAILED, message: format!("{}: {error}", shown_name(file)) }
 }
 
 const LONGEST: u64 = 16 << 20; // bytes of a text or a job
 
 // Where an input comes from: a file, or standard input.
 pub struct Source<'a> {
-    pub file: Option<&'a str>,
+    pub file: Option<&'a OsStr>,
 }
 
 impl<'a> Source<'a> {
-    pub fn new(word: Option<&'a String>) -> Source<'a> {
-        Source { file: word.map(|word| word.as_str()).filter(|word| *word != "-") }
+    pub fn new(word: Option<&'a OsString>) -> Source<'a> {
+        Source { file: word.map(|word| word.as_os_str()).filter(|word| *word != "-") }
     }
 
     pub fn name(&self) -> String {
-        shown_name(self.file.unwrap_or("standard input"))
+        shown_name(self.file.unwrap_or(OsStr::new("standard input")))
     }
 
     pub fn read(&self) -> Result<Vec<u8>, Failure> {
@@ -45,7 +46,7 @@ impl<'a> Source<'a> {
             Some(file) => std::fs::File::open(file).and_then(|f| f.take(LONGEST + 1).read_to_end(&mut bytes)),
             None => std::io::stdin().take(LONGEST + 1).read_to_end(&mut bytes),
         };
-        read.map_err(|error| failed(&self.name(), &error))?;
+        read.map_err(|error| failed(OsStr::new(&self.name()), &error))?;
         if bytes.len() as u64 > LONGEST {
             return failure(TEXT, format!("{}: longer than {LONGEST} bytes; no plan is", self.name()));
         }
@@ -58,7 +59,7 @@ pub fn print(bytes: &[u8]) -> Result<(), Failure> {
     let mut out = std::io::stdout().lock();
     out.write_all(bytes).and_then(|()| out.flush()).map_err(|error| match error.kind() {
         ErrorKind::BrokenPipe => Failure { status: FAILED, message: String::new() },
-        _ => failed("standard output", &error),
+        _ => failed(OsStr::new("standard output"), &error),
     })
 }
 
@@ -67,7 +68,7 @@ pub fn complain(message: &str) {
     let _ = writeln!(std::io::stderr(), "{message}");
 }
 
-pub fn save(file: &str, bytes: &[u8]) -> Result<(), Failure> {
+pub fn save(file: &OsStr, bytes: &[u8]) -> Result<(), Failure> {
     let written = std::fs::File::create(file).and_then(|mut f| f.write_all(bytes).and_then(|()| f.flush()));
     written.map_err(|error| failed(file, &error))
 }

@@ -16,6 +16,7 @@ mod words;
 
 use files::{failure, Failure, Source, DONE, TEXT};
 use job::Job;
+use std::ffi::OsString;
 use std::process::ExitCode;
 use text::Lines;
 
@@ -51,24 +52,23 @@ fn read(from: &Source) -> Result<u8, Failure> {
     Ok(DONE)
 }
 
-fn run(words: &[String]) -> Result<u8, Failure> {
-    let known: Vec<&str> = words.iter().map(|word| word.as_str()).collect();
+fn run(words: &[OsString]) -> Result<u8, Failure> {
+    let known: Vec<&str> = words.iter().map(|word| word.to_str().unwrap_or("")).collect();
     match &known[..] {
         ["--help"] => files::print(HELP.as_bytes()).map(|()| DONE),
         ["--version"] => files::print(format!("job {VERSION}").as_bytes()).map(|()| DONE),
         ["write"] | ["write", _] => write(&Source::new(words.get(1))),
         ["read"] | ["read", _] => read(&Source::new(words.get(1))),
-        ["route", printer, _, options @ ..] => {
-            let Some(drawings) = route::drawings(options) else { return failure(TEXT, USAGE.to_string()) };
-            route::run(printer, &Source::new(words.get(2)), &drawings)
-        }
+        ["route", _, _, ..] => match route::drawings(&words[3..]) {
+            Some(drawings) => route::run(&words[1], &Source::new(words.get(2)), &drawings),
+            None => failure(TEXT, USAGE.to_string()),
+        },
         _ => failure(TEXT, USAGE.to_string()),
     }
 }
 
 fn main() -> ExitCode {
-    // A name that is no UTF-8 is kept in its readable part; the file is then not found.
-    let words: Vec<String> = std::env::args_os().skip(1).map(|word| word.to_string_lossy().into_owned()).collect();
+    let words: Vec<OsString> = std::env::args_os().skip(1).collect();
     let status = run(&words).unwrap_or_else(|failure| {
         if !failure.message.is_empty() {
             files::complain(&failure.message);

@@ -5,26 +5,27 @@ use crate::files::{self, failed, failure, Failure, Source, DONE, FAILED, NONE, R
 use crate::job::Job;
 use crate::words::{shown, shown_name};
 use crate::{bytes, picture, read_text, refusals, svg};
+use std::ffi::{OsStr, OsString};
 use std::io::{ErrorKind, Write};
 use std::process::{Command, Stdio};
 
 #[derive(Default)]
 pub struct Drawings<'a> {
     picture: bool,
-    svg: Option<&'a str>,
+    svg: Option<&'a OsStr>,
 }
 
-pub fn drawings<'a>(options: &[&'a str]) -> Option<Drawings<'a>> {
+pub fn drawings(options: &[OsString]) -> Option<Drawings<'_>> {
     match options {
         [] => Some(Drawings::default()),
-        ["--picture", rest @ ..] => Some(Drawings { picture: true, ..drawings(rest)? }),
-        ["--svg", file, rest @ ..] => Some(Drawings { svg: Some(file), ..drawings(rest)? }),
+        [word, rest @ ..] if word == "--picture" => Some(Drawings { picture: true, ..drawings(rest)? }),
+        [word, file, rest @ ..] if word == "--svg" => Some(Drawings { svg: Some(file), ..drawings(rest)? }),
         _ => None,
     }
 }
 
 // What the program prints for a job. Its status is 0 whatever happens, so a line on standard error counts as a failure.
-fn printed(printer: &str, job: &[u8]) -> Result<String, Failure> {
+fn printed(printer: &OsStr, job: &[u8]) -> Result<String, Failure> {
     let broken = |what: String| Failure { status: FAILED, message: format!("{}: {what}", shown_name(printer)) };
     let piped = || Stdio::piped();
     let mut child = Command::new(printer)
@@ -37,7 +38,7 @@ fn printed(printer: &str, job: &[u8]) -> Result<String, Failure> {
     let output = child.wait_with_output().map_err(|error| failed(printer, &error))?;
     let said = String::from_utf8_lossy(&output.stderr);
     if let Some(line) = said.lines().next() {
-        return Err(broken(format!("it says: {}", shown_name(line))));
+        return Err(broken(format!("it says: {}", shown_name(OsStr::new(line)))));
     }
     if !output.status.success() {
         return Err(broken(format!("it ended with {}", output.status)));
@@ -62,7 +63,7 @@ fn draw(name: &str, text: &str, job: &Job, route: Option<&answer::Route>, drawin
     }
 }
 
-pub fn run(printer: &str, from: &Source, drawings: &Drawings) -> Result<u8, Failure> {
+pub fn run(printer: &OsStr, from: &Source, drawings: &Drawings) -> Result<u8, Failure> {
     let (job, lines) = read_text(from)?;
     let text = printed(printer, &bytes::encode(&job))?;
     let no_answer = |what: String| failure(FAILED, format!("{}: {what}", shown_name(printer)));

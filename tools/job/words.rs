@@ -1,24 +1,24 @@
 // Words of the input as messages show them: short, and without control characters.
 
+use std::ffi::OsStr;
+
 const LONGEST: usize = 40; // characters
 
-// Control characters and such as cannot be seen are written as escapes; a long word ends with two dots.
-pub fn shown(word: &str) -> String {
-    let mut out = String::new();
-    for (i, c) in word.chars().enumerate() {
-        if i == LONGEST {
-            out += "..";
-            break;
-        }
-        match c {
-            '\'' | '"' | '\\' => out.push(c),
-            _ => out.extend(c.escape_debug()),
-        }
+// A control character, or one that cannot be seen, is written as an escape.
+fn seen(c: char) -> String {
+    match c {
+        '\'' | '"' | '\\' => c.to_string(),
+        _ => c.escape_debug().to_string(),
     }
-    out
 }
 
-// A file's name: whole, but without control characters.
-pub fn shown_name(name: &str) -> String {
-    name.chars().map(|c| if matches!(c, '\'' | '"' | '\\') { c.to_string() } else { c.escape_debug().to_string() }).collect()
+// A long word ends with two dots.
+pub fn shown(word: &str) -> String {
+    let cut = if word.chars().nth(LONGEST).is_some() { ".." } else { "" };
+    word.chars().take(LONGEST).map(seen).collect::<String>() + cut
+}
+
+// A file's name is shown whole.
+pub fn shown_name(name: &OsStr) -> String {
+    name.to_string_lossy().chars().map(seen).collect()
 }
