@@ -22,9 +22,7 @@ pub enum Answer {
 
 // Numbers as the program prints them, set apart by single spaces.
 fn numbers(line: &str) -> Option<Vec<u64>> {
-    line.split(' ')
-        .map(|word| word.parse::<u64>().ok().filter(|n| n.to_string() == word))
-        .collect()
+    line.split(' ').map(|word| word.parse::<u64>().ok().filter(|n| n.to_string() == word)).collect()
 }
 
 pub fn read(text: &str) -> Option<Answer> {

@@ -1,12 +1,12 @@
 // One cell of a row: a word of the text to marks, and back.
 
+use crate::fields::{number, Field};
 use crate::job::{BLOCKED, CUT_BELOW, CUT_RIGHT, MARKS, TAP};
-use crate::text::number;
 use crate::words::shown;
 
 const LETTERS: [(char, u32); 4] = [('x', BLOCKED), ('t', TAP), ('|', CUT_RIGHT), ('_', CUT_BELOW)];
 
-pub fn read(word: &str) -> Result<u32, String> {
+pub fn read(word: &str) -> Field<u32> {
     if word.starts_with(|c: char| c.is_ascii_digit()) {
         return number(word);
     }
@@ -47,5 +47,7 @@ pub fn word(marks: u32) -> String {
 
 // Whether a comment after a row's cells is itself drawn as cells: '#' was meant for one.
 pub fn drawn(comment: &str) -> bool {
-    comment.split_whitespace().all(|word| word.chars().all(|c| c == '.' || c == '#' || LETTERS.iter().any(|l| l.0 == c)))
+    comment
+        .split_whitespace()
+        .all(|word| word.chars().all(|c| c == '.' || c == '#' || LETTERS.iter().any(|l| l.0 == c)))
 }

@@ -4,6 +4,7 @@
 mod answer;
 mod bytes;
 mod cells;
+mod fields;
 mod files;
 mod job;
 mod picture;

@@ -112,7 +112,12 @@ fn repeats(job: &Job, route: &Route) -> String {
             route.visits.iter().enumerate().filter(|(_, v)| v.cell == cell).map(|(i, v)| (i, v.code)).collect();
         if here.len() > 1 {
             let each: Vec<String> = here.iter().map(|(i, code)| format!("{i}{}", code_words(*code))).collect();
-            out += &format!("{} is passed {} times: visits {} from the sink\n", job.place(cell), here.len(), each.join(", "));
+            out += &format!(
+                "{} is passed {} times: visits {} from the sink\n",
+                job.place(cell),
+                here.len(),
+                each.join(", ")
+            );
         }
     }
     out

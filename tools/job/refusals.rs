@@ -1,6 +1,8 @@
 // A refusal in words. The program gives the number; the text shows what it is about, and where.
 
-use crate::job::{range, Job, BUFFER, BUFFERS, CUT_RIGHT, CUT_BELOW, LIMIT, MARKS, PERIOD, PROGRAM_CELLS, PROGRAM_VISITS};
+use crate::job::{
+    range, Job, BUFFER, BUFFERS, CUT_BELOW, CUT_RIGHT, LIMIT, MARKS, PERIOD, PROGRAM_CELLS, PROGRAM_VISITS,
+};
 use crate::job::{REGISTER, SIDE, WIRE};
 use crate::text::Lines;
 
@@ -21,7 +23,8 @@ fn grid(job: &Job, lines: &Lines) -> Option<Reason> {
 fn size(job: &Job, lines: &Lines) -> Option<Reason> {
     let line = lines.row((PROGRAM_CELLS / job.width.max(1) as u64) as usize);
     let words = format!("the plan has {} cells ({} by {})", job.cells(), job.width, job.height);
-    (job.cells() > PROGRAM_CELLS).then(|| (Some(line), format!("{words}, and the program takes at most {PROGRAM_CELLS}")))
+    (job.cells() > PROGRAM_CELLS)
+        .then(|| (Some(line), format!("{words}, and the program takes at most {PROGRAM_CELLS}")))
 }
 
 // While reading, a byte above 15 anywhere; then the first cell with a cut where there is no wire.
@@ -69,7 +72,8 @@ fn element(job: &Job, lines: &Lines) -> Option<Reason> {
 fn ends(job: &Job, lines: &Lines) -> Option<Reason> {
     for (name, cell) in [("source", job.source), ("sink", job.sink)] {
         if cell as u64 >= job.cells() {
-            let words = format!("{name} {cell} is not in the plan, whose cells are 0 to {}", job.cells().saturating_sub(1));
+            let words =
+                format!("{name} {cell} is not in the plan, whose cells are 0 to {}", job.cells().saturating_sub(1));
             return Some((Some(lines.of(name)), words));
         }
     }
@@ -85,7 +89,8 @@ pub fn reason(number: u32, job: &Job, lines: &Lines) -> Option<Reason> {
         4 => (element(job, lines), "a number is outside its range"),
         5 => (ends(job, lines), "source and sink must be two cells of the plan"),
         8 => {
-            let words = format!("the best route has more than {PROGRAM_VISITS} visits, and the program prints at most so many");
+            let words =
+                format!("the best route has more than {PROGRAM_VISITS} visits, and the program prints at most so many");
             (Some((None, words)), "")
         }
         16 => (size(job, lines), "the plan has more cells than the program takes"),

@@ -86,7 +86,8 @@ fn plan(job: &Job) -> String {
     for cell in cells.clone() {
         let (x, y) = corner(job, cell);
         let fill = if job.has_mark(cell, BLOCKED) { "url(#blocked)" } else { "#ffffff" };
-        out += &format!("<rect class=\"cell\" x=\"{x}\" y=\"{y}\" width=\"{CELL}\" height=\"{CELL}\" fill=\"{fill}\"/>\n");
+        out +=
+            &format!("<rect class=\"cell\" x=\"{x}\" y=\"{y}\" width=\"{CELL}\" height=\"{CELL}\" fill=\"{fill}\"/>\n");
         out += &text("number", (x + CELL - 20.0, y + CELL - 4.0), &cell.to_string());
         if job.has_mark(cell, TAP) {
             out += &tap((x + 4.0, y + CELL - 15.0));
@@ -174,7 +175,8 @@ fn legend(y: f64) -> String {
     item(&|x| gate("R", (x, y)), "register", 82.0);
     item(&|x| gate("1", (x, y)), "buffer, its code", 122.0);
     item(&|x| tap((x, y - 5.5)), "tap", 54.0);
-    let swatch = |x: f64| format!("<rect x=\"{x}\" y=\"{}\" width=\"12\" height=\"12\" fill=\"url(#blocked)\"/>\n", y - 6.0);
+    let swatch =
+        |x: f64| format!("<rect x=\"{x}\" y=\"{}\" width=\"12\" height=\"12\" fill=\"url(#blocked)\"/>\n", y - 6.0);
     item(&swatch, "blocked", 84.0);
     item(&|x| line("cut", (x + 5.0, y - 7.0), (x + 5.0, y + 7.0)), "cut wire", 0.0);
     let words = "Blue numbers: the visits in the printed order, from the sink (0). Grey numbers: the cells.";
@@ -189,7 +191,8 @@ pub fn draw(name: &str, job: &Job, route: Option<&Route>) -> String {
         Some(r) => format!("{name}: registers {}, steps {}, latency {} ticks", r.registers, r.steps, r.latency),
         None => format!("{name}: no legal route"),
     };
-    let mut out = format!("<svg xmlns=\"http://www.w3.org/2000/svg\" width=\"{width}\" height=\"{height}\">\n");
+    let size = format!("width=\"{width}\" height=\"{height}\" viewBox=\"0 0 {width} {height}\"");
+    let mut out = format!("<svg xmlns=\"http://www.w3.org/2000/svg\" {size}>\n");
     out += &format!("<title>{}</title>\n", escaped(&title));
     out += HEAD;
     out += &format!("<rect width=\"{width}\" height=\"{height}\" fill=\"#ffffff\"/>\n");

@@ -2,6 +2,7 @@
 // It checks the form only: numbers outside their ranges pass, so that the planner's own refusals can be tried.
 
 use crate::cells;
+use crate::fields::{end, named, number, one_number, End, Field};
 use crate::job::{Job, BUFFER, BUFFERS, LARGEST, REGISTER, WIRE};
 use crate::words::shown;
 use std::collections::BTreeMap;
@@ -10,72 +11,6 @@ use std::collections::BTreeMap;
 pub struct Wrong {
     pub line: usize,
     pub message: String,
-}
-
-type Text<T> = Result<T, String>;
-
-pub fn number(word: &str) -> Text<u32> {
-    let digits = !word.is_empty() && word.bytes().all(|b| b.is_ascii_digit());
-    if !digits {
-        return Err(format!("'{}' is not a whole number", shown(word)));
-    }
-    match word.parse::<u64>() {
-        Ok(value) if value <= LARGEST as u64 => Ok(value as u32),
-        _ => Err(format!("{} is above {LARGEST}, the largest number of a job", shown(word))),
-    }
-}
-
-fn one_number(words: &[&str]) -> Text<u32> {
-    match words {
-        [word] => number(word),
-        _ => Err(format!("one number is expected here, not {}", words.len())),
-    }
-}
-
-// Named numbers, each name once, in any order.
-fn named(words: &[&str], names: &[&str]) -> Text<Vec<u32>> {
-    let form = || names.iter().map(|n| format!("{n} NUMBER")).collect::<Vec<_>>().join(" ");
-    let mut values: Vec<Option<u32>> = vec![None; names.len()];
-    for pair in words.chunks(2) {
-        let at = names.iter().position(|name| *name == pair[0]);
-        let at = at.ok_or_else(|| format!("'{}' is not expected here; the form is: {}", shown(pair[0]), form()))?;
-        let word = pair.get(1).ok_or_else(|| format!("{} has no number; the form is: {}", pair[0], form()))?;
-        if values[at].replace(number(word)?).is_some() {
-            return Err(format!("{} is given twice", pair[0]));
-        }
-    }
-    let missing = values.iter().position(|value| value.is_none());
-    match missing {
-        Some(at) => Err(format!("{} is missing; the form is: {}", names[at], form())),
-        None => Ok(values.into_iter().flatten().collect()),
-    }
-}
-
-// What an end's line gives: the cell, or its row and column.
-enum End {
-    Cell(u32),
-    At(u32, u32),
-}
-
-fn end(words: &[&str]) -> Text<End> {
-    match words {
-        [word] => Ok(End::Cell(number(word)?)),
-        [row, column] => Ok(End::At(number(row)?, number(column)?)),
-        _ => Err("an end is a row and a column, or one cell number".to_string()),
-    }
-}
-
-impl End {
-    fn cell(&self, job: &Job) -> Text<u32> {
-        match *self {
-            End::Cell(cell) => Ok(cell),
-            End::At(row, column) if row < job.height && column < job.width => Ok(row * job.width + column),
-            End::At(row, column) => Err(format!(
-                "row {row}, column {column} is outside the plan of {} rows and {} columns (counted from 0)",
-                job.height, job.width
-            )),
-        }
-    }
 }
 
 // The lines in which the parts of a text stand.
@@ -115,8 +50,8 @@ struct Parts {
 }
 
 impl Parts {
-    fn row(&mut self, line: usize, words: &[&str], comment: Option<&str>) -> Text<()> {
-        let marks = words.iter().map(|word| cells::read(word)).collect::<Text<Vec<u32>>>()?;
+    fn row(&mut self, line: usize, words: &[&str], comment: Option<&str>) -> Field<()> {
+        let marks = words.iter().map(|word| cells::read(word)).collect::<Field<Vec<u32>>>()?;
         if comment.is_some_and(cells::drawn) {
             return Err(HASH.to_string());
         }
@@ -138,7 +73,7 @@ impl Parts {
         Ok(())
     }
 
-    fn line(&mut self, line: usize, name: &str, words: &[&str], comment: Option<&str>) -> Text<()> {
+    fn line(&mut self, line: usize, name: &str, words: &[&str], comment: Option<&str>) -> Field<()> {
         if name == "row" {
             return self.row(line, words, comment);
         }
@@ -176,7 +111,10 @@ impl Parts {
         let wrong = |line: usize, message: String| Err(Wrong { line, message });
         match self.size {
             None if self.lines.rows.is_empty() => {
-                return wrong(self.lines.last, "the text ends without a row of the plan, and without its size".to_string())
+                return wrong(
+                    self.lines.last,
+                    "the text ends without a row of the plan, and without its size".to_string(),
+                )
             }
             Some((width, height)) if self.lines.rows.is_empty() => (job.width, job.height) = (width, height),
             Some((width, height)) if (width, height) != (job.width, job.height) => {
@@ -220,11 +158,17 @@ impl Parts {
 }
 
 // The first character that no plan text has.
-fn check_characters(line: &str) -> Text<()> {
+fn check_characters(line: &str) -> Field<()> {
     match line.chars().find(|c| c.is_control() && *c != '\t') {
         None => Ok(()),
-        Some('\r') => Err("a carriage return stands within the line; save the text with a line feed at each line's end".to_string()),
-        Some(c) => Err(format!("a control character ({}) is no text (is it a job? 'job read' prints one)", shown(&c.to_string()))),
+        Some('\r') => {
+            Err("a carriage return stands within the line; save the text with a line feed at each line's end"
+                .to_string())
+        }
+        Some(c) => Err(format!(
+            "a control character ({}) is no text (is it a job? 'job read' prints one)",
+            shown(&c.to_string())
+        )),
     }
 }
 
