@@ -18,23 +18,24 @@ message "$(line '^register'): setup is missing; the form is: R NUMBER K NUMBER C
 message "$(line '^register'): setup has no number; the form is: R NUMBER K NUMBER C NUMBER setup NUMBER" 's/ setup 6/ setup/'
 message "$(line '^horizontal'): 'K' is not expected here; the form is: R NUMBER C NUMBER" 's/^horizontal R 1/horizontal K 1/'
 message "$(line '^vertical'): R is given twice" 's/^vertical R 2 C 2/vertical R 2 R 2/'
-message "$(line '^sink'): row 8, column 0 is outside the plan of 8 rows and 16 columns (counted from 0)" 's/^sink.*/sink 8 0/'
+message "$(line '^sink'): row 8, column 0 is outside the plan; its rows are 0 to 7, its columns 0 to 15" 's/^sink.*/sink 8 0/'
 message "$(line '^source'): an end is a row and a column, or one cell number" 's/^source.*/source 1 2 3/'
 
 # ---- the size
 message "$last: the text ends without a row of the plan, and without its size" 's/^row.*//'
 message "$(line '^sink'): the size is 8 wide and 16 high, but the rows are 16 wide and 8 high" 's/^sink.*/size 8 16/'
 message "$(line '^sink'): the form is: size WIDTH HEIGHT" 's/^sink.*/size 8/'
-message "$(line '^source'): the plan is 0 cells wide and 9 high; each must be 1 to 32" 's/^row.*//; s/^source.*/size 0 9\nsource 0 0/'
-message "$(line '^source'): the plan is 60000 cells wide and 60000 high; each must be 1 to 32" 's/^row.*//; s/^source.*/size 60000 60000\nsource 0/'
-message "$(line '# row 0'): the plan is 16 cells wide and 48 high; each must be 1 to 32" 's/^row[^#]*/&\n&\n&\n&\n&\n&/; s/^sink.*/sink 48 0/'
+message "$(line '^source'): the plan's width is 0 and its height 9; each must be 1 to 32" 's/^row.*//; s/^source.*/size 0 9\nsource 0 0/'
+message "$(line '^source'): the plan's width is 60000 and its height 60000; each must be 1 to 32" 's/^row.*//; s/^source.*/size 60000 60000\nsource 0/'
+message "$(line '# row 0'): the plan's width is 16 and its height 48; each must be 1 to 32" 's/^row[^#]*/&\n&\n&\n&\n&\n&/; s/^sink.*/sink 48 0/'
 { grep -v '^row\|^sink' examples/crossing.txt; echo "sink 299 299"; row=$(printf ' .%.0s' {1..300}); for _ in {1..300}; do echo "row$row"; done; } >"$work/bad.txt"
-told "a plan of 300 by 300" 2 "" "bad.txt:$(grep -n -m 1 '^row' "$work/bad.txt" | cut -d: -f1): the plan is 300 cells wide and 300 high; each must be 1 to 32" \
+told "a plan of 300 by 300" 2 "" "bad.txt:$(grep -n -m 1 '^row' "$work/bad.txt" | cut -d: -f1): the plan's width is 300 and its height 300; each must be 1 to 32" \
     $job write "$work/bad.txt"
 
 # ---- cells
 comment="'#' starts a comment; a blocked cell is drawn x"
 message "$(line '# row 1'): this row has 17 cells, the first row (line $(line '# row 0')) has 16 ($comment)" 's/# row 1/. &/'
+message "$(line '# row 1'): this row has 1 cell, the first row (line $(line '# row 0')) has 16 ($comment)" 's/^row.*# row 1/row . # row 1/'
 message "$(line '# row 2'): cell 'q': 'q' is none of . x t | _" 's/\.\( *# row 2\)/q\1/'
 message "$(line '# row 2'): cell 'xx': 'x' stands twice; cells are set apart by spaces" 's/\.\( *# row 2\)/xx\1/'
 message "$(line '# row 2'): cell '.t': '.' is an open cell without a tap; leave the '.' out" 's/\.\( *# row 2\)/.t\1/'
@@ -82,7 +83,8 @@ strip='\3\1\0\2\0\1\2\1\1\2\3\2\3\31\77\0\2'
 bad_job "an empty job" '' "the job ends after 0 bytes, at the width"
 bad_job "a job cut short" "$strip" "the job ends after 17 bytes, at the buffer count"
 bad_job "a job cut within a buffer" "$strip"'\1\1' "the job ends after 19 bytes, at buffer 1 K"
-bad_job "bytes left over" "$strip"'\0\0\0' "2 bytes are left over after byte 18"
+bad_job "bytes left over" "$strip"'\0\0\0' "2 bytes left over after byte 18"
+bad_job "a byte left over" "$strip"'\0\0' "1 byte left over after byte 18"
 bad_job "a trailing zero" '\3\201\0' "byte 3, the height: a last byte of zero after another"
 bad_job "65,536" '\3\1\200\200\4' "byte 3, the marks of cell 0: 65536 is above 65535"
 bad_job "a fourth byte" '\3\1\200\200\200\1' "byte 3, the marks of cell 0: the number has a fourth byte"

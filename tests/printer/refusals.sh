@@ -6,11 +6,11 @@ refuse() { # NUMBER LINE: REASON, SED
     same "the program on the example with '$3'" "refused $1" "$($job write "$work/bad.txt" | $printer)"
 }
 sides="each must be 1 to 32"
-refuse 1 "$(line '# row 0'): the plan is 48 cells wide and 8 high; $sides" 's/^row  *\([^#]*\)#.*/row \1 \1 \1/'
-refuse 1 "$(line '# row 0'): the plan is 33 cells wide and 1 high; $sides" "s/^source.*/source 0 0/; s/^sink.*/sink 0 32/; /^row/d; $(($(line '# row 0') - 1))a row$(printf ' .%.0s' {1..33})"
-refuse 1 "$((8 + 31)): the plan is 16 cells wide and 40 high; $sides" 's/^row[^#]*/&\n&\n&\n&\n&/'
-refuse 1 "$(line '^source'): the plan is 0 cells wide and 9 high; $sides" 's/^row.*//; s/^source.*/size 0 9\nsource 0/; s/^sink.*/sink 1/'
-refuse 1 "$(line '^source'): the plan is 33 cells wide and 2 high; $sides" 's/^row.*//; s/^source.*/size 33 2\nsource 0 32/; s/^sink.*/sink 1/'
+refuse 1 "$(line '# row 0'): the plan's width is 48 and its height 8; $sides" 's/^row  *\([^#]*\)#.*/row \1 \1 \1/'
+refuse 1 "$(line '# row 0'): the plan's width is 33 and its height 1; $sides" "s/^source.*/source 0 0/; s/^sink.*/sink 0 32/; /^row/d; $(($(line '# row 0') - 1))a row$(printf ' .%.0s' {1..33})"
+refuse 1 "$((8 + 31)): the plan's width is 16 and its height 40; $sides" 's/^row[^#]*/&\n&\n&\n&\n&/'
+refuse 1 "$(line '^source'): the plan's width is 0 and its height 9; $sides" 's/^row.*//; s/^source.*/size 0 9\nsource 0/; s/^sink.*/sink 1/'
+refuse 1 "$(line '^source'): the plan's width is 33 and its height 2; $sides" 's/^row.*//; s/^source.*/size 33 2\nsource 0 32/; s/^sink.*/sink 1/'
 refuse 16 "$(($(line '# row 7') + 2)): the plan has 144 cells (16 by 9), and the program takes at most 128" 's/# row 7/\n&\nrow . . . . . . . . . . . . . . . ./'
 refuse 16 "$(line '^source'): the plan has 1024 cells (32 by 32), and the program takes at most 128" 's/^row.*//; s/^source.*/size 32 32\n&/'
 refuse 3 "$(line '# row 0'): cell 0 (row 0, column 0) has marks 16, outside 0 to 15" '0,/^row *\./s//row 16/'

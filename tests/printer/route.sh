@@ -111,8 +111,8 @@ as_program "a cell outside the plan" "$fit it visits cell 6, which is not in the
 as_program "a code that there is not" "$fit it has the gate code 1" "printf 'route 0 2 12\n2 7\n1 1\n0 7\n'"
 as_program "cells that are not joined" "$fit no wire joins its cells 2 and 0" "printf 'route 0 1 12\n2 7\n0 7\n'"
 as_program "another sink" "$fit it does not lead from the sink to the source" "printf 'route 0 1 12\n1 7\n0 7\n'"
-as_program "invented registers" "$fit its first line says 1 registers, latency 24" "printf 'route 1 2 24\n2 7\n1 0\n0 7\n'"
-as_program "an invented latency" "$fit its first line says 0 registers, latency 24" "printf 'route 0 2 24\n2 7\n1 0\n0 7\n'"
+as_program "invented registers" "$fit its first line says registers 1, latency 24" "printf 'route 1 2 24\n2 7\n1 0\n0 7\n'"
+as_program "an invented latency" "$fit its first line says registers 0, latency 24" "printf 'route 0 2 24\n2 7\n1 0\n0 7\n'"
 told "a missing program" 4 "" "missing: No such file or directory (os error 2)" $job route "$work/missing" examples/twice.txt
 printf '#!/bin/sh\necho refused 4\n' >"$work/program"
 told "a refusal for which the text shows no reason" 3 "refused 4" "examples/twice.txt: a number is outside its range (refusal 4)" \

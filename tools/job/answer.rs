@@ -82,7 +82,7 @@ pub fn misfit(route: &Route, job: &Job) -> Option<String> {
     }
     let registers = visits.iter().filter(|v| v.code == CODE_REGISTER).count() as u64 - 2;
     if registers != route.registers || route.latency != job.period as u64 * (registers + 1) {
-        return Some(format!("its first line says {} registers, latency {}", route.registers, route.latency));
+        return Some(format!("its first line says registers {}, latency {}", route.registers, route.latency));
     }
     None
 }

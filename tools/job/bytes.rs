@@ -1,6 +1,7 @@
 // The bytes of a job: groups of seven bits, lowest first (document 01, "The job and its printed sheet").
 
 use crate::job::{Job, BUFFER, LARGEST, REGISTER, WIRE};
+use crate::words::counted;
 
 pub fn encode(job: &Job) -> Vec<u8> {
     let mut numbers = vec![job.width, job.height];
@@ -31,7 +32,7 @@ impl Cursor<'_> {
         let mut value = 0;
         for place in 0..3 {
             let Some(byte) = self.bytes.get(self.at) else {
-                return Err(format!("the job ends after {} bytes, at {what}", self.bytes.len()));
+                return Err(format!("the job ends after {}, at {what}", counted(self.bytes.len(), "byte")));
             };
             self.at += 1;
             value |= (*byte as u32 & 127) << (7 * place);
@@ -70,7 +71,7 @@ pub fn decode(bytes: &[u8]) -> Result<Job, String> {
         job.buffers.push(from.numbers(&format!("buffer {place}"), &BUFFER)?);
     }
     if from.at < bytes.len() {
-        return Err(format!("{} bytes are left over after byte {}", bytes.len() - from.at, from.at));
+        return Err(format!("{} left over after byte {}", counted(bytes.len() - from.at, "byte"), from.at));
     }
     Ok(job)
 }

@@ -63,8 +63,9 @@ impl End {
             End::Cell(cell) => Ok(cell),
             End::At(row, column) if row < job.height && column < job.width => Ok(row * job.width + column),
             End::At(row, column) => Err(format!(
-                "row {row}, column {column} is outside the plan of {} rows and {} columns (counted from 0)",
-                job.height, job.width
+                "row {row}, column {column} is outside the plan; its rows are 0 to {}, its columns 0 to {}",
+                job.height.saturating_sub(1),
+                job.width.saturating_sub(1)
             )),
         }
     }

@@ -63,7 +63,7 @@ impl Job {
 
     // What is said of sides that do not fit.
     pub fn sides(&self) -> String {
-        format!("the plan is {} cells wide and {} high; each must be 1 to {SIDE}", self.width, self.height)
+        format!("the plan's width is {} and its height {}; each must be 1 to {SIDE}", self.width, self.height)
     }
 
     // A cell of the plan as messages show it.

@@ -4,7 +4,7 @@
 use crate::cells;
 use crate::fields::{end, named, number, one_number, End, Field};
 use crate::job::{Job, BUFFER, BUFFERS, LARGEST, REGISTER, WIRE};
-use crate::words::shown;
+use crate::words::{counted, shown};
 use std::collections::BTreeMap;
 
 // A message about a line of the text.
@@ -55,15 +55,16 @@ impl Parts {
         if comment.is_some_and(cells::drawn) {
             return Err(HASH.to_string());
         }
-        let (here, there) = (marks.len() as u32, self.job.width);
+        let (here, there) = (marks.len(), self.job.width as usize);
         match self.lines.rows.first() {
             None => {
-                self.job.width = here;
+                self.job.width = here as u32;
                 self.hash = comment.is_some();
             }
             Some(first) if here != there => {
                 let hint = if comment.is_some() || self.hash { format!(" ({HASH})") } else { String::new() };
-                return Err(format!("this row has {here} cells, the first row (line {first}) has {there}{hint}"));
+                let here = counted(here, "cell");
+                return Err(format!("this row has {here}, the first row (line {first}) has {there}{hint}"));
             }
             _ => {}
         }
@@ -111,10 +112,8 @@ impl Parts {
         let wrong = |line: usize, message: String| Err(Wrong { line, message });
         match self.size {
             None if self.lines.rows.is_empty() => {
-                return wrong(
-                    self.lines.last,
-                    "the text ends without a row of the plan, and without its size".to_string(),
-                )
+                let message = "the text ends without a row of the plan, and without its size";
+                return wrong(self.lines.last, message.to_string());
             }
             Some((width, height)) if self.lines.rows.is_empty() => (job.width, job.height) = (width, height),
             Some((width, height)) if (width, height) != (job.width, job.height) => {
@@ -157,18 +156,15 @@ impl Parts {
     }
 }
 
+const LONE_RETURN: &str = "a carriage return stands within the line; save the text with a line feed at each line's end";
+const IS_JOB: &str = "(is it a job? 'job read' prints one)";
+
 // The first character that no plan text has.
 fn check_characters(line: &str) -> Field<()> {
     match line.chars().find(|c| c.is_control() && *c != '\t') {
         None => Ok(()),
-        Some('\r') => {
-            Err("a carriage return stands within the line; save the text with a line feed at each line's end"
-                .to_string())
-        }
-        Some(c) => Err(format!(
-            "a control character ({}) is no text (is it a job? 'job read' prints one)",
-            shown(&c.to_string())
-        )),
+        Some('\r') => Err(LONE_RETURN.to_string()),
+        Some(c) => Err(format!("a control character ({}) is no text {IS_JOB}", shown(&c.to_string()))),
     }
 }
 
@@ -206,6 +202,6 @@ pub fn decode(bytes: Vec<u8>) -> Result<String, Wrong> {
     String::from_utf8(bytes).map_err(|e| {
         let before = &e.as_bytes()[..e.utf8_error().valid_up_to()];
         let line = before.iter().filter(|&&b| b == b'\n').count() + 1;
-        Wrong { line, message: "this is no text (is it a job? 'job read' prints one)".to_string() }
+        Wrong { line, message: format!("this is no text {IS_JOB}") }
     })
 }

@@ -18,6 +18,11 @@ pub fn shown(word: &str) -> String {
     word.chars().take(LONGEST).map(seen).collect::<String>() + cut
 }
 
+pub fn counted(n: usize, what: &str) -> String {
+    let ending = if n == 1 { "" } else { "s" };
+    format!("{n} {what}{ending}")
+}
+
 // A file's name is shown whole.
 pub fn shown_name(name: &OsStr) -> String {
     name.to_string_lossy().chars().map(seen).collect()
