@@ -1,11 +1,9 @@
 # Pictures and drawings of plan and route.
 
-picture() { # STATUS NAME TEXT: the picture is the stored one, below the program's own lines
-    tools/route --picture "$3" >"$work/out" 2>"$work/err"
-    same "status of the picture $2" "$1" $?
-    same "messages of the picture $2" "" "$(cat "$work/err")"
-    same_file "the picture $2" $here/"$2.picture" "$work/out"
-    tools/route "$3" | cmp -s - <(head -n "$(tools/route "$3" | wc -l)" "$work/out") || fail "the picture $2: the program's lines"
+picture() { # STATUS NAME TEXT: the program's own lines, an empty one, the stored picture
+    tools/route "$3" | cat - <(echo) $here/"$2.picture" >"$work/whole"
+    told "the picture $2" "$1" "$(cat "$work/whole")" "" tools/route --picture "$3"
+    same_file "the picture $2" "$work/whole" "$work/out"
 }
 picture 0 crossing examples/crossing.txt
 picture 0 twice examples/twice.txt
@@ -30,7 +28,7 @@ strange=$work/$'<a&b>"\e.txt'
 cp examples/twice.txt "$strange"
 drawing 0 "of a text with a strange name" "$strange" "5 visits, 5 points, 1 taps, 1 blocked, 0 cuts"
 both() { tools/route --svg "$work/drawing.svg" --picture examples/twice.txt; }
-told "picture and drawing at once" 0 "$(cat $here/twice.picture)" "" both
+told "picture and drawing at once" 0 "$(tools/route --picture examples/twice.txt)" "" both
 rm -f "$work/drawing.svg"
 edited 's/^limit .*/limit 64/'
 told "a refused job is not drawn" 3 "refused 4" "bad.txt:$(line '^limit'): limit 64 is outside 0 to 63 (refusal 4)" \
