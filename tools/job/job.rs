@@ -1,0 +1,73 @@
+// A job's numbers under their names, and the ranges that document 01 gives them.
+
+pub const LARGEST: u32 = 65_535; // of any number in a job
+
+pub const REGISTER: [&str; 4] = ["R", "K", "C", "setup"];
+pub const WIRE: [&str; 2] = ["R", "C"];
+pub const BUFFER: [&str; 3] = ["R", "K", "C"];
+
+pub const SIDE: u32 = 32; // width and height are 1 to this
+pub const BUFFERS: usize = 6;
+pub const PROGRAM_CELLS: u64 = 128; // the most that the route printer takes
+pub const PROGRAM_VISITS: u32 = 1024; // the most that it prints
+
+pub const BLOCKED: u32 = 1;
+pub const TAP: u32 = 2;
+pub const CUT_RIGHT: u32 = 4;
+pub const CUT_BELOW: u32 = 8;
+pub const MARKS: u32 = 15; // all four
+
+pub const CODE_REGISTER: u32 = 7;
+
+// The range of an element's number, by its name.
+pub fn range(name: &str) -> (u32, u32) {
+    match name {
+        "R" => (0, 255),
+        "K" => (0, 1_000),
+        "C" => (0, 63),
+        _ => (0, 30_000), // setup
+    }
+}
+
+pub const PERIOD: (u32, u32) = (1, 30_000); // ticks
+pub const LIMIT: (u32, u32) = (0, 63);
+
+#[derive(Default, Debug, PartialEq)]
+pub struct Job {
+    pub width: u32,
+    pub height: u32,
+    pub marks: Vec<u32>,
+    pub register: Vec<u32>,   // as REGISTER names them
+    pub horizontal: Vec<u32>, // as WIRE
+    pub vertical: Vec<u32>,
+    pub period: u32,
+    pub limit: u32,
+    pub source: u32,
+    pub sink: u32,
+    pub buffers: Vec<Vec<u32>>, // each as BUFFER
+}
+
+impl Job {
+    pub fn cells(&self) -> u64 {
+        self.width as u64 * self.height as u64
+    }
+
+    pub fn has_mark(&self, cell: u32, mark: u32) -> bool {
+        self.marks[cell as usize] & mark != 0
+    }
+
+    // Whether width and height are within 1 to 32.
+    pub fn sides_fit(&self) -> bool {
+        (1..=SIDE).contains(&self.width) && (1..=SIDE).contains(&self.height)
+    }
+
+    // What is said of sides that do not fit.
+    pub fn sides(&self) -> String {
+        format!("the plan's width is {} and its height {}; each must be 1 to {SIDE}", self.width, self.height)
+    }
+
+    // A cell of the plan as messages show it.
+    pub fn place(&self, cell: u32) -> String {
+        format!("cell {cell} (row {}, column {})", cell / self.width, cell % self.width)
+    }
+}

@@ -1,0 +1,80 @@
+// Plan texts, jobs and routes: a text to job bytes and back, and the route printer's answer with its words and drawings.
+// examples/README.md is its help. Nothing here decides a route: target/bin/route_printer, which is proved, does.
+
+mod answer;
+mod bytes;
+mod cells;
+mod fields;
+mod files;
+mod job;
+mod picture;
+mod refusals;
+mod route;
+mod show;
+mod svg;
+mod text;
+mod words;
+
+use files::{failure, Failure, Source, DONE, TEXT};
+use job::Job;
+use std::ffi::OsString;
+use std::process::ExitCode;
+use text::Lines;
+
+const USAGE: &str = "usage: job write [TEXT]
+       job read [JOB]
+       job route PRINTER TEXT [--picture] [--svg FILE]
+       job --help
+       job --version";
+const HELP: &str = include_str!("../../examples/README.md");
+const VERSION: &str = include_str!("../VERSION");
+
+// The job of a plan text.
+pub fn read_text(from: &Source) -> Result<(Job, Lines), Failure> {
+    let bytes = from.read()?;
+    let read = text::decode(bytes).and_then(|text| text::parse(&text));
+    read.or_else(|wrong| failure(TEXT, format!("{}:{}: {}", from.name(), wrong.line, wrong.message)))
+}
+
+fn write(from: &Source) -> Result<u8, Failure> {
+    let (job, _) = read_text(from)?;
+    files::print(&bytes::encode(&job))?;
+    Ok(DONE)
+}
+
+fn read(from: &Source) -> Result<u8, Failure> {
+    let bytes = from.read()?;
+    let is_text = !bytes.is_empty() && bytes.iter().all(|b| matches!(b, b' '..=b'~' | b'\t' | b'\r' | b'\n'));
+    let hint = if is_text { " (is it a plan text? 'job write' writes its job)" } else { "" };
+    match bytes::decode(&bytes) {
+        Ok(job) => files::print(show::text(&job).as_bytes())?,
+        Err(message) => return failure(TEXT, format!("{}: {message}{hint}", from.name())),
+    }
+    Ok(DONE)
+}
+
+fn run(words: &[OsString]) -> Result<u8, Failure> {
+    let known: Vec<&str> = words.iter().map(|word| word.to_str().unwrap_or("")).collect();
+    match &known[..] {
+        ["--help"] => files::print(HELP.as_bytes()).map(|()| DONE),
+        ["--version"] => files::print(format!("job {VERSION}").as_bytes()).map(|()| DONE),
+        ["write"] | ["write", _] => write(&Source::new(words.get(1))),
+        ["read"] | ["read", _] => read(&Source::new(words.get(1))),
+        ["route", _, _, ..] => match route::drawings(&words[3..]) {
+            Some(drawings) => route::run(&words[1], &Source::new(words.get(2)), &drawings),
+            None => failure(TEXT, USAGE.to_string()),
+        },
+        _ => failure(TEXT, USAGE.to_string()),
+    }
+}
+
+fn main() -> ExitCode {
+    let words: Vec<OsString> = std::env::args_os().skip(1).collect();
+    let status = run(&words).unwrap_or_else(|failure| {
+        if !failure.message.is_empty() {
+            files::complain(&failure.message);
+        }
+        failure.status
+    });
+    ExitCode::from(status)
+}

@@ -1,0 +1,100 @@
+// A refusal in words. The program gives the number; the text shows what it is about, and where.
+
+use crate::job::{
+    range, Job, BUFFER, BUFFERS, CUT_BELOW, CUT_RIGHT, LIMIT, MARKS, PERIOD, PROGRAM_CELLS, PROGRAM_VISITS,
+};
+use crate::job::{REGISTER, SIDE, WIRE};
+use crate::text::Lines;
+
+// The line, where one shows it, and the words.
+type Reason = (Option<usize>, String);
+
+fn outside(what: &str, value: u32, (least, most): (u32, u32)) -> Option<String> {
+    let fits = (least..=most).contains(&value);
+    (!fits).then(|| format!("{what} {value} is outside {least} to {most}"))
+}
+
+fn grid(job: &Job, lines: &Lines) -> Option<Reason> {
+    let wide = job.width == 0 || job.width > SIDE;
+    let line = if wide || job.height == 0 { lines.row(0) } else { lines.row(SIDE as usize) };
+    (!job.sides_fit()).then(|| (Some(line), job.sides()))
+}
+
+fn size(job: &Job, lines: &Lines) -> Option<Reason> {
+    let line = lines.row((PROGRAM_CELLS / job.width.max(1) as u64) as usize);
+    let words = format!("the plan has {} cells ({} by {})", job.cells(), job.width, job.height);
+    (job.cells() > PROGRAM_CELLS)
+        .then(|| (Some(line), format!("{words}, and the program takes at most {PROGRAM_CELLS}")))
+}
+
+// While reading, a byte above 15 anywhere; then the first cell with a cut where there is no wire.
+fn marks(job: &Job, lines: &Lines) -> Option<Reason> {
+    let at = |cell: usize, what: String| {
+        let row = cell as u32 / job.width;
+        Some((Some(lines.row(row as usize)), format!("{} {what}", job.place(cell as u32))))
+    };
+    if let Some(cell) = job.marks.iter().position(|&m| m > MARKS) {
+        return at(cell, format!("has marks {}, outside 0 to {MARKS}", job.marks[cell]));
+    }
+    for (cell, &m) in job.marks.iter().enumerate() {
+        if m & CUT_RIGHT != 0 && (cell as u32 + 1) % job.width == 0 {
+            return at(cell, "cuts the wire to the right, and the last column has none".to_string());
+        }
+        if m & CUT_BELOW != 0 && cell as u32 / job.width == job.height - 1 {
+            return at(cell, "cuts the wire below, and the last row has none".to_string());
+        }
+    }
+    None
+}
+
+// The number of buffers is tested while reading, so before all others.
+fn element(job: &Job, lines: &Lines) -> Option<Reason> {
+    if job.buffers.len() > BUFFERS {
+        let words = format!("{} buffers are given, and at most {BUFFERS} are taken", job.buffers.len());
+        return Some((Some(lines.buffers[BUFFERS]), words));
+    }
+    let each = |what: &str, names: &[&str], values: &[u32]| {
+        names.iter().zip(values).find_map(|(name, &v)| outside(&format!("{what} {name}"), v, range(name)))
+    };
+    let at = |name: &str, words: Option<String>| words.map(|words| (Some(lines.of(name)), words));
+    let buffer = |place: usize| {
+        let words = each(&format!("buffer {}", place + 1), &BUFFER, &job.buffers[place]);
+        words.map(|words| (Some(lines.buffers[place]), words))
+    };
+    at("period", outside("period", job.period, PERIOD))
+        .or_else(|| at("limit", outside("limit", job.limit, LIMIT)))
+        .or_else(|| at("horizontal", each("horizontal", &WIRE, &job.horizontal)))
+        .or_else(|| at("vertical", each("vertical", &WIRE, &job.vertical)))
+        .or_else(|| at("register", each("register", &REGISTER, &job.register)))
+        .or_else(|| (0..job.buffers.len()).find_map(buffer))
+}
+
+fn ends(job: &Job, lines: &Lines) -> Option<Reason> {
+    for (name, cell) in [("source", job.source), ("sink", job.sink)] {
+        if cell as u64 >= job.cells() {
+            let words =
+                format!("{name} {cell} is not in the plan, whose cells are 0 to {}", job.cells().saturating_sub(1));
+            return Some((Some(lines.of(name)), words));
+        }
+    }
+    let line = lines.of("source").max(lines.of("sink"));
+    (job.source == job.sink).then(|| (Some(line), format!("source and sink are both {}", job.place(job.sink))))
+}
+
+// What the text shows of a refusal; where it shows nothing, document 01's words for the number.
+pub fn reason(number: u32, job: &Job, lines: &Lines) -> Option<Reason> {
+    let (found, general) = match number {
+        1 => (grid(job, lines), "width and height must be 1 to 32"),
+        3 => (marks(job, lines), "a cell has a mark that it cannot have"),
+        4 => (element(job, lines), "a number is outside its range"),
+        5 => (ends(job, lines), "source and sink must be two cells of the plan"),
+        8 => {
+            let words =
+                format!("the best route has more than {PROGRAM_VISITS} visits, and the program prints at most so many");
+            (Some((None, words)), "")
+        }
+        16 => (size(job, lines), "the plan has more cells than the program takes"),
+        _ => return None,
+    };
+    Some(found.unwrap_or((None, general.to_string())))
+}
