@@ -60,6 +60,7 @@ fn table_plans() -> Vec<Plan> {
         plan(Hard, "comb, buffer sites at tips", plans::buffer_comb(FULL, 29000)),
         plan(Hard, "comb, taps at tips", plans::tap_comb(FULL, 600)),
         plan(Hard, "comb, every tip needed", plans::long_comb(FULL, 28000)),
+        plan(Hard, "ladder, L 8, five buffers", plans::ladder(32, 23856)),
         plan(Hard, "serpentine cut at the sink", plans::broken_serpentine(FULL, 100, true)),
         plan(Hard, "serpentine cut at the source", plans::broken_serpentine(FULL, 100, false)),
     ]
@@ -167,7 +168,7 @@ fn table(budget: Duration) -> bool {
             None => return false,
         }
     }
-    println!("32 x 32, L 63, six buffers. {LEGEND}");
+    println!("32 x 32, L 63 and six buffers where the name says nothing else. {LEGEND}");
     println!();
     println!("| plan | T | {COLUMNS}");
     println!("|---|---|---|---|---|---|---|---|---|---|");

@@ -161,3 +161,28 @@ pub fn long_comb(size: Size, period: u16) -> Problem {
     p.vertical = Wire { r: 1, c: 1 };
     p
 }
+
+/// Pairs of columns: buffer sites on the left, blocked cells on the right, rungs between them, one way on to the next pair,
+/// at the bottom and at the top in turn. Each step down a column weighs as much as the load limit, so that a buffer of no
+/// load must stand before it, and each chain of buffers that is two steps longer is a little cheaper.
+pub fn ladder(side: usize, period: u16) -> Problem {
+    let end = |pair: usize| if pair % 2 == 0 { 0 } else { side - 1 };
+    let marks = (0..side * side)
+        .map(|cell| {
+            let (row, column) = (cell / side, cell % side);
+            match column % 2 {
+                0 if row + 1 < side => CUT_BELOW,
+                0 => 0,
+                _ if column + 1 < side && row != end(column / 2) => BLOCKED | CUT_RIGHT,
+                _ => BLOCKED,
+            }
+        })
+        .collect();
+    let source = end((side - 1) / 2) * side + side - 1;
+    let mut p = problem(Size { side, buffers: 6, limit: 8 }, period, marks, source, (side - 1) * side + 1);
+    p.register = Register { r: 16, k: 0, c: 8, setup: 0 };
+    p.horizontal = Wire { r: 0, c: 0 };
+    p.vertical = Wire { r: 0, c: 8 };
+    p.buffers = [(0, 7), (1, 4), (3, 2), (7, 1), (15, 0)].map(|(r, c)| Buffer { r, k: 0, c }).to_vec();
+    p
+}
