@@ -1,13 +1,9 @@
 // Reads a job from standard input and writes the text of its answer: document 01, "The job and its printed sheet".
 // What it writes is `printed` of the bytes read (crates/printing); 222 bytes decide it. After a failed read it writes
 // nothing but a line on standard error.
-mod input;
-mod output;
-
-use input::Input;
-use input::read_input;
-use output::write_text;
 use printing::print_job;
+use streams::read_input;
+use streams::write_text;
 
 // The bytes of input that decide.
 const INPUT: usize = 222;
@@ -36,8 +32,10 @@ fn answer(job: &[u8]) {
 fn main() {
     let mut space = [0u8; INPUT];
     let input = read_input(&mut space);
-    match input {
-        Input::Bytes(n) => answer(&space[..n]),
-        Input::Failed => os::fail(b"route_printer: standard input"),
+    if input.failed {
+        os::fail(b"route_printer: standard input");
+        return;
     }
+    let n = input.bytes;
+    answer(&space[..n]);
 }

@@ -1,11 +1,11 @@
--- `route_printer::output::write_text` is safe and ends. Each turn writes a byte or uses up an interruption.
+-- `streams::output::write_text` is safe and ends. Each turn writes a byte or uses up an interruption.
 use Prim.Native.Nat.{_+_, _-_, _≤_}
 use mathlib.Core.Logic.{⊎-elim}
 use native.Mathlib.Omega.{arith}
 use lib.ListN.{length}
 use borrow.Author.Needs.{needs}
-use Rattle.route_printer.proofs.output.write_text.Statement.{statement}
-use Rattle.route_printer.proofs.output.write_text.Tie as tie
+use Rattle.streams.proofs.output.write_text.Statement.{statement}
+use Rattle.streams.proofs.output.write_text.Tie as tie
 
 abbrev Inv-loop : tie.InvT-loop
 Inv-loop text done₀ left₀ done left = done ≤ length text

@@ -24,3 +24,10 @@ pub fn write_text(text: &[u8]) -> bool {
     }
     true
 }
+
+// A space and the number in decimal; whether both were written.
+pub fn write_number(n: u64) -> bool {
+    let mut digits = [0u8; 20];
+    let k = io::decimal(n, &mut digits);
+    write_text(b" ") && write_text(&digits[..k])
+}

@@ -1,12 +1,13 @@
--- `route_printer::input::read_input` meets its contract. Each turn fills a byte or uses up an interruption.
+-- `streams::input::read_input` meets its contract. Each turn fills a byte or uses up an interruption.
 use Prim.Native.Nat.{_+_, _-_, _≤_}
 use mathlib.Core.Path.{_≡_}
 use mathlib.Core.Logic.{⊎-elim}
 use native.Mathlib.Omega.{arith}
 use lib.ListN.{length}
 use borrow.Author.Needs.{needs}
-use Rattle.route_printer.proofs.input.read_input.Statement.{statement}
-use Rattle.route_printer.proofs.input.read_input.Tie as tie
+use Rattle.streams.proofs.Counted.{counted}
+use Rattle.streams.proofs.input.read_input.Statement.{statement}
+use Rattle.streams.proofs.input.read_input.Tie as tie
 
 abbrev Inv-loop : tie.InvT-loop
 Inv-loop space₀ done₀ left₀ space done left = (done ≤ length space) × (length space ≡ length space₀)
@@ -45,7 +46,7 @@ same-length : tie.Need-same-length Inv-loop μ-loop
 same-length c = omega arith
 
 returns : tie.Need-returns Inv-loop μ-loop
-returns c = search needs
+returns c = counted _ _ (omega arith)
 
 errno-requires : tie.Need-errno-requires Inv-loop μ-loop
 errno-requires c κs = search needs
@@ -54,13 +55,13 @@ same-length-2 : tie.Need-same-length-2 Inv-loop μ-loop
 same-length-2 c = omega arith
 
 returns-2 : tie.Need-returns-2 Inv-loop μ-loop
-returns-2 c = search needs
+returns-2 c = counted _ _ (omega arith)
 
 same-length-3 : tie.Need-same-length-3 Inv-loop μ-loop
 same-length-3 c = omega arith
 
 returns-3 : tie.Need-returns-3 Inv-loop μ-loop
-returns-3 c = search needs
+returns-3 c = counted _ _ (omega arith)
 
 sub-left : tie.Need-sub-left Inv-loop μ-loop
 sub-left c = omega arith
@@ -78,7 +79,7 @@ same-length-4 : tie.Need-same-length-4 Inv-loop μ-loop
 same-length-4 c = omega arith
 
 returns-4 : tie.Need-returns-4 Inv-loop μ-loop
-returns-4 c = search needs
+returns-4 c = counted _ _ (omega arith)
 
 pub read-input-spec : {M : Type 1} → statement M
 read-input-spec =
