@@ -3,8 +3,8 @@ use Prim.Native.Nat.{_-_, _≤_}
 use native.Mathlib.Omega.{arith}
 use lib.ListN.{length}
 use borrow.Author.Needs.{needs}
-use Rattle.route_cases.proofs.report.all.Statement.{statement}
-use Rattle.route_cases.proofs.report.all.Tie as tie
+use Rattle.route_cases.proofs.call.all.Statement.{statement}
+use Rattle.route_cases.proofs.call.all.Tie as tie
 
 abbrev Inv-loop : tie.InvT-loop
 Inv-loop words start end value stop i₀ i = stop ≤ length words
