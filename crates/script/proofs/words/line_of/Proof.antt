@@ -4,23 +4,23 @@ use mathlib.Core.Logic.{⊎-elim}
 use native.Mathlib.Omega.{arith}
 use lib.ListN.{length}
 use borrow.Author.Needs.{needs}
-use Rattle.session_player.proofs.play.line_of.Statement.{statement}
-use Rattle.session_player.proofs.play.line_of.Tie as tie
+use Rattle.script.proofs.words.line_of.Statement.{statement}
+use Rattle.script.proofs.words.line_of.Tie as tie
 
 abbrev Inv-loop : tie.InvT-loop
-Inv-loop src at stop line₀ i₀ line i = (stop ≤ length src) × (line ≤ i + 1)
+Inv-loop src at line₀ i₀ line i = (line ≤ i + 1) × (i ≤ length src)
 
 abbrev μ-loop : tie.MeasureT-loop
-μ-loop src at stop line₀ i₀ line i = stop - i
-
-smaller-requires : tie.Need-smaller-requires Inv-loop μ-loop
-smaller-requires c κs = search needs
+μ-loop src at line₀ i₀ line i = length src - i
 
 loop-holds : tie.Need-loop-holds Inv-loop μ-loop
 loop-holds c = omega arith
 
-shared-slice-read-if1 : tie.Need-shared-slice-read-if1 Inv-loop μ-loop
-shared-slice-read-if1 c = omega arith
+returns : tie.Need-returns Inv-loop μ-loop
+returns c = search needs
+
+shared-slice-read-if2 : tie.Need-shared-slice-read-if2 Inv-loop μ-loop
+shared-slice-read-if2 c = omega arith
 
 add-line : tie.Need-add-line Inv-loop μ-loop
 add-line c = omega arith
@@ -32,10 +32,10 @@ loop-less : tie.Need-loop-less Inv-loop μ-loop
 loop-less c = omega arith
 
 loop-again : tie.Need-loop-again Inv-loop μ-loop
-loop-again c = ⊎-elim (λ w. omega arith) (λ w. omega arith) (c .if1 .came)
+loop-again c = ⊎-elim (λ w. omega arith) (λ w. omega arith) (c .if2 .came)
 
-returns : tie.Need-returns Inv-loop μ-loop
-returns c = search needs
+returns-2 : tie.Need-returns-2 Inv-loop μ-loop
+returns-2 c = search needs
 
 pub line-of-spec : {M : Type 1} → statement M
 line-of-spec =
@@ -43,11 +43,11 @@ line-of-spec =
     (tie.spec
     Inv-loop
     μ-loop
-    smaller-requires
     loop-holds
-    shared-slice-read-if1
+    returns
+    shared-slice-read-if2
     add-line
     add-i
     loop-less
     loop-again
-    returns)
+    returns-2)

@@ -1,12 +1,12 @@
--- At most six buffers.
+-- Six places; the loop ends at `stop`.
 use Prim.Native.Nat.{_-_, _≤_}
 use native.Mathlib.Omega.{arith}
 use borrow.Author.Needs.{needs}
-use Rattle.session_player.proofs.play.set_buffers.Statement.{statement}
-use Rattle.session_player.proofs.play.set_buffers.Tie as tie
+use Rattle.session_player.proofs.commands.set_buffers.Statement.{statement}
+use Rattle.session_player.proofs.commands.set_buffers.Tie as tie
 
 abbrev Inv-loop : tie.InvT-loop
-Inv-loop src p stop items₀ cursor₀ i₀ items cursor i = stop ≤ 6
+Inv-loop src p stop items₀ cursor₀ i₀ items cursor i = stop ≤ 20
 
 abbrev μ-loop : tie.MeasureT-loop
 μ-loop src p stop items₀ cursor₀ i₀ items cursor i = stop - i
@@ -14,11 +14,8 @@ abbrev μ-loop : tie.MeasureT-loop
 read-number-requires : tie.Need-read-number-requires Inv-loop μ-loop
 read-number-requires c κs = search needs
 
-cast-smaller : tie.Need-cast-smaller Inv-loop μ-loop
-cast-smaller c = omega arith
-
-smaller-requires : tie.Need-smaller-requires Inv-loop μ-loop
-smaller-requires c κs = search needs
+cast-stop : tie.Need-cast-stop Inv-loop μ-loop
+cast-stop c = omega arith
 
 loop-holds : tie.Need-loop-holds Inv-loop μ-loop
 loop-holds c = omega arith
@@ -57,8 +54,7 @@ set-buffers-spec =
     Inv-loop
     μ-loop
     read-number-requires
-    cast-smaller
-    smaller-requires
+    cast-stop
     loop-holds
     read-number-requires-2
     read-number-requires-3

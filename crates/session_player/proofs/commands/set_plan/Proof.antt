@@ -4,8 +4,8 @@ use mathlib.Core.Path.{_≡_}
 use native.Mathlib.Omega.{arith}
 use lib.ListN.{length, length-set}
 use borrow.Author.Needs.{needs}
-use Rattle.session_player.proofs.play.set_plan.Statement.{statement}
-use Rattle.session_player.proofs.play.set_plan.Tie as tie
+use Rattle.session_player.proofs.commands.set_plan.Statement.{statement}
+use Rattle.session_player.proofs.commands.set_plan.Tie as tie
 
 abbrev Inv-loop : tie.InvT-loop
 Inv-loop src p plan₀ stop cursor₀ i₀ plan cursor i = (stop ≤ length plan₀) × (length plan ≡ length plan₀)

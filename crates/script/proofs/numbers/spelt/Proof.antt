@@ -2,8 +2,8 @@
 use Prim.Native.Nat.{_-_, _≤_}
 use native.Mathlib.Omega.{arith}
 use borrow.Author.Needs.{needs}
-use Rattle.session_player.proofs.script.spelt.Statement.{statement}
-use Rattle.session_player.proofs.script.spelt.Tie as tie
+use Rattle.script.proofs.numbers.spelt.Statement.{statement}
+use Rattle.script.proofs.numbers.spelt.Tie as tie
 
 abbrev Inv-loop : tie.InvT-loop
 Inv-loop src start end value₀ i₀ value i = 0 ≤ i
