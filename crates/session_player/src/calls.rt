@@ -3,10 +3,10 @@ use crate::lines::write_bytes;
 use crate::lines::write_call;
 use crate::lines::write_line;
 use crate::lines::write_route;
-use crate::player::Player;
-use crate::player::Turn;
-use crate::player::ended;
 use answers::Answer;
+use player::Player;
+use player::Turn;
+use player::next;
 use report::smaller;
 use router::route_with;
 use script::Cursor;
@@ -16,6 +16,9 @@ use session::open_at;
 use session::set_marks_at;
 use session::undo_at;
 use streams::write_text;
+
+// A line of output was not written: why a play ends, beside what is wrong with a script.
+pub const UNWRITTEN: u8 = 4;
 
 // The largest number of a script.
 const MAX: u16 = 65535;
@@ -29,6 +32,13 @@ struct Ends {
     height: u16,
     source: u16,
     sink: u16,
+}
+
+// The turn after a line of output; one that was not written ends the play.
+fn ended(c: Cursor, p: Player, written: bool) -> Turn {
+    let bad = if written { c.bad } else { UNWRITTEN };
+    let cursor = Cursor { at: c.at, bad: bad };
+    next(cursor, p)
 }
 
 // The line of a session call, and its record kept.
@@ -47,10 +57,7 @@ pub fn open(src: &[u8], c: Cursor, p: Player, plan: &[u8], journal: &mut [u8]) -
     let h = read_number(src, w.cursor, MAX);
     let cursor = h.cursor;
     if cursor.bad != 0 {
-        return Turn {
-            cursor: cursor,
-            player: p,
-        };
+        return next(cursor, p);
     }
     let n = smaller(p.plan, plan.len());
     let m = smaller(p.journal, journal.len());
@@ -64,10 +71,7 @@ pub fn set_marks(src: &[u8], c: Cursor, p: Player, plan: &mut [u8], journal: &mu
     let marks = read_number(src, cell.cursor, 255);
     let cursor = marks.cursor;
     if cursor.bad != 0 {
-        return Turn {
-            cursor: cursor,
-            player: p,
-        };
+        return next(cursor, p);
     }
     let n = smaller(p.plan, plan.len());
     let m = smaller(p.journal, journal.len());
@@ -157,10 +161,7 @@ pub fn route(
     let v = read_number(src, b.cursor, 2048);
     let cursor = v.cursor;
     if cursor.bad != 0 {
-        return Turn {
-            cursor: cursor,
-            player: p,
-        };
+        return next(cursor, p);
     }
     let ends = Ends {
         width: w.value,

@@ -23,10 +23,8 @@
 //
 // The calls are the covered functions below `planner`'s open, set_marks, undo and route: a caller of those would be a walk too. `tests/calls` runs those.
 mod calls;
-mod commands;
 mod lines;
 mod play;
-mod player;
 
 use lines::write_too_long;
 use play::play;

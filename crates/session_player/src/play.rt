@@ -1,67 +1,20 @@
 // The commands of a script, one after the other.
+use crate::calls::UNWRITTEN;
 use crate::calls::open;
 use crate::calls::route;
 use crate::calls::set_marks;
 use crate::calls::show;
 use crate::calls::undo;
-use crate::commands::set_buffers;
-use crate::commands::set_byte;
-use crate::commands::set_depth;
-use crate::commands::set_journal;
-use crate::commands::set_plan;
-use crate::commands::set_scratch;
-use crate::commands::set_tables;
 use crate::lines::write_bad;
-use crate::player::Player;
-use crate::player::Turn;
-use crate::player::UNKNOWN;
-use crate::player::UNWRITTEN;
-use crate::player::new_player;
+use player::Player;
+use player::Turn;
+use player::lend;
+use player::new_player;
 use script::Cursor;
 use script::is_word;
 use script::line_of;
 use script::skip;
 use script::word_end;
-
-// Whether the word from `start` up to `end` is a command, and which: one that only lends, or any other.
-fn lend(
-    src: &[u8],
-    start: usize,
-    end: usize,
-    p: Player,
-    plan: &mut [u8],
-    journal: &mut [u8],
-) -> Turn {
-    let c = Cursor { at: end, bad: 0 };
-    if is_word(src, start, end, b"plan") {
-        return set_plan(src, c, p, plan);
-    }
-    if is_word(src, start, end, b"tables") {
-        return set_tables(src, c, p);
-    }
-    if is_word(src, start, end, b"buffers") {
-        return set_buffers(src, c, p);
-    }
-    if is_word(src, start, end, b"journal") {
-        return set_journal(src, c, p);
-    }
-    if is_word(src, start, end, b"scratch") {
-        return set_scratch(src, c, p);
-    }
-    if is_word(src, start, end, b"depth") {
-        return set_depth(src, c, p);
-    }
-    if is_word(src, start, end, b"byte") {
-        return set_byte(src, c, p, journal);
-    }
-    Turn {
-        cursor: Cursor {
-            at: start,
-            bad: UNKNOWN,
-        },
-        player: p,
-    }
-}
 
 // The command whose word starts at `start`.
 fn one_command(

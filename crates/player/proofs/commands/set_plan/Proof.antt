@@ -4,8 +4,8 @@ use mathlib.Core.Path.{_≡_}
 use native.Mathlib.Omega.{arith}
 use lib.ListN.{length, length-set}
 use borrow.Author.Needs.{needs}
-use Rattle.session_player.proofs.commands.set_plan.Statement.{statement}
-use Rattle.session_player.proofs.commands.set_plan.Tie as tie
+use Rattle.player.proofs.commands.set_plan.Statement.{statement}
+use Rattle.player.proofs.commands.set_plan.Tie as tie
 
 abbrev Inv-loop : tie.InvT-loop
 Inv-loop src p plan₀ stop cursor₀ i₀ plan cursor i = (stop ≤ length plan₀) × (length plan ≡ length plan₀)
@@ -43,6 +43,9 @@ loop-less c = omega arith
 loop-again : tie.Need-loop-again Inv-loop μ-loop
 loop-again c = (omega arith, simp length-set (c .before .before .before .before .loop .inv .1))
 
+next-requires : tie.Need-next-requires Inv-loop μ-loop
+next-requires c κs = search needs
+
 same-length : tie.Need-same-length Inv-loop μ-loop
 same-length c = omega arith
 
@@ -65,5 +68,6 @@ set-plan-spec =
     add-i
     loop-less
     loop-again
+    next-requires
     same-length
     returns)

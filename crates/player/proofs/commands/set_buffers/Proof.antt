@@ -2,8 +2,8 @@
 use Prim.Native.Nat.{_-_, _≤_}
 use native.Mathlib.Omega.{arith}
 use borrow.Author.Needs.{needs}
-use Rattle.session_player.proofs.commands.set_buffers.Statement.{statement}
-use Rattle.session_player.proofs.commands.set_buffers.Tie as tie
+use Rattle.player.proofs.commands.set_buffers.Statement.{statement}
+use Rattle.player.proofs.commands.set_buffers.Tie as tie
 
 abbrev Inv-loop : tie.InvT-loop
 Inv-loop src p stop items₀ cursor₀ i₀ items cursor i = stop ≤ 20
@@ -44,6 +44,9 @@ loop-less c = omega arith
 loop-again : tie.Need-loop-again Inv-loop μ-loop
 loop-again c = omega arith
 
+next-requires : tie.Need-next-requires Inv-loop μ-loop
+next-requires c κs = search needs
+
 returns : tie.Need-returns Inv-loop μ-loop
 returns c = search needs
 
@@ -64,4 +67,5 @@ set-buffers-spec =
     add-i
     loop-less
     loop-again
+    next-requires
     returns)

@@ -7,10 +7,8 @@ use answers::WireRecord;
 use script::Cursor;
 use session::Session;
 
-// What is wrong with a script beside its numbers: a word is no command. Or a line of output was not written.
+// What is wrong with a script beside its numbers: a word is no command.
 pub const UNKNOWN: u8 = 3;
-
-pub const UNWRITTEN: u8 = 4;
 
 // The record, the lengths of plan, journal and scratch, and the tables of the next route call.
 pub struct Player {
@@ -66,11 +64,9 @@ pub fn new_player() -> Player {
     }
 }
 
-// The turn of a command that printed; a line that was not written ends the play.
-pub fn ended(c: Cursor, p: Player, written: bool) -> Turn {
-    let bad = if written { c.bad } else { UNWRITTEN };
+pub fn next(c: Cursor, p: Player) -> Turn {
     Turn {
-        cursor: Cursor { at: c.at, bad: bad },
+        cursor: c,
         player: p,
     }
 }

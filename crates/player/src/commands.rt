@@ -1,6 +1,7 @@
-// The commands that lend: plan, journal, scratch, tables and buffers, and what is put into the session.
-use crate::player::Player;
-use crate::player::Turn;
+// The commands that only lend: plan, journal, scratch, tables and buffers, and what is put into the session.
+use crate::state::Player;
+use crate::state::Turn;
+use crate::state::next;
 use answers::BufferList;
 use answers::BufferRecord;
 use answers::RegisterRecord;
@@ -23,16 +24,13 @@ pub fn set_plan(src: &[u8], c: Cursor, p: Player, plan: &mut [u8]) -> Turn {
     while i < stop {
         let m = read_number(src, cursor, 255);
         plan[i] = m.value as u8;
-        let next = m.cursor;
-        cursor = next;
+        let after = m.cursor;
+        cursor = after;
         i += 1;
     }
     let mut q = p;
     q.plan = stop;
-    Turn {
-        cursor: cursor,
-        player: q,
-    }
+    next(cursor, q)
 }
 
 // journal N
@@ -40,11 +38,7 @@ pub fn set_journal(src: &[u8], c: Cursor, p: Player) -> Turn {
     let n = read_number(src, c, 1100);
     let mut q = p;
     q.journal = n.value as usize;
-    let cursor = n.cursor;
-    Turn {
-        cursor: cursor,
-        player: q,
-    }
+    next(n.cursor, q)
 }
 
 // scratch N
@@ -52,11 +46,7 @@ pub fn set_scratch(src: &[u8], c: Cursor, p: Player) -> Turn {
     let n = read_large(src, c, 262144);
     let mut q = p;
     q.scratch = n.value as usize;
-    let cursor = n.cursor;
-    Turn {
-        cursor: cursor,
-        player: q,
-    }
+    next(n.cursor, q)
 }
 
 // depth D
@@ -64,11 +54,7 @@ pub fn set_depth(src: &[u8], c: Cursor, p: Player) -> Turn {
     let d = read_number(src, c, MAX);
     let mut q = p;
     q.session.depth = d.value;
-    let cursor = d.cursor;
-    Turn {
-        cursor: cursor,
-        player: q,
-    }
+    next(d.cursor, q)
 }
 
 // Puts a byte into the journal, if it has the place.
@@ -84,11 +70,7 @@ pub fn set_byte(src: &[u8], c: Cursor, p: Player, journal: &mut [u8]) -> Turn {
     let at = read_number(src, c, 1099);
     let value = read_number(src, at.cursor, 255);
     put(journal, at.value as usize, value.value as u8);
-    let cursor = value.cursor;
-    Turn {
-        cursor: cursor,
-        player: p,
-    }
+    next(value.cursor, p)
 }
 
 // tables R K C S R C R C T L
@@ -123,11 +105,7 @@ pub fn set_tables(src: &[u8], c: Cursor, p: Player) -> Turn {
     };
     let mut q = p;
     q.tables = tables;
-    let cursor = limit.cursor;
-    Turn {
-        cursor: cursor,
-        player: q,
-    }
+    next(limit.cursor, q)
 }
 
 // buffers N R K C ..: the call is told how many there are, and the first six.
@@ -154,8 +132,8 @@ pub fn set_buffers(src: &[u8], c: Cursor, p: Player) -> Turn {
             };
             items[i] = b;
         }
-        let next = l.cursor;
-        cursor = next;
+        let after = l.cursor;
+        cursor = after;
         i += 1;
     }
     let mut q = p;
@@ -164,8 +142,5 @@ pub fn set_buffers(src: &[u8], c: Cursor, p: Player) -> Turn {
         items: items,
     };
     q.list = list;
-    Turn {
-        cursor: cursor,
-        player: q,
-    }
+    next(cursor, q)
 }
