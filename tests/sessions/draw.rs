@@ -2,7 +2,7 @@
 
 use crate::calls::Session;
 use crate::plan::{invalid_mark, BELOW, RIGHT};
-use crate::question::{Question, Tables};
+use crate::question::{Question, Tables, SCRATCH};
 use crate::random::Random;
 use crate::script::Command;
 
@@ -129,7 +129,7 @@ pub fn spoilt(r: &mut Random, good: &Tables) -> Tables {
             t.numbers[at] = if at == 8 && r.chance(50) { 0 } else { MOST[at] + more };
         } else {
             if r.chance(60) {
-                t.buffers.resize(6, [1, 1, 1]);
+                t.buffers.resize(r.pick(&[6, 6, 6, 7, 7, 8, 20]), [1, 1, 1]);
             }
             if !t.buffers.is_empty() {
                 let at = r.below(t.buffers.len() as u32) as usize;
@@ -139,6 +139,13 @@ pub fn spoilt(r: &mut Random, good: &Tables) -> Tables {
         }
     }
     t
+}
+
+// How many scratch words are lent: about as many as the question needs, or all.
+pub fn scratch(r: &mut Random, q: &Question) -> u32 {
+    let need = 256 * (q.width * q.height).min(1_024);
+    let any = r.below(need + 1);
+    r.pick(&[need, need, need.saturating_sub(1), need.saturating_sub(1), need + 1, any, 0, 1, SCRATCH]).min(SCRATCH)
 }
 
 // Sides and ends of a question; on a large plan the ends are near each other.
@@ -204,26 +211,37 @@ fn entry_byte(r: &mut Random, (w, h): (u32, u32), s: &Session, at: usize) -> Com
     Command::Byte(at as u32 + place, value as u32)
 }
 
+const NO_COMMAND: &str = "this word is no command";
+const NO_NUMBER: &str = "a number is missing";
+const TOO_LARGE: &str = "a number is too large";
+
 // Each is wrong at its last word.
-pub fn bad_command(r: &mut Random) -> &'static str {
-    r.pick(&[
-        "jump",
-        "Move",
-        "moves",
-        "move 3 undo",
-        "move 1 -1",
-        "move 0 256",
-        "move 65536",
-        "open 3 3x",
-        "depth 100000",
-        "byte 1100",
-        "journal 1101",
-        "plan 1101",
-        "plan 3 0 0 256",
-        "plan 3 0 0 show",
-        "buffers 7",
-        "buffers 1 2 3 show",
-        "tables 1 1 1 1 1 1 1 1 1 show",
-        "route 1 1 0 0 2049",
-    ])
+pub fn bad_command(r: &mut Random) -> Command {
+    let (text, reason) = r.pick(&[
+        ("jump", NO_COMMAND),
+        ("Move", NO_COMMAND),
+        ("moves", NO_COMMAND),
+        ("mov", NO_COMMAND),
+        ("move 3 undo", NO_NUMBER),
+        ("move 1 -1", NO_NUMBER),
+        ("move 0 256", TOO_LARGE),
+        ("move 65536", TOO_LARGE),
+        ("open 3 3x", NO_NUMBER),
+        ("depth 100000", TOO_LARGE),
+        ("depth 99999999999999999999", TOO_LARGE),
+        ("byte 1100", TOO_LARGE),
+        ("journal 1101", TOO_LARGE),
+        ("plan 1101", TOO_LARGE),
+        ("plan 3 0 0 256", TOO_LARGE),
+        ("plan 3 0 0 show", NO_NUMBER),
+        ("buffers 21", TOO_LARGE),
+        ("buffers 1 2 3 show", NO_NUMBER),
+        ("buffers 7 1 1 1 1 1 1 1 1 1 1 1 1 1 1 1 1 1 1 1 1 show", NO_NUMBER),
+        ("tables 1 1 1 1 1 1 1 1 1 show", NO_NUMBER),
+        ("scratch 262145", TOO_LARGE),
+        ("scratch 1000000", TOO_LARGE),
+        ("scratch show", NO_NUMBER),
+        ("route 1 1 0 0 2049", TOO_LARGE),
+    ]);
+    Command::Bad(text, reason)
 }

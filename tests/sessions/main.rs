@@ -48,21 +48,19 @@ fn printed(player: &str, text: &str) -> Result<String, String> {
         .args(["20", player])
         .stdin(Stdio::piped())
         .stdout(Stdio::piped())
+        .stderr(Stdio::piped())
         .spawn()
         .map_err(|e| format!("it does not start: {e}"))?;
     let _ = child.stdin.take().unwrap().write_all(text.as_bytes()); // the program reads all before it prints
     let out = child.wait_with_output().map_err(|e| e.to_string())?;
     let lines = String::from_utf8_lossy(&out.stdout).to_string();
-    if out.status.success() {
+    if !out.stderr.is_empty() {
+        Err(format!("on standard error {:?}", String::from_utf8_lossy(&out.stderr)))
+    } else if out.status.success() {
         Ok(lines)
     } else {
         Err(format!("{}, its last line {:?}", out.status, lines.lines().last()))
     }
-}
-
-// A line of a bad script says how it is wrong in its own words.
-fn same(expected: &str, line: &str) -> bool {
-    expected == line || (expected.starts_with("bad script: ") && line.starts_with(expected))
 }
 
 // A line, or of a long one only the word where two differ.
@@ -80,7 +78,7 @@ fn difference(script: &Script, text: &str) -> Option<String> {
     let printed: Vec<&str> = text.lines().collect();
     for (at, line) in script.lines.iter().enumerate() {
         let got = printed.get(at).copied().unwrap_or("(nothing)");
-        if !same(&line.text, got) {
+        if line.text != got {
             let command = script.commands[line.command].text();
             let same = line.text.split(' ').zip(got.split(' ')).take_while(|(a, b)| a == b).count();
             let (model, printed) = (clip(&line.text, same.max(1)), clip(got, same.max(1)));

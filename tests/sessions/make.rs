@@ -3,7 +3,7 @@
 use crate::draw;
 use crate::mix::Mix;
 use crate::player::{Player, Trouble};
-use crate::question::{self, Answer, Question};
+use crate::question::{self, Answer, Question, SCRATCH};
 use crate::random::Random;
 use crate::script::{self, Command};
 use crate::stories::Kind;
@@ -138,8 +138,15 @@ impl Maker<'_> {
             self.tighten(&q)?;
         }
         self.room(&mut q);
+        if self.r.chance(20) {
+            let n = draw::scratch(&mut self.r, &q);
+            self.put(Command::Scratch(n))?;
+        }
         self.look(&q, 20);
         self.put(Command::Route(q))?;
+        if self.player.lent < SCRATCH && self.r.chance(80) {
+            self.put(Command::Scratch(SCRATCH))?;
+        }
         if self.r.chance(8) {
             return self.spoilt_tables(q);
         }
@@ -185,13 +192,14 @@ pub fn script(mut r: Random, mix: &mut Mix) -> (Script, Made) {
     let Maker { mut r, mix, mut commands, mut lines, .. } = maker;
     mix.scripts += 1;
     mix.add_if(free, "free layout");
-    let bad = commands.iter().position(|c| matches!(c, Command::Bad(_)));
+    let bad = commands.iter().position(|c| matches!(c, Command::Bad(..)));
     if bad.is_some() {
         commands.extend([Command::Undo, Command::Show]); // not played
     }
     let (text, ends) = script::write(&commands, free, &mut r);
     if let Some(at) = bad {
-        lines.last_mut().unwrap().text += &format!("{}: ", ends[at]);
+        let line = lines.last_mut().unwrap();
+        line.text = format!("bad script: line {}: {}", ends[at], line.text);
     }
     (Script { commands, lines, text }, made)
 }

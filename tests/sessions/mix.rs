@@ -2,7 +2,7 @@
 
 use crate::calls::Record;
 use crate::plan::{Fault, BELOW, RIGHT};
-use crate::question::Question;
+use crate::question::{Answer, Question};
 use crate::rules::{registers, Visit};
 use std::collections::BTreeMap;
 
@@ -14,12 +14,12 @@ pub struct Mix {
     counts: BTreeMap<String, u64>,
 }
 
-// Every number of document 01 that a script can bring about. 6 cannot come: the scratch words are always enough.
+// Every number of document 01 that a script can bring about.
 const NUMBERS: [(&str, &[u32]); 4] = [
     ("open", &[0, 1, 2, 3, 9]),
     ("move", &[0, 1, 2, 3, 9, 10, 11, 14]),
     ("undo", &[0, 1, 2, 3, 9, 10, 12, 13]),
-    ("route", &[0, 1, 2, 3, 4, 5, 7, 8]),
+    ("route", &[0, 1, 2, 3, 4, 5, 6, 7, 8]),
 ];
 
 // What may be at fault, in the order of the call; two at once show the order.
@@ -27,13 +27,13 @@ const ORDERS: [(&str, &[&str]); 4] = [
     ("open", &["grid", "length", "plan", "journal"]),
     ("move", &["grid", "length", "plan", "journal", "depth", "cell", "marks", "full"]),
     ("undo", &["grid", "length", "plan", "journal", "depth", "empty", "corrupt"]),
-    ("route", &["grid", "length", "plan", "element", "ends"]),
+    ("route", &["grid", "length", "plan", "element", "ends", "scratch"]),
 ];
 
 // Two that cannot hold at once: depths that differ.
 const APART: [(&str, &str); 4] = [("depth", "full"), ("depth", "empty"), ("depth", "corrupt"), ("empty", "corrupt")];
 
-const KINDS: [(&str, &[&str]); 6] = [
+const KINDS: [(&str, &[&str]); 8] = [
     (
         "move",
         &[
@@ -58,9 +58,11 @@ const KINDS: [(&str, &[&str]); 6] = [
             "13: old and new marks",
         ],
     ),
-    ("route 4: fault", &["1", "2", "3", "4", "5", "7 1", "7 2", "7 3", "7 4", "7 5", "7 6"]),
+    ("route 4: fault", &["1", "2", "3", "4", "5", "6", "7 1", "7 2", "7 3", "7 4", "7 5", "7 6"]),
     ("route", &["with registers", "with buffers", "that passes a cell twice", "on sides not the session's"]),
     ("asked again,", &["the same answer", "another answer"]),
+    ("scratch words:", &["one too few", "just enough", "more than enough", "none"]),
+    ("show of", &["more than 1,024 journal bytes", "zeroed scratch words", "filled visits"]),
     ("", &["1 by 1", "32 by 32", "1 by 32", "32 by 1", "second sessions", "bad scripts", "free layout", "restored"]),
 ];
 
@@ -151,6 +153,20 @@ impl Mix {
         self.add_if(route.iter().any(|visit| (1..7).contains(&visit.1)), "route with buffers");
         self.add_if(cells.windows(2).any(|two| two[0] == two[1]), "route that passes a cell twice");
         self.add_if((q.width, q.height) != (record.width, record.height), "route on sides not the session's");
+    }
+
+    // A route call that is lent so many scratch words.
+    pub fn words(&mut self, q: &Question, lent: u32, answer: &Answer) {
+        let need = 256 * q.width as u64 * q.height as u64;
+        let lent = lent as u64;
+        match answer {
+            Answer::Refused(faults, _) if faults[0].0 == 6 => {
+                self.add_if(lent + 1 == need, "scratch words: one too few");
+                self.add_if(lent == 0, "scratch words: none");
+            }
+            Answer::Refused(..) => {}
+            _ => self.add(if lent == need { "scratch words: just enough" } else { "scratch words: more than enough" }),
+        }
     }
 
     fn count(&self, class: &str) -> u64 {

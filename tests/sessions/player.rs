@@ -3,12 +3,14 @@
 use crate::calls::{number, Record, Session};
 use crate::reference::Reference;
 use crate::mix::Mix;
-use crate::question::{self, Answer, Question, Tables};
+use crate::question::{self, Answer, Question, Tables, SCRATCH};
 use crate::script::Command;
 use crate::search::TooLarge;
 use std::collections::BTreeMap;
 
 const FILL: u8 = 7; // the journal's bytes before the first call
+const UNUSED: u16 = 65_535; // the words before a route call
+const VISITS: usize = 2_048; // visit words that there are
 
 pub enum Trouble {
     TooLarge,       // a question that the search cannot answer within its bound: it is left out
@@ -30,6 +32,9 @@ pub struct Player {
     pub reference: Option<Reference>, // of the last opening that answered 0
     pub in_step: bool,          // record, plan and journal are the reference model's
     pub tables: Tables,
+    pub lent: u32,    // scratch words
+    zeroed: usize,    // scratch words that the last route call left zero
+    filled: Vec<u16>, // visit words that it filled
     refused: bool, // the last opening was
     opened: bool,
     asked: BTreeMap<String, String>, // questions since the last opening, with their answers
@@ -43,6 +48,9 @@ impl Player {
             reference: None,
             in_step: false,
             tables: Tables::default(),
+            lent: SCRATCH,
+            zeroed: 0,
+            filled: Vec::new(),
             refused: false,
             opened: false,
             asked: BTreeMap::new(),
@@ -150,8 +158,11 @@ impl Player {
         if let Answer::Found(route) | Answer::NoRoom(route) = &answer {
             mix.route(q, self.session.record, route);
         }
+        self.zeroed = answer.zeroed(q) as usize;
+        self.filled = answer.filled().iter().map(|&word| word as u16).collect();
+        mix.words(q, self.lent, &answer);
         let text = answer.text(&self.tables, q);
-        let before = self.asked.insert(format!("{q:?} {:?}", self.tables), text.clone());
+        let before = self.asked.insert(format!("{q:?} {:?} {}", self.tables, self.lent), text.clone());
         if let Some(before) = before {
             mix.add(if before == text { "asked again, the same answer" } else { "asked again, another answer" });
         }
@@ -159,13 +170,25 @@ impl Player {
     }
 
     pub fn answer(&self, q: &Question) -> Result<Answer, Trouble> {
-        question::answer(&self.session.plan, &self.tables, q).map_err(|_: TooLarge| Trouble::TooLarge)
+        question::answer(&self.session.plan, &self.tables, self.lent, q).map_err(|_: TooLarge| Trouble::TooLarge)
     }
 
-    fn show(&self) -> Vec<String> {
+    fn show(&self, mix: &mut Mix) -> Vec<String> {
         let list = |name: &str, bytes: &[u8]| bytes.iter().fold(name.to_string(), |text, b| text + &format!(" {b}"));
         let s = &self.session;
-        vec![list("plan", &s.plan), list("journal", &s.journal[..s.lent.min(1_024)])]
+        let mut scratch = vec![0; self.zeroed];
+        scratch.resize(SCRATCH as usize, UNUSED);
+        let mut visits = self.filled.clone();
+        visits.resize(VISITS, UNUSED);
+        mix.add_if(s.lent > 1_024, "show of more than 1,024 journal bytes");
+        mix.add_if(self.zeroed > 0, "show of zeroed scratch words");
+        mix.add_if(!self.filled.is_empty(), "show of filled visits");
+        vec![
+            list("plan", &s.plan),
+            list("journal", &s.journal[..s.lent]),
+            "scratch".to_string() + &runs(&scratch),
+            "visits".to_string() + &runs(&visits),
+        ]
     }
 
     // Plays one command: the lines that it prints.
@@ -175,8 +198,9 @@ impl Player {
             Command::Move(cell, marks) => return self.set(*cell, *marks as u8, mix),
             Command::Undo => return self.undo(mix),
             Command::Route(q) => return self.route(q, mix),
-            Command::Show => return Ok(self.show()),
-            Command::Bad(_) => return Ok(vec!["bad script: line ".to_string()]),
+            Command::Show => return Ok(self.show(mix)),
+            Command::Bad(_, reason) => return Ok(vec![reason.to_string()]),
+            Command::Scratch(n) => self.lent = *n,
             Command::Tables(t) => self.tables = t.clone(),
             Command::Plan(marks) => {
                 self.session.plan = marks.clone();
@@ -189,4 +213,12 @@ impl Player {
         self.in_step = self.is_the_ledgers();
         Ok(Vec::new())
     }
+}
+
+// Words as the program shows them: a run of N equal words W is `W * N`.
+fn runs(words: &[u16]) -> String {
+    words.chunk_by(|a, b| a == b).fold(String::new(), |text, run| match run.len() {
+        1 => text + &format!(" {}", run[0]),
+        n => text + &format!(" {} * {n}", run[0]),
+    })
 }

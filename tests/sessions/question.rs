@@ -7,6 +7,8 @@ use crate::search::{self, TooLarge};
 
 const STATES: usize = 10_000; // the most states that one search may follow
 
+pub const SCRATCH: u32 = 262_144; // scratch words that there are
+
 #[derive(Clone, Debug, Default)]
 pub struct Tables {
     pub numbers: [u32; 10], // register R K C setup, horizontal R C, vertical R C, T, L
@@ -46,7 +48,8 @@ fn problem(plan: &[u8], t: &Tables, q: &Question) -> Problem {
     }
 }
 
-pub fn answer(plan: &[u8], t: &Tables, q: &Question) -> Result<Answer, TooLarge> {
+// `scratch` words are lent.
+pub fn answer(plan: &[u8], t: &Tables, scratch: u32, q: &Question) -> Result<Answer, TooLarge> {
     let p = problem(plan, t, q);
     let mut faults = plan::faults(q.width, q.height, plan);
     let element = p.fault();
@@ -56,7 +59,9 @@ pub fn answer(plan: &[u8], t: &Tables, q: &Question) -> Result<Answer, TooLarge>
     if p.ends_fail() {
         faults.push((5, "ends"));
     }
-    // Refusal 6 cannot come: the program lends scratch words for the largest plan.
+    if (scratch as u64) < 256 * q.width as u64 * q.height as u64 {
+        faults.push((6, "scratch"));
+    }
     if !faults.is_empty() {
         return Ok(Answer::Refused(faults, element));
     }
@@ -69,7 +74,7 @@ pub fn answer(plan: &[u8], t: &Tables, q: &Question) -> Result<Answer, TooLarge>
 
 // The least period with which the best route of now stays legal, where there is one.
 pub fn needed_period(plan: &[u8], t: &Tables, q: &Question) -> Option<u32> {
-    let Ok(Answer::Found(route) | Answer::NoRoom(route)) = answer(plan, t, q) else { return None };
+    let Ok(Answer::Found(route) | Answer::NoRoom(route)) = answer(plan, t, SCRATCH, q) else { return None };
     let closings = legal(&problem(plan, t, q), &route).expect("the search's route is legal").closings;
     closings.iter().max().map(|&most| most.div_ceil(2) as u32)
 }
@@ -104,6 +109,23 @@ impl Answer {
         }
     }
 
+    // The scratch words that are zero afterwards.
+    pub fn zeroed(&self, q: &Question) -> u32 {
+        if let Answer::Refused(..) = self {
+            0
+        } else {
+            256 * q.width * q.height
+        }
+    }
+
+    // The visit words that are filled.
+    pub fn filled(&self) -> Vec<u32> {
+        match self {
+            Answer::Found(route) => route.iter().flat_map(|visit| [visit.0, visit.1]).collect(),
+            _ => Vec::new(),
+        }
+    }
+
     // What the program prints after the depth.
     pub fn text(&self, t: &Tables, q: &Question) -> String {
         let mut text = self.fault().map_or(String::new(), |place| format!("fault {place} "));
@@ -115,12 +137,9 @@ impl Answer {
             _ => "figures 0 0 0".to_string(),
         };
         text += " visits";
-        if let Answer::Found(route) = self {
-            for (cell, code) in route {
-                text += &format!(" {cell} {code}");
-            }
+        for word in self.filled() {
+            text += &format!(" {word}");
         }
-        let zeroed = if let Answer::Refused(..) = self { 0 } else { 256 * q.width * q.height };
-        text + &format!(" zeroed {zeroed}")
+        text + &format!(" zeroed {}", self.zeroed(q))
     }
 }

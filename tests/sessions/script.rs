@@ -13,9 +13,10 @@ pub enum Command {
     Depth(u32),
     Byte(u32, u32),
     Tables(Tables), // two commands: tables, buffers
+    Scratch(u32),
     Route(Question),
     Show,
-    Bad(&'static str), // a command that is no command; its wrong word comes last
+    Bad(&'static str, &'static str), // a command that is no command, its wrong word comes last; and what is said of it
 }
 
 fn numbers(name: &str, list: &[u32]) -> String {
@@ -39,9 +40,10 @@ impl Command {
                 let buffers = numbers(&format!("buffers {}", t.buffers.len()), &t.buffers.concat());
                 format!("{} {buffers}", numbers("tables", &t.numbers))
             }
+            Command::Scratch(n) => numbers("scratch", &[*n]),
             Command::Route(q) => numbers("route", &[q.width, q.height, q.source, q.sink, q.room]),
             Command::Show => "show".to_string(),
-            Command::Bad(text) => text.to_string(),
+            Command::Bad(text, _) => text.to_string(),
         }
     }
 
@@ -52,7 +54,7 @@ impl Command {
 
 // Reads a script of good commands, as `write` gives it; None where one is not.
 pub fn read(text: &str) -> Option<Vec<Command>> {
-    let mut words = text.split_whitespace();
+    let mut words = text.lines().flat_map(|line| line.split('#').next().unwrap_or("").split_whitespace());
     let mut out = Vec::new();
     let mut tables = Tables::default();
     while let Some(word) = words.next() {
@@ -79,6 +81,7 @@ pub fn read(text: &str) -> Option<Vec<Command>> {
                 tables.buffers = (0..n).map(|_| Some([next()?, next()?, next()?])).collect::<Option<_>>()?;
                 Command::Tables(tables.clone())
             }
+            "scratch" => Command::Scratch(next()?),
             "route" => Command::Route(Question {
                 width: next()?,
                 height: next()?,
@@ -93,8 +96,12 @@ pub fn read(text: &str) -> Option<Vec<Command>> {
     Some(out)
 }
 
-// The whole script: a command a line, or (free) with spaces and line ends anywhere. Also the line in which each
-// command's last word stands.
+// Gaps between words: spaces, line ends and comments.
+const GAPS: [&str; 10] =
+    [" ", " ", " ", "\n", "  ", "\n\n", " \n ", "#\n", " # move 0 1 # undo\n\t", "\n#plan 1 0\n#\n"];
+
+// The whole script: a command a line, or (free) with such gaps anywhere. Also the line in which each command's last
+// word stands.
 pub fn write(commands: &[Command], free: bool, r: &mut Random) -> (String, Vec<usize>) {
     let (mut text, mut line, mut ends) = (String::new(), 1, Vec::new());
     for command in commands {
@@ -107,7 +114,7 @@ pub fn write(commands: &[Command], free: bool, r: &mut Random) -> (String, Vec<u
                 ends.push(line);
             }
             let gap = match (free, last) {
-                (true, _) => r.pick(&[" ", " ", " ", "\n", "  ", "\n\n", " \n "]),
+                (true, _) => r.pick(&GAPS),
                 (false, true) => "\n",
                 (false, false) => " ",
             };

@@ -10,12 +10,20 @@ fn case(name: &'static str, script: &str, lines: &str) -> Case {
     Case { name, script: script.to_string(), lines: lines.to_string() }
 }
 
+// A name and numbers.
+fn list(name: &str, numbers: &[u8]) -> String {
+    numbers.iter().fold(name.to_string(), |text, number| text + &format!(" {number}")) + "\n"
+}
+
 // The entries of a journal, then zeros.
 fn journal(entries: &[[u8; 4]]) -> String {
     let mut bytes = entries.concat();
     bytes.resize(1_024, 0);
-    bytes.iter().fold("journal".to_string(), |text, byte| text + &format!(" {byte}")) + "\n"
+    list("journal", &bytes)
 }
+
+// Words that no route call has touched.
+const UNTOUCHED: &str = "scratch 65535 * 262144\nvisits 65535 * 2048\n";
 
 const STRIP: &str = "plan 3 0 2 0 tables 1 2 1 1 2 3 2 3 25 63 open 3 1 ";
 
@@ -61,22 +69,68 @@ fn full() -> Case {
     }
     script += "move 0 0 move 2 4 move 3 0 show ";
     lines += "move 11 depth 256\nmove 3 depth 256\nmove 14 depth 256\n";
-    lines += &format!("plan {} {} {}\n{}", plan[0], plan[1], plan[2], journal(&entries));
+    lines += &format!("plan {} {} {}\n{}{UNTOUCHED}", plan[0], plan[1], plan[2], journal(&entries));
     for i in (0..256).rev() {
         script += "undo ";
         lines += &format!("undo 0 depth {i}\n");
     }
     script += "undo show";
-    lines += &format!("undo 12 depth 0\nplan 0 2 0\n{}", journal(&[]));
+    lines += &format!("undo 12 depth 0\nplan 0 2 0\n{}{UNTOUCHED}", journal(&[]));
     case("256 moves and one more", &script, &lines)
 }
 
+// What a route call leaves in the words, by how many of them are lent: nothing after 6; zeros in the first 768 of three
+// cells after an answer and after 8; the visits filled by an answer alone.
+fn words() -> Case {
+    let script = STRIP.to_string()
+        + "scratch 767 route 3 1 0 2 6 show scratch 768 route 3 1 0 2 6 show scratch 800 route 3 1 0 2 5 show "
+        + "scratch 0 route 3 1 2 2 6 show";
+    let plan = format!("plan 0 2 0\n{}", journal(&[]));
+    let zeroed = "scratch 0 * 768 65535 * 261376\n";
+    let lines = format!(
+        "open 0 depth 0\n\
+         route 6 depth 0 figures 0 0 0 visits zeroed 0\n{plan}{UNTOUCHED}\
+         route 0 depth 0 figures 1 2 50 visits 2 7 1 7 0 7 zeroed 768\n\
+         {plan}{zeroed}visits 2 7 1 7 0 7 65535 * 2042\n\
+         route 8 depth 0 figures 1 2 50 visits zeroed 768\n{plan}{zeroed}visits 65535 * 2048\n\
+         route 5 depth 0 figures 0 0 0 visits zeroed 0\n{plan}{UNTOUCHED}"
+    );
+    case("scratch and visit words", &script, &lines)
+}
+
+// Seven buffers are refused for their count, before any of them is looked at; comments stand anywhere.
+fn buffers() -> Case {
+    let script = "# a comment\n".to_string()
+        + STRIP
+        + "# undo\nbuffers 7# seven\n 256 1 1 1 1 1 1 1 1 1 1 1 1 1 1 1 1 1#\n#\n1 1 1\nroute 3 1 0 2 6\n"
+        + "buffers 6 256 1 1 1 1 1 1 1 1 1 1 1 1 1 1 1 1 64 route 3 1 0 2 6 "
+        + "buffers 6 255 1 1 1 1 1 1 1 1 1 1 1 1 1 1 1 1 64 route 3 1 0 2 6 # the end";
+    let lines = "open 0 depth 0\n\
+        route 4 depth 0 fault 6 figures 0 0 0 visits zeroed 0\n\
+        route 4 depth 0 fault 7 1 figures 0 0 0 visits zeroed 0\n\
+        route 4 depth 0 fault 7 6 figures 0 0 0 visits zeroed 0\n";
+    case("seven buffers, comments", &script, lines)
+}
+
+// The journal's bytes beyond 1,024 stay, and are shown if they are lent.
+fn long_journal() -> Case {
+    let script = "plan 3 0 2 0 journal 1030 byte 1024 9 open 3 1 move 2 1 show";
+    let mut bytes = vec![2, 0, 0, 1];
+    bytes.resize(1_024, 0);
+    bytes.extend([9, 7, 7, 7, 7, 7]);
+    let lines = format!("open 0 depth 0\nmove 0 depth 1\nplan 0 2 1\n{}{UNTOUCHED}", list("journal", &bytes));
+    case("a journal of 1,030 bytes", script, &lines)
+}
+
 pub fn cases() -> Vec<Case> {
-    let same = format!("open 0 depth 0\nmove 0 depth 1\n{}", "plan 0 2 0\n") + &journal(&[[1, 0, 2, 2]]);
-    let undone = format!("undo 0 depth 0\nplan 0 2 0\n{}", journal(&[]));
+    let same = format!("open 0 depth 0\nmove 0 depth 1\nplan 0 2 0\n{}{UNTOUCHED}", journal(&[[1, 0, 2, 2]]));
+    let undone = format!("undo 0 depth 0\nplan 0 2 0\n{}{UNTOUCHED}", journal(&[]));
     vec![
         routes(),
         full(),
+        words(),
+        buffers(),
+        long_journal(),
         case("a move of 2 onto a cell of 2", &(STRIP.to_string() + "move 1 2 show undo show"), &(same + &undone)),
         case(
             "a corrupt journal, the depth",

@@ -1,5 +1,5 @@
 // A line of a case, read byte by byte.
-use libc::STDOUT_FILENO;
+use streams::write_text;
 
 pub struct Line {
     // the colon has passed
@@ -10,6 +10,8 @@ pub struct Line {
     pub value: u16,
     // bytes of the job so far
     pub bytes: usize,
+    // the label's bytes so far were written
+    pub written: bool,
 }
 
 pub fn start() -> Line {
@@ -18,21 +20,24 @@ pub fn start() -> Line {
         in_number: false,
         value: 0,
         bytes: 0,
+        written: true,
     }
 }
 
 // The label is written as it comes, with a newline after its colon.
-fn label(byte: u8, line: Line) -> Line {
-    io::write_all(STDOUT_FILENO, &[byte]);
-    if byte != b':' {
-        return line;
-    }
-    io::write_all(STDOUT_FILENO, b"\n");
+fn label(byte: u8) -> Line {
+    let colon = byte == b':';
+    let written = if colon {
+        write_text(b":\n")
+    } else {
+        write_text(&[byte])
+    };
     Line {
-        in_job: true,
+        in_job: colon,
         in_number: false,
         value: 0,
         bytes: 0,
+        written: written,
     }
 }
 
@@ -42,6 +47,7 @@ fn digit(byte: u8, line: Line) -> Line {
         in_number: true,
         value: line.value % 1000 * 10 + (byte % 16) as u16,
         bytes: line.bytes,
+        written: true,
     }
 }
 
@@ -55,6 +61,7 @@ fn number(line: Line, job: &mut [u8]) -> Line {
             in_number: false,
             value: 0,
             bytes: at + 1,
+            written: true,
         };
     }
     line
@@ -62,7 +69,7 @@ fn number(line: Line, job: &mut [u8]) -> Line {
 
 pub fn next(line: Line, byte: u8, job: &mut [u8]) -> Line {
     if !line.in_job {
-        return label(byte, line);
+        return label(byte);
     }
     if b'0' <= byte {
         return digit(byte, line);

@@ -1,48 +1,59 @@
 // Runs many jobs through the route printer's function. Standard input has a case a line: its label, a colon and the
-// job's bytes in decimal. Standard output has each label and what is printed for its job.
+// job's bytes in decimal; it has fewer than 65,536 bytes. Standard output has each label and what is printed for its job.
+// A failed read or write ends the program with a line on standard error.
 mod lines;
 
-use libc::STDIN_FILENO;
-use libc::STDOUT_FILENO;
-use lines::Line;
 use lines::next;
 use lines::start;
-use printing::print_job;
+use printer::write_answer;
+use streams::read_input;
+use streams::write_text;
 
 const JOB: usize = 256;
 
-fn answer(job: &[u8]) {
-    let mut plan = [0u8; 128];
-    let mut scratch = [0u16; 32768];
-    let mut visits = [0u16; 2048];
-    let mut text = [0u8; 12322];
-    let n = print_job(job, &mut plan, &mut scratch, &mut visits, &mut text);
-    io::write_all(STDOUT_FILENO, &text[..n]);
-}
-
-// The job's bytes of a line that has ended.
-fn ended(job: &[u8], n: usize) {
-    if n <= job.len() {
-        answer(&job[..n]);
+// The job's bytes of a line that has ended; whether the answer was written.
+fn ended(job: &[u8], n: usize) -> bool {
+    if job.len() < n {
+        return true;
     }
+    write_answer(&job[..n])
 }
 
-fn run(cases: &[u8], job: &mut [u8]) {
+// Runs the cases; whether all was written.
+fn run(cases: &[u8], job: &mut [u8]) -> bool {
     let mut line = start();
     let mut i = 0;
     while i < cases.len() {
         line = next(line, cases[i], job);
+        if !line.written {
+            return false;
+        }
         if cases[i] == b'\n' {
-            ended(job, line.bytes);
+            if !ended(job, line.bytes) {
+                return false;
+            }
             line = start();
         }
         i += 1;
     }
+    true
 }
 
 fn main() {
     let mut cases = io::large_buffer();
     let mut job = [0u8; JOB];
-    let n = io::read_full(STDIN_FILENO, &mut cases);
-    run(&cases[..n], &mut job);
+    let input = read_input(&mut cases);
+    if input.failed {
+        os::fail(b"job_cases: standard input");
+        return;
+    }
+    let n = input.bytes;
+    let written = if cases.len() <= n {
+        write_text(b"the input has 65,536 bytes or more\n")
+    } else {
+        run(&cases[..n], &mut job)
+    };
+    if !written {
+        os::fail(b"job_cases: standard output");
+    }
 }

@@ -1,16 +1,16 @@
 // Runs document 01's R1 to R13, and each refusal 1 to 8, through the route call, and prints a line of each.
-mod report;
+mod call;
 
 use answers::BufferList;
 use answers::BufferRecord;
 use answers::RegisterRecord;
 use answers::Tables;
 use answers::WireRecord;
-use report::Case;
-use report::report;
+use call::Case;
+use call::run;
 
-// Document 01's strip, 3 by 1, from cell 0 to cell 2, with this period and this many of its buffers B.
-fn strip(period: u16, buffers: usize) -> Case {
+// Document 01's strip, 3 by 1, from cell 0 to cell 2, with this period, limit and this many of its buffers B.
+fn case(period: u16, limit: u16, buffers: usize) -> Case {
     let wire = WireRecord {
         resistance: 2,
         load: 3,
@@ -33,7 +33,7 @@ fn strip(period: u16, buffers: usize) -> Case {
             horizontal: wire,
             vertical: wire,
             period: period,
-            limit: 63,
+            limit: limit,
         },
         list: BufferList {
             n: buffers,
@@ -46,121 +46,137 @@ fn strip(period: u16, buffers: usize) -> Case {
     }
 }
 
-// The strip with this load limit.
-fn limited(label: &[u8], limit: u16) {
-    let mut c = strip(26, 0);
-    c.tables.limit = limit;
-    report(label, &[0, 2, 0], c);
+// The strip with these marks.
+fn marked(label: &[u8], plan: &[u8], period: u16, limit: u16, buffers: usize) -> bool {
+    run(label, plan, case(period, limit, buffers))
 }
 
-fn r1_to_r12() {
-    report(b"R1", &[0, 2, 0], strip(26, 0));
-    report(b"R2", &[0, 2, 0], strip(25, 0));
-    report(b"R3", &[0, 2, 0], strip(12, 0));
-    report(b"R4", &[0, 2, 0], strip(11, 0));
-    limited(b"R5", 7);
-    limited(b"R6", 6);
-    limited(b"R7", 3);
-    report(b"R8", &[0, 2, 0], strip(22, 1));
-    report(b"R9", &[0, 2, 0], strip(21, 1));
-    report(b"R10", &[0, 2, 0], strip(26, 1));
-    report(b"R11", &[0, 1, 0], strip(25, 0));
-    report(b"R12", &[0, 3, 0], strip(22, 1));
+fn strip(label: &[u8], period: u16, limit: u16, buffers: usize) -> bool {
+    marked(label, &[0, 2, 0], period, limit, buffers)
 }
 
-fn r13() {
-    let mut c = strip(12, 0);
+fn r1_to_r7() -> bool {
+    strip(b"R1", 26, 63, 0)
+        && strip(b"R2", 25, 63, 0)
+        && strip(b"R3", 12, 63, 0)
+        && strip(b"R4", 11, 63, 0)
+        && strip(b"R5", 26, 7, 0)
+        && strip(b"R6", 26, 6, 0)
+        && strip(b"R7", 26, 3, 0)
+}
+
+fn r8_to_r12() -> bool {
+    strip(b"R8", 22, 63, 1)
+        && strip(b"R9", 21, 63, 1)
+        && strip(b"R10", 26, 63, 1)
+        && marked(b"R11", &[0, 1, 0], 25, 63, 0)
+        && marked(b"R12", &[0, 3, 0], 22, 63, 1)
+}
+
+fn r13() -> bool {
+    let mut c = case(12, 63, 0);
     c.height = 2;
     c.tables.vertical.resistance = 0;
     c.tables.vertical.load = 0;
-    report(b"R13", &[0, 1, 0, 0, 2, 0], c);
+    run(b"R13", &[0, 1, 0, 0, 2, 0], c)
 }
 
 // A plan that is said to be of this size, with the strip's tables.
-fn sized(label: &[u8], plan: &[u8], width: u16, height: u16) {
-    let mut c = strip(26, 0);
+fn sized(label: &[u8], plan: &[u8], width: u16, height: u16) -> bool {
+    let mut c = case(26, 63, 0);
     c.width = width;
     c.height = height;
-    report(label, plan, c);
+    run(label, plan, c)
 }
 
-fn plan_refusals() {
+fn size_refusals() -> bool {
     let wide = [0u8; 33];
-    sized(b"width 0", &[0, 2, 0], 0, 1);
-    sized(b"height 0", &[0, 2, 0], 3, 0);
-    sized(b"width 33", &wide, 33, 1);
-    sized(b"height 33", &wide, 1, 33);
-    sized(b"short plan", &[0, 2, 0], 4, 1);
-    sized(b"long plan", &[0, 2, 0], 2, 1);
-    sized(b"mark 16", &[0, 16, 0], 3, 1);
-    sized(b"cut in the last column", &[0, 2, 4], 3, 1);
-    sized(b"cut in the last row", &[0, 8, 0], 3, 1);
+    sized(b"width 0", &[0, 2, 0], 0, 1)
+        && sized(b"height 0", &[0, 2, 0], 3, 0)
+        && sized(b"width 33", &wide, 33, 1)
+        && sized(b"height 33", &wide, 1, 33)
+        && sized(b"short plan", &[0, 2, 0], 4, 1)
+        && sized(b"long plan", &[0, 2, 0], 2, 1)
 }
 
-fn register_fault() {
-    let mut c = strip(26, 0);
+fn mark_refusals() -> bool {
+    sized(b"mark 16", &[0, 16, 0], 3, 1)
+        && sized(b"cut in the last column", &[0, 2, 4], 3, 1)
+        && sized(b"cut in the last row", &[0, 8, 0], 3, 1)
+}
+
+fn register_fault() -> bool {
+    let mut c = case(26, 63, 0);
     c.tables.register.setup = 30001;
-    report(b"register", &[0, 2, 0], c);
+    run(b"register", &[0, 2, 0], c)
 }
 
-fn horizontal_fault() {
-    let mut c = strip(26, 0);
+fn horizontal_fault() -> bool {
+    let mut c = case(26, 63, 0);
     c.tables.horizontal.resistance = 256;
-    report(b"horizontal", &[0, 2, 0], c);
+    run(b"horizontal", &[0, 2, 0], c)
 }
 
-fn vertical_fault() {
-    let mut c = strip(26, 0);
+fn vertical_fault() -> bool {
+    let mut c = case(26, 63, 0);
     c.tables.vertical.load = 64;
-    report(b"vertical", &[0, 2, 0], c);
+    run(b"vertical", &[0, 2, 0], c)
 }
 
-fn buffer_fault() {
-    let mut c = strip(26, 2);
+fn buffer_fault() -> bool {
+    let mut c = case(26, 63, 2);
     let mut list = c.list;
     let mut second = list.items[1];
     second.delay = 1001;
     list.items[1] = second;
     c.list = list;
-    report(b"buffer 2", &[0, 2, 0], c);
+    run(b"buffer 2", &[0, 2, 0], c)
 }
 
-fn element_refusals() {
-    report(b"period 0", &[0, 2, 0], strip(0, 0));
-    report(b"period 30001", &[0, 2, 0], strip(30001, 0));
-    limited(b"limit 64", 64);
-    horizontal_fault();
-    vertical_fault();
-    register_fault();
-    report(b"7 buffers", &[0, 2, 0], strip(26, 7));
-    buffer_fault();
+fn element_refusals() -> bool {
+    strip(b"period 0", 0, 63, 0)
+        && strip(b"period 30001", 30001, 63, 0)
+        && strip(b"limit 64", 26, 64, 0)
+        && horizontal_fault()
+        && vertical_fault()
+        && register_fault()
+        && strip(b"7 buffers", 26, 63, 7)
+        && buffer_fault()
 }
 
 // The strip with these ends and this many words lent.
-fn lent(label: &[u8], source: u16, sink: u16, scratch: usize, visits: usize) {
-    let mut c = strip(26, 0);
+fn lent(label: &[u8], source: u16, sink: u16, scratch: usize, visits: usize) -> bool {
+    let mut c = case(26, 63, 0);
     c.source = source;
     c.sink = sink;
     c.scratch = scratch;
     c.visits = visits;
-    report(label, &[0, 2, 0], c);
+    run(label, &[0, 2, 0], c)
 }
 
-fn later_refusals() {
-    lent(b"equal ends", 1, 1, 1600, 16);
-    lent(b"source outside", 3, 2, 1600, 16);
-    lent(b"sink outside", 0, 3, 1600, 16);
-    lent(b"767 scratch words", 0, 2, 767, 16);
-    lent(b"768 scratch words", 0, 2, 768, 16);
-    report(b"no route", &[4, 2, 0], strip(26, 0));
-    lent(b"5 visit words", 0, 2, 1600, 5);
-    lent(b"6 visit words", 0, 2, 1600, 6);
+fn later_refusals() -> bool {
+    lent(b"equal ends", 1, 1, 1600, 16)
+        && lent(b"source outside", 3, 2, 1600, 16)
+        && lent(b"sink outside", 0, 3, 1600, 16)
+        && lent(b"767 scratch words", 0, 2, 767, 16)
+        && lent(b"768 scratch words", 0, 2, 768, 16)
+        && marked(b"no route", &[4, 2, 0], 26, 63, 0)
+        && lent(b"5 visit words", 0, 2, 1600, 5)
+        && lent(b"6 visit words", 0, 2, 1600, 6)
+}
+
+fn all() -> bool {
+    r1_to_r7()
+        && r8_to_r12()
+        && r13()
+        && size_refusals()
+        && mark_refusals()
+        && element_refusals()
+        && later_refusals()
 }
 
 fn main() {
-    r1_to_r12();
-    r13();
-    plan_refusals();
-    element_refusals();
-    later_refusals();
+    if !all() {
+        os::fail(b"route_cases: standard output");
+    }
 }

@@ -6,8 +6,9 @@ use answers::BufferRecord;
 use answers::RegisterRecord;
 use answers::Tables;
 use answers::WireRecord;
-use libc::STDOUT_FILENO;
 use router::route_with;
+use streams::write_number;
+use streams::write_text;
 
 const SIDE: usize = 32;
 
@@ -16,11 +17,6 @@ const CELLS: usize = 1024;
 const SCRATCH: usize = 262144;
 // two for each cell
 const VISITS: usize = 2048;
-
-fn number(n: u64) {
-    io::write_all(STDOUT_FILENO, b" ");
-    io::print_decimal(STDOUT_FILENO, n);
-}
 
 fn tables(period: u16) -> Tables {
     let wire = WireRecord {
@@ -62,8 +58,8 @@ fn buffers() -> BufferList {
     BufferList { n: 6, items: items }
 }
 
-// Routes from cell 0 to the sink, and prints the line.
-fn time(label: &[u8], plan: &[u8], period: u16, sink: u16) {
+// Routes from cell 0 to the sink, and prints the line; whether it was written.
+fn time(label: &[u8], plan: &[u8], period: u16, sink: u16) -> bool {
     let mut scratch = [0u16; SCRATCH];
     let mut visits = [0u16; VISITS];
     let answer = route_with(
@@ -78,18 +74,18 @@ fn time(label: &[u8], plan: &[u8], period: u16, sink: u16) {
         &mut visits,
     );
     let f = answer.figures();
-    io::write_all(STDOUT_FILENO, label);
-    io::write_all(STDOUT_FILENO, b":");
-    number(answer.number() as u64);
-    number(f.registers as u64);
-    number(f.steps as u64);
-    io::write_all(STDOUT_FILENO, b"\n");
+    write_text(label)
+        && write_text(b":")
+        && write_number(answer.number() as u64)
+        && write_number(f.registers as u64)
+        && write_number(f.steps as u64)
+        && write_text(b"\n")
 }
 
 // Taps everywhere and no cut, corner to corner.
-fn open() {
+fn open() -> bool {
     let plan = [2u8; CELLS];
-    time(b"open", &plan, 100, 1023);
+    time(b"open", &plan, 100, 1023)
 }
 
 // The marks of a cell of the serpentine: a tap, and the wire below is cut but at the row's end where the path turns.
@@ -118,13 +114,13 @@ fn winding() -> [u8; CELLS]
 }
 
 // From the path's first cell to its last: many short spans, then one long one.
-fn serpentine() {
+fn serpentine() -> bool {
     let plan = winding();
-    time(b"serpentine", &plan, 100, 992);
-    time(b"serpentine in one span", &plan, 30000, 992);
+    time(b"serpentine", &plan, 100, 992) && time(b"serpentine in one span", &plan, 30000, 992)
 }
 
 fn main() {
-    open();
-    serpentine();
+    if !(open() && serpentine()) {
+        os::fail(b"route_speed: standard output");
+    }
 }

@@ -1,6 +1,6 @@
 // Plays a script of session calls from standard input and prints what each gives.
 //
-// A script is text: words and decimal numbers, apart by spaces or line ends. It has fewer than 65,536 bytes. Its commands:
+// A script is text: words and decimal numbers, apart by spaces or line ends; a `#` starts a comment, to the end of its line. It has fewer than 65,536 bytes. Its commands:
 //
 //     plan N M1 .. MN        the plan has N bytes, M1 to MN; at most 1,100, each at most 255
 //     journal N              the journal has N bytes, at most 1,100; it starts with 1,024, all 7
@@ -10,22 +10,25 @@
 //     depth D                puts D into the record
 //     byte AT VALUE          puts a byte into the journal
 //     tables R K C S R C R C T L     register, horizontal wire, vertical wire, period, load limit
-//     buffers N R K C ..     N buffers, at most 6
+//     buffers N R K C ..     a list of N buffers, at most 20
+//     scratch N              N scratch words are lent to each route call, at most 262,144, which is what it starts with
 //     route W H A B V        a route from A to B on the plan, W wide and H high; V visit words are lent, at most 2,048
-//     show                   prints the plan and the journal's first 1,024 bytes
+//     show                   prints all that is lent: plan, journal, scratch and visits
 //
-// Numbers are at most 65,535 where no other bound is said. Sides, depth, cells and tables may be out of the calls' own ranges: the calls refuse them. Before the first `open` the record is zero; before `tables` and `buffers` the tables are zero and there are no buffers.
+// Numbers are at most 65,535 where no other bound is said. Sides, depth, cells and tables may be out of the calls' own ranges: the calls refuse them. Before the first `open` the record is zero; before `tables` and `buffers` the tables are zero and there are no buffers. All 262,144 scratch words and all 2,048 visit words are 65,535 before each route call.
 //
-// Printed, a line for each call: `open N depth D`, `move N depth D`, `undo N depth D`, with document 01's number and the record's depth; `route N depth D figures R S L visits .. zeroed Z`, with the visit words filled and the scratch words zeroed; after `route 4` the word `fault`, its place in the order of refusal 4 and a buffer's place. Where the script is wrong, the line `bad script: line L: ..` says how and nothing more is played.
+// Printed, a line for each call: `open N depth D`, `move N depth D`, `undo N depth D`, with document 01's number and the record's depth; `route N depth D figures R S L visits .. zeroed Z`, with the visit words filled and the scratch words zeroed; after `route 4` the word `fault`, its place in the order of refusal 4 and a buffer's place. `show` prints four lines: `plan` and `journal` with each byte lent; `scratch` and `visits` with all the player's words, lent or not, as the last route call left them, a run of N equal words W as `W * N`. Where the script is wrong, the line `bad script: line L: ..` says how and nothing more is played.
 //
-// The calls are the covered functions below `planner`'s open, set_marks, undo and route: a caller of those would be a walk too.
+// A failed read or write ends the program with a line on standard error. A script whose read fails is not played.
+//
+// The calls are the covered functions below `planner`'s open, set_marks, undo and route: a caller of those would be a walk too. `tests/calls` runs those.
+mod calls;
+mod lines;
 mod play;
-mod report;
-mod script;
 
-use libc::STDIN_FILENO;
+use lines::write_too_long;
 use play::play;
-use report::too_long;
+use streams::read_input;
 
 // The longest plan and journal of a script, in bytes.
 const PLAN: usize = 1100;
@@ -35,14 +38,37 @@ const JOURNAL: usize = 1100;
 // What the bytes hold before the first call.
 const FILL: u8 = 7;
 
-fn main() {
-    let mut text = io::large_buffer();
-    let n = io::read_full(STDIN_FILENO, &mut text);
-    if text.len() <= n {
-        too_long();
-        return;
-    }
+// 256 a cell of the largest plan
+const SCRATCH: usize = 262144;
+
+const VISITS: usize = 2048;
+
+// What the words hold before a call: no cell, no code.
+const UNUSED: u16 = 65535;
+
+// Plays on fresh bytes and words; whether all was written.
+fn played(text: &[u8]) -> bool {
     let mut plan = [FILL; PLAN];
     let mut journal = [FILL; JOURNAL];
-    play(&text[..n], &mut plan, &mut journal);
+    let mut scratch = [UNUSED; SCRATCH];
+    let mut visits = [UNUSED; VISITS];
+    play(text, &mut plan, &mut journal, &mut scratch, &mut visits)
+}
+
+fn main() {
+    let mut text = io::large_buffer();
+    let input = read_input(&mut text);
+    if input.failed {
+        os::fail(b"session_player: standard input");
+        return;
+    }
+    let n = input.bytes;
+    let written = if text.len() <= n {
+        write_too_long()
+    } else {
+        played(&text[..n])
+    };
+    if !written {
+        os::fail(b"session_player: standard output");
+    }
 }

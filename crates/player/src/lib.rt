@@ -1,0 +1,10 @@
+// What a session player holds beside the lent bytes and words, and the commands of its script that call nothing.
+mod commands;
+mod state;
+mod words;
+
+pub use state::Player;
+pub use state::Turn;
+pub use state::new_player;
+pub use state::next;
+pub use words::lend;

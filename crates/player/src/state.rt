@@ -1,0 +1,72 @@
+// What a player holds beside the lent bytes and words.
+use answers::BufferList;
+use answers::BufferRecord;
+use answers::RegisterRecord;
+use answers::Tables;
+use answers::WireRecord;
+use script::Cursor;
+use session::Session;
+
+// What is wrong with a script beside its numbers: a word is no command.
+pub const UNKNOWN: u8 = 3;
+
+// The record, the lengths of plan, journal and scratch, and the tables of the next route call.
+pub struct Player {
+    pub session: Session,
+    pub plan: usize,
+    pub journal: usize,
+    pub scratch: usize,
+    pub tables: Tables,
+    pub list: BufferList,
+}
+
+// The player after a command, and where to read on.
+pub struct Turn {
+    pub cursor: Cursor,
+    pub player: Player,
+}
+
+pub fn new_player() -> Player {
+    let wire = WireRecord {
+        resistance: 0,
+        load: 0,
+    };
+    let none = BufferRecord {
+        resistance: 0,
+        delay: 0,
+        load: 0,
+    };
+    Player {
+        session: Session {
+            width: 0,
+            height: 0,
+            depth: 0,
+        },
+        plan: 0,
+        journal: 1024,
+        scratch: 262144,
+        tables: Tables {
+            register: RegisterRecord {
+                resistance: 0,
+                delay: 0,
+                load: 0,
+                setup: 0,
+            },
+            horizontal: wire,
+            vertical: wire,
+            period: 0,
+            limit: 0,
+        },
+        list: BufferList {
+            n: 0,
+            items: [none; 6],
+        },
+    }
+}
+
+pub fn next(c: Cursor, p: Player) -> Turn {
+    Turn {
+        cursor: c,
+        player: p,
+    }
+}

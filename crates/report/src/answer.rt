@@ -1,0 +1,51 @@
+// The answer of a route call.
+ghost use mathlib.Core.Path.{_≡_};
+ghost use Rattle.report.specs.Filled.{filledWords};
+use answers::Answer;
+use answers::Fault;
+use answers::Refusal;
+use streams::write_number;
+use streams::write_text;
+
+// The visit words that the answer fills.
+pub fn filled(answer: Answer) -> usize
+    ensures { λ r. ⌜ r ≡ filledWords answer ⌝ }
+{
+    match answer {
+        Answer::Found(f) => 2 * (f.steps as usize + 1),
+        Answer::NoRoom(_) => 0,
+        Answer::Refused(_) => 0,
+    }
+}
+
+// Registers, steps and latency.
+pub fn write_figures(answer: Answer) -> bool {
+    let f = answer.figures();
+    write_number(f.registers as u64)
+        && write_number(f.steps as u64)
+        && write_number(f.latency as u64)
+}
+
+// Of refusal 4 the word `fault`, the fault's place in document 01's order and a buffer's place in its list; of any other
+// answer nothing.
+pub fn write_fault(answer: Answer) -> bool {
+    let Answer::Refused(refusal) = answer else {
+        return true;
+    };
+    let Refusal::Element(fault) = refusal else {
+        return true;
+    };
+    write_text(b" fault") && write_place(fault)
+}
+
+fn write_place(fault: Fault) -> bool {
+    match fault {
+        Fault::Period => write_number(1),
+        Fault::Limit => write_number(2),
+        Fault::Horizontal => write_number(3),
+        Fault::Vertical => write_number(4),
+        Fault::Register => write_number(5),
+        Fault::Count => write_number(6),
+        Fault::Buffer(place) => write_number(7) && write_number(place as u64),
+    }
+}

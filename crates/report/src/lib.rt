@@ -1,0 +1,11 @@
+// What the programs print of a route call: its answer, and the words that it was lent. Each says whether all was written.
+mod answer;
+mod words;
+
+pub use answer::filled;
+pub use answer::write_fault;
+pub use answer::write_figures;
+pub use words::run_end;
+pub use words::smaller;
+pub use words::write_runs;
+pub use words::write_words;

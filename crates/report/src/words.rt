@@ -1,0 +1,67 @@
+// Lent words.
+ghost use mathlib.Core.Path.{_≡_};
+ghost use Prim.Native.Nat.{_<_, min};
+ghost use lib.ListN.{length};
+ghost use Rattle.report.specs.Runs.{Run};
+use streams::write_number;
+use streams::write_text;
+
+// The smaller of two numbers.
+pub fn smaller(a: usize, b: usize) -> usize
+    ensures { λ r. ⌜ r ≡ min a b ⌝ }
+{
+    if a < b { a } else { b }
+}
+
+// The words before `end`, a space before each.
+pub fn write_words(words: &[u16], end: usize) -> bool {
+    let stop = smaller(end, words.len());
+    let mut i = 0;
+    while i < stop {
+        if !write_number(words[i] as u64) {
+            return false;
+        }
+        i += 1;
+    }
+    true
+}
+
+// Where the run of words equal to the one at `start` ends.
+pub fn run_end(words: &[u16], start: usize) -> usize
+    requires { ⌜ start < length (now words) ⌝ }
+    ensures { λ r. ⌜ Run (now (words .entry)) start r ⌝ }
+{
+    let value = words[start];
+    let mut i = start + 1;
+    while i < words.len() {
+        if words[i] != value {
+            return i;
+        }
+        i += 1;
+    }
+    i
+}
+
+// A run: its word, and after a star how many there are if there is more than one.
+fn write_run(word: u16, times: usize) -> bool {
+    if !write_number(word as u64) {
+        return false;
+    }
+    if times <= 1 {
+        return true;
+    }
+    write_text(b" *") && write_number(times as u64)
+}
+
+// All words, run by run.
+pub fn write_runs(words: &[u16]) -> bool {
+    let mut i = 0;
+    while i < words.len() {
+        let end = run_end(words, i);
+        if !write_run(words[i], end - i) {
+            return false;
+        }
+        i = end;
+    }
+    true
+}

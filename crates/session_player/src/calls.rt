@@ -1,0 +1,190 @@
+// The commands that call and the one that shows.
+use crate::lines::write_bytes;
+use crate::lines::write_call;
+use crate::lines::write_line;
+use crate::lines::write_route;
+use answers::Answer;
+use player::Player;
+use player::Turn;
+use player::next;
+use report::smaller;
+use router::route_with;
+use script::Cursor;
+use script::read_number;
+use session::SessionStep;
+use session::open_at;
+use session::set_marks_at;
+use session::undo_at;
+use streams::write_text;
+
+// A line of output was not written: why a play ends, beside what is wrong with a script.
+pub const UNWRITTEN: u8 = 4;
+
+// The largest number of a script.
+const MAX: u16 = 65535;
+
+// What the words hold before a route call.
+const UNUSED: u16 = 65535;
+
+// What a route command says.
+struct Ends {
+    width: u16,
+    height: u16,
+    source: u16,
+    sink: u16,
+}
+
+// The turn after a line of output; one that was not written ends the play.
+fn ended(c: Cursor, p: Player, written: bool) -> Turn {
+    let bad = if written { c.bad } else { UNWRITTEN };
+    let cursor = Cursor { at: c.at, bad: bad };
+    next(cursor, p)
+}
+
+// The line of a session call, and its record kept.
+fn stepped(name: &[u8], step: SessionStep, c: Cursor, p: Player) -> Turn {
+    let session = step.session;
+    let answer = step.answer;
+    let mut q = p;
+    q.session = session;
+    let written = write_call(name, answer.number(), session.depth) && write_text(b"\n");
+    ended(c, q, written)
+}
+
+// open W H
+pub fn open(src: &[u8], c: Cursor, p: Player, plan: &[u8], journal: &mut [u8]) -> Turn {
+    let w = read_number(src, c, MAX);
+    let h = read_number(src, w.cursor, MAX);
+    let cursor = h.cursor;
+    if cursor.bad != 0 {
+        return next(cursor, p);
+    }
+    let n = smaller(p.plan, plan.len());
+    let m = smaller(p.journal, journal.len());
+    let step = open_at(&plan[0..n], w.value, h.value, &mut journal[0..m]);
+    stepped(b"open", step, cursor, p)
+}
+
+// move CELL MARKS
+pub fn set_marks(src: &[u8], c: Cursor, p: Player, plan: &mut [u8], journal: &mut [u8]) -> Turn {
+    let cell = read_number(src, c, MAX);
+    let marks = read_number(src, cell.cursor, 255);
+    let cursor = marks.cursor;
+    if cursor.bad != 0 {
+        return next(cursor, p);
+    }
+    let n = smaller(p.plan, plan.len());
+    let m = smaller(p.journal, journal.len());
+    let s = p.session;
+    let step = set_marks_at(
+        s,
+        &mut plan[0..n],
+        &mut journal[0..m],
+        cell.value,
+        marks.value as u8,
+    );
+    stepped(b"move", step, cursor, p)
+}
+
+// undo
+pub fn undo(c: Cursor, p: Player, plan: &mut [u8], journal: &mut [u8]) -> Turn {
+    let n = smaller(p.plan, plan.len());
+    let m = smaller(p.journal, journal.len());
+    let s = p.session;
+    let step = undo_at(s, &mut plan[0..n], &mut journal[0..m]);
+    stepped(b"undo", step, c, p)
+}
+
+fn refill(words: &mut [u16]) {
+    let mut i = 0;
+    while i < words.len() {
+        words[i] = UNUSED;
+        i += 1;
+    }
+}
+
+// Calls with parts of the words.
+fn ask(
+    p: Player,
+    plan: &[u8],
+    ends: Ends,
+    room: usize,
+    scratch: &mut [u16],
+    visits: &mut [u16],
+) -> Answer {
+    let n = smaller(p.plan, plan.len());
+    let s = smaller(p.scratch, scratch.len());
+    let v = smaller(room, visits.len());
+    let tables = p.tables;
+    let list = p.list;
+    route_with(
+        &plan[0..n],
+        ends.width,
+        ends.height,
+        tables,
+        list,
+        ends.source,
+        ends.sink,
+        &mut scratch[0..s],
+        &mut visits[0..v],
+    )
+}
+
+// Calls with fresh words, and writes the line.
+fn answered(
+    p: Player,
+    plan: &[u8],
+    ends: Ends,
+    room: usize,
+    scratch: &mut [u16],
+    visits: &mut [u16],
+) -> bool {
+    refill(scratch);
+    refill(visits);
+    let answer = ask(p, plan, ends, room, scratch, visits);
+    write_route(answer, p.session.depth, scratch, visits)
+}
+
+// route W H A B V
+pub fn route(
+    src: &[u8],
+    c: Cursor,
+    p: Player,
+    plan: &[u8],
+    scratch: &mut [u16],
+    visits: &mut [u16],
+) -> Turn {
+    let w = read_number(src, c, MAX);
+    let h = read_number(src, w.cursor, MAX);
+    let a = read_number(src, h.cursor, MAX);
+    let b = read_number(src, a.cursor, MAX);
+    let v = read_number(src, b.cursor, 2048);
+    let cursor = v.cursor;
+    if cursor.bad != 0 {
+        return next(cursor, p);
+    }
+    let ends = Ends {
+        width: w.value,
+        height: h.value,
+        source: a.value,
+        sink: b.value,
+    };
+    let written = answered(p, plan, ends, v.value as usize, scratch, visits);
+    ended(cursor, p, written)
+}
+
+// show
+pub fn show(
+    c: Cursor,
+    p: Player,
+    plan: &[u8],
+    journal: &[u8],
+    scratch: &[u16],
+    visits: &[u16],
+) -> Turn {
+    let written = write_bytes(b"plan", plan, p.plan)
+        && write_bytes(b"journal", journal, p.journal)
+        && write_line(b"scratch", scratch)
+        && write_line(b"visits", visits);
+    ended(c, p, written)
+}
