@@ -215,33 +215,35 @@ const NO_COMMAND: &str = "this word is no command";
 const NO_NUMBER: &str = "a number is missing";
 const TOO_LARGE: &str = "a number is too large";
 
-// Each is wrong at its last word.
+// Commands that are wrong at their last word, and what is said of them.
+pub const BAD: [(&str, &str); 24] = [
+    ("jump", NO_COMMAND),
+    ("Move", NO_COMMAND),
+    ("moves", NO_COMMAND),
+    ("mov", NO_COMMAND),
+    ("move 3 undo", NO_NUMBER),
+    ("move 1 -1", NO_NUMBER),
+    ("move 0 256", TOO_LARGE),
+    ("move 65536", TOO_LARGE),
+    ("open 3 3x", NO_NUMBER),
+    ("depth 100000", TOO_LARGE),
+    ("depth 99999999999999999999", TOO_LARGE),
+    ("byte 1100", TOO_LARGE),
+    ("journal 1101", TOO_LARGE),
+    ("plan 1101", TOO_LARGE),
+    ("plan 3 0 0 256", TOO_LARGE),
+    ("plan 3 0 0 show", NO_NUMBER),
+    ("buffers 21", TOO_LARGE),
+    ("buffers 1 2 3 show", NO_NUMBER),
+    ("buffers 7 1 1 1 1 1 1 1 1 1 1 1 1 1 1 1 1 1 1 1 1 show", NO_NUMBER),
+    ("tables 1 1 1 1 1 1 1 1 1 show", NO_NUMBER),
+    ("scratch 262145", TOO_LARGE),
+    ("scratch 1000000", TOO_LARGE),
+    ("scratch show", NO_NUMBER),
+    ("route 1 1 0 0 2049", TOO_LARGE),
+];
+
 pub fn bad_command(r: &mut Random) -> Command {
-    let (text, reason) = r.pick(&[
-        ("jump", NO_COMMAND),
-        ("Move", NO_COMMAND),
-        ("moves", NO_COMMAND),
-        ("mov", NO_COMMAND),
-        ("move 3 undo", NO_NUMBER),
-        ("move 1 -1", NO_NUMBER),
-        ("move 0 256", TOO_LARGE),
-        ("move 65536", TOO_LARGE),
-        ("open 3 3x", NO_NUMBER),
-        ("depth 100000", TOO_LARGE),
-        ("depth 99999999999999999999", TOO_LARGE),
-        ("byte 1100", TOO_LARGE),
-        ("journal 1101", TOO_LARGE),
-        ("plan 1101", TOO_LARGE),
-        ("plan 3 0 0 256", TOO_LARGE),
-        ("plan 3 0 0 show", NO_NUMBER),
-        ("buffers 21", TOO_LARGE),
-        ("buffers 1 2 3 show", NO_NUMBER),
-        ("buffers 7 1 1 1 1 1 1 1 1 1 1 1 1 1 1 1 1 1 1 1 1 show", NO_NUMBER),
-        ("tables 1 1 1 1 1 1 1 1 1 show", NO_NUMBER),
-        ("scratch 262145", TOO_LARGE),
-        ("scratch 1000000", TOO_LARGE),
-        ("scratch show", NO_NUMBER),
-        ("route 1 1 0 0 2049", TOO_LARGE),
-    ]);
+    let (text, reason) = r.pick(&BAD);
     Command::Bad(text, reason)
 }

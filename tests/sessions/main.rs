@@ -142,10 +142,24 @@ fn check_worked(player: &str) -> bool {
     good
 }
 
+// Each wrong command once, in line 3.
+fn check_bad(player: &str) -> bool {
+    let mut good = true;
+    for (text, reason) in draw::BAD {
+        let lines = printed(player, &format!("undo # one\n\n{text} undo"));
+        if lines != Ok(format!("undo 1 depth 0\nbad script: line 3: {reason}\n")) {
+            println!("MISMATCH, the program at the wrong command '{text}': {lines:?}");
+            good = false;
+        }
+    }
+    println!("wrong commands  {}", draw::BAD.len());
+    good
+}
+
 fn run(player: &str, scripts: u64, seed: u64) -> bool {
     let start = Instant::now();
     let mut mix = Mix::default();
-    let mut mismatches = !check_worked(player) as u64;
+    let mut mismatches = !check_worked(player) as u64 + !check_bad(player) as u64;
     while mix.scripts < scripts && mismatches < MISMATCHES {
         let number = mix.scripts + 1;
         mismatches += !compare(player, number, seed, &mut mix) as u64;

@@ -96,9 +96,9 @@ pub fn read(text: &str) -> Option<Vec<Command>> {
     Some(out)
 }
 
-// Gaps between words: spaces, line ends and comments.
-const GAPS: [&str; 10] =
-    [" ", " ", " ", "\n", "  ", "\n\n", " \n ", "#\n", " # move 0 1 # undo\n\t", "\n#plan 1 0\n#\n"];
+// Gaps between words. Comments are rare: the script must stay below 65,536 bytes.
+const SPACES: [&str; 7] = [" ", " ", " ", "\n", "  ", "\n\n", " \n "];
+const COMMENTS: [&str; 3] = ["#\n", " # move 0 1 # undo\n\t", "\n#plan 1 0\n#\n"];
 
 // The whole script: a command a line, or (free) with such gaps anywhere. Also the line in which each command's last
 // word stands.
@@ -114,7 +114,8 @@ pub fn write(commands: &[Command], free: bool, r: &mut Random) -> (String, Vec<u
                 ends.push(line);
             }
             let gap = match (free, last) {
-                (true, _) => r.pick(&GAPS),
+                (true, _) if r.chance(1) => r.pick(&COMMENTS),
+                (true, _) => r.pick(&SPACES),
                 (false, true) => "\n",
                 (false, false) => " ",
             };
