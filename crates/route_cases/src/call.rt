@@ -1,13 +1,13 @@
 // One route call and the line printed of it: its label, number, registers, steps and latency, the cell and code of
 // each visit, then what became of the scratch words and of the visits' other words.
-use answers::BufferList;
-use answers::Tables;
+use answers::Answer;
 use report::filled;
 use report::smaller;
 use report::write_fault;
 use report::write_figures;
 use report::write_words;
-use router::route_with;
+use route_call::Call;
+use route_call::ask;
 use streams::write_number;
 use streams::write_text;
 
@@ -17,18 +17,6 @@ const FILL: u16 = 9;
 const SCRATCH: usize = 1600;
 
 const VISITS: usize = 16;
-
-// A route call without its plan. `scratch` and `visits` are the words lent.
-pub struct Case {
-    pub width: u16,
-    pub height: u16,
-    pub tables: Tables,
-    pub list: BufferList,
-    pub source: u16,
-    pub sink: u16,
-    pub scratch: usize,
-    pub visits: usize,
-}
 
 // Whether each of the words from `start` up to `end` is `value`.
 fn all(words: &[u16], start: usize, end: usize, value: u16) -> bool {
@@ -66,23 +54,8 @@ fn write_visits(visits: &[u16], start: usize) -> bool {
     write_text(b" changed")
 }
 
-// Calls with a part of these words, and writes the line.
-fn call(label: &[u8], plan: &[u8], c: Case, scratch: &mut [u16], visits: &mut [u16]) -> bool {
-    let s = smaller(c.scratch, scratch.len());
-    let v = smaller(c.visits, visits.len());
-    let tables = c.tables;
-    let list = c.list;
-    let answer = route_with(
-        plan,
-        c.width,
-        c.height,
-        tables,
-        list,
-        c.source,
-        c.sink,
-        &mut scratch[0..s],
-        &mut visits[0..v],
-    );
+// The line of an answer, and of the words that it was lent.
+fn write_line(label: &[u8], answer: Answer, cells: usize, scratch: &[u16], visits: &[u16]) -> bool {
     let used = filled(answer);
     write_text(label)
         && write_text(b":")
@@ -90,14 +63,15 @@ fn call(label: &[u8], plan: &[u8], c: Case, scratch: &mut [u16], visits: &mut [u
         && write_figures(answer)
         && write_fault(answer)
         && write_words(visits, used)
-        && write_scratch(scratch, plan.len())
+        && write_scratch(scratch, cells)
         && write_visits(visits, used)
         && write_text(b"\n")
 }
 
 // Calls, and writes the line; whether it was written.
-pub fn run(label: &[u8], plan: &[u8], c: Case) -> bool {
+pub fn run(label: &[u8], plan: &[u8], c: Call) -> bool {
     let mut scratch = [FILL; SCRATCH];
     let mut visits = [FILL; VISITS];
-    call(label, plan, c, &mut scratch, &mut visits)
+    let answer = ask(plan, c, &mut scratch, &mut visits);
+    write_line(label, answer, plan.len(), &scratch, &visits)
 }

@@ -6,11 +6,11 @@ use answers::BufferRecord;
 use answers::RegisterRecord;
 use answers::Tables;
 use answers::WireRecord;
-use call::Case;
 use call::run;
+use route_call::Call;
 
 // Document 01's strip, 3 by 1, from cell 0 to cell 2, with this period, limit and this many of its buffers B.
-fn case(period: u16, limit: u16, buffers: usize) -> Case {
+fn case(period: u16, limit: u16, buffers: usize) -> Call {
     let wire = WireRecord {
         resistance: 2,
         load: 3,
@@ -20,7 +20,7 @@ fn case(period: u16, limit: u16, buffers: usize) -> Case {
         delay: 1,
         load: 1,
     };
-    Case {
+    Call {
         width: 3,
         height: 1,
         tables: Tables {

@@ -3,12 +3,12 @@ use crate::lines::write_bytes;
 use crate::lines::write_call;
 use crate::lines::write_line;
 use crate::lines::write_route;
-use answers::Answer;
 use player::Player;
 use player::Turn;
 use player::next;
 use report::smaller;
-use router::route_with;
+use route_call::Call;
+use route_call::ask;
 use script::Cursor;
 use script::read_number;
 use session::SessionStep;
@@ -25,14 +25,6 @@ const MAX: u16 = 65535;
 
 // What the words hold before a route call.
 const UNUSED: u16 = 65535;
-
-// What a route command says.
-struct Ends {
-    width: u16,
-    height: u16,
-    source: u16,
-    sink: u16,
-}
 
 // The turn after a line of output; one that was not written ends the play.
 fn ended(c: Cursor, p: Player, written: bool) -> Turn {
@@ -103,46 +95,12 @@ fn refill(words: &mut [u16]) {
     }
 }
 
-// Calls with parts of the words.
-fn ask(
-    p: Player,
-    plan: &[u8],
-    ends: Ends,
-    room: usize,
-    scratch: &mut [u16],
-    visits: &mut [u16],
-) -> Answer {
-    let n = smaller(p.plan, plan.len());
-    let s = smaller(p.scratch, scratch.len());
-    let v = smaller(room, visits.len());
-    let tables = p.tables;
-    let list = p.list;
-    route_with(
-        &plan[0..n],
-        ends.width,
-        ends.height,
-        tables,
-        list,
-        ends.source,
-        ends.sink,
-        &mut scratch[0..s],
-        &mut visits[0..v],
-    )
-}
-
 // Calls with fresh words, and writes the line.
-fn answered(
-    p: Player,
-    plan: &[u8],
-    ends: Ends,
-    room: usize,
-    scratch: &mut [u16],
-    visits: &mut [u16],
-) -> bool {
+fn answered(plan: &[u8], c: Call, depth: u16, scratch: &mut [u16], visits: &mut [u16]) -> bool {
     refill(scratch);
     refill(visits);
-    let answer = ask(p, plan, ends, room, scratch, visits);
-    write_route(answer, p.session.depth, scratch, visits)
+    let answer = ask(plan, c, scratch, visits);
+    write_route(answer, depth, scratch, visits)
 }
 
 // route W H A B V
@@ -163,13 +121,20 @@ pub fn route(
     if cursor.bad != 0 {
         return next(cursor, p);
     }
-    let ends = Ends {
+    let n = smaller(p.plan, plan.len());
+    let tables = p.tables;
+    let list = p.list;
+    let call = Call {
         width: w.value,
         height: h.value,
+        tables: tables,
+        list: list,
         source: a.value,
         sink: b.value,
+        scratch: p.scratch,
+        visits: v.value as usize,
     };
-    let written = answered(p, plan, ends, v.value as usize, scratch, visits);
+    let written = answered(&plan[0..n], call, p.session.depth, scratch, visits);
     ended(cursor, p, written)
 }
 

@@ -16,6 +16,28 @@ use script::line_of;
 use script::skip;
 use script::word_end;
 
+// A command of the session, whose word stands from `start` up to `end`, or one that calls nothing.
+fn on_session(
+    src: &[u8],
+    start: usize,
+    end: usize,
+    p: Player,
+    plan: &mut [u8],
+    journal: &mut [u8],
+) -> Turn {
+    let c = Cursor { at: end, bad: 0 };
+    if is_word(src, start, end, b"move") {
+        return set_marks(src, c, p, plan, journal);
+    }
+    if is_word(src, start, end, b"undo") {
+        return undo(c, p, plan, journal);
+    }
+    if is_word(src, start, end, b"open") {
+        return open(src, c, p, plan, journal);
+    }
+    lend(src, start, end, p, plan, journal)
+}
+
 // The command whose word starts at `start`.
 fn one_command(
     src: &[u8],
@@ -28,22 +50,13 @@ fn one_command(
 ) -> Turn {
     let end = word_end(src, start);
     let c = Cursor { at: end, bad: 0 };
-    if is_word(src, start, end, b"move") {
-        return set_marks(src, c, p, plan, journal);
-    }
-    if is_word(src, start, end, b"undo") {
-        return undo(c, p, plan, journal);
-    }
     if is_word(src, start, end, b"route") {
         return route(src, c, p, plan, scratch, visits);
-    }
-    if is_word(src, start, end, b"open") {
-        return open(src, c, p, plan, journal);
     }
     if is_word(src, start, end, b"show") {
         return show(c, p, plan, journal, scratch, visits);
     }
-    lend(src, start, end, p, plan, journal)
+    on_session(src, start, end, p, plan, journal)
 }
 
 // How a play ends early: a line was not written, or the script is wrong.

@@ -1,0 +1,37 @@
+// A route call as a program makes it: with a part of its words.
+use answers::Answer;
+use answers::BufferList;
+use answers::Tables;
+use report::smaller;
+use router::route_with;
+
+// A route call without its plan. `scratch` and `visits` are how many words are lent.
+pub struct Call {
+    pub width: u16,
+    pub height: u16,
+    pub tables: Tables,
+    pub list: BufferList,
+    pub source: u16,
+    pub sink: u16,
+    pub scratch: usize,
+    pub visits: usize,
+}
+
+// Calls with the first of these words.
+pub fn ask(plan: &[u8], c: Call, scratch: &mut [u16], visits: &mut [u16]) -> Answer {
+    let s = smaller(c.scratch, scratch.len());
+    let v = smaller(c.visits, visits.len());
+    let tables = c.tables;
+    let list = c.list;
+    route_with(
+        plan,
+        c.width,
+        c.height,
+        tables,
+        list,
+        c.source,
+        c.sink,
+        &mut scratch[0..s],
+        &mut visits[0..v],
+    )
+}
