@@ -27,5 +27,8 @@ same "endless input" "refused 1" "$(yes | timeout 20 $printer)"
 same "a job, then no end" "refused 15" "$( (cat "$work/job"; yes) | timeout 20 $printer)"
 same "222 bytes, then nothing, the input still open" "refused 15" \
     "$(timeout 10 $printer < <(yes "" | tr '\n' '\001' | head -c 222; exec sleep 12 2>/dev/null))"
-checks=$((checks + 1))
-timeout 60 target/tools/reads $printer <"$work/job" || fail "input that does not come whole"
+# 222 bytes decide: a read after them would fail, and is not made
+head -c 222 /dev/zero | tr '\0' '\1' >"$work/ones"
+told "a failed read after 221 bytes" 0 "" "route_printer: standard input: Connection reset by peer" \
+    timeout 20 target/tools/feed broken 221 $printer "$work/ones"
+told "a failed read after 222 bytes" 0 "refused 15" "" timeout 20 target/tools/feed broken 222 $printer "$work/ones"

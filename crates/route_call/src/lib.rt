@@ -1,4 +1,7 @@
 // A route call as a program makes it: with a part of its words.
+ghost use mathlib.Core.Path.{_≡_};
+ghost use lib.ListN.{take};
+ghost use Rattle.router.specs.Route.{questionOf, answerOf};
 use answers::Answer;
 use answers::BufferList;
 use answers::Tables;
@@ -18,7 +21,9 @@ pub struct Call {
 }
 
 // Calls with the first of these words.
-pub fn ask(plan: &[u8], c: Call, scratch: &mut [u16], visits: &mut [u16]) -> Answer {
+pub fn ask(plan: &[u8], c: Call, scratch: &mut [u16], visits: &mut [u16]) -> Answer
+    ensures { λ r. ⌜ r ≡ answerOf (questionOf (now (plan .entry)) (c .width) (c .height) (c .tables) (c .list) (c .source) (c .sink)) (take (c .scratch) (now (scratch .entry))) (take (c .visits) (now (visits .entry))) ⌝ }
+{
     let s = smaller(c.scratch, scratch.len());
     let v = smaller(c.visits, visits.len());
     let tables = c.tables;
