@@ -49,7 +49,7 @@ mkdir -p target/bin
 echo "rt: ok, 2 crates proved"
 END
 chmod +x "$few/rt"
-told "no rustc" 4 "" "tools/build: no rustc, the Rust compiler (https://rustup.rs), which compiles tools/job; examples/crossing.job is a job without it" \
+told "no rustc" 4 "" "tools/build: no rustc, the Rust compiler (Debian: package rustc), which compiles tools/job; examples/crossing.job is a job without it" \
     in_fake "$work/twice.txt"
 same "proofs without rustc" 0 "$(calls)"
 cat >"$few/rustc" <<END
