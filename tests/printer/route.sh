@@ -53,7 +53,7 @@ told "no rustc" 4 "" "tools/build: no rustc, the Rust compiler (Debian: package 
     in_fake "$work/twice.txt"
 same "proofs without rustc" 0 "$(calls)"
 cat >"$few/rustc" <<END
-echo "rustc \$*" | sed 's/new\.[^/]*/NEW/' >>"$work/compiled"
+echo "rustc \$*" | sed 's/tmp\.[A-Za-z0-9]*/NEW/' >>"$work/compiled"
 cp "$PWD/$job" "\$5"
 END
 chmod +x "$few/rustc"
