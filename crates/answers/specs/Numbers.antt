@@ -1,5 +1,5 @@
--- The number and the figures that document 01 gives for each case of a route's answer.
-use Prim.Native.Nat.{ℕ}
+-- The number and the figures that document 01 gives for each case of a route's answer, and the words it fills.
+use Prim.Native.Nat.{ℕ, _+_, _*_}
 use Rattle.answers.specs.declared.answer.Figures.{Figures}
 use Rattle.answers.specs.declared.answer.Refusal.{Refusal}
 use Rattle.answers.specs.declared.answer.Refusal.the-variants.{Grid, Length, Mark, Element, Ends, Scratch, NoRoute}
@@ -28,3 +28,9 @@ abbrev pub answerFigures : Answer → Figures
 answerFigures (Found f) = f
 answerFigures (NoRoom f) = f
 answerFigures (Refused r) = noFigures
+
+-- the visit words that an answer fills: two a visit
+abbrev pub filledWords : Answer → ℕ
+filledWords (Found f) = 2 * (f .steps + 1)
+filledWords (NoRoom f) = 0
+filledWords (Refused r) = 0

@@ -1,6 +1,6 @@
 // The answer of a route call.
 ghost use mathlib.Core.Path.{_≡_};
-ghost use Rattle.report.specs.Filled.{filledWords};
+ghost use Rattle.answers.specs.Numbers.{filledWords};
 use answers::Answer;
 use answers::Fault;
 use answers::Refusal;

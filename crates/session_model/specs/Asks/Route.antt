@@ -9,10 +9,10 @@ use Rattle.rules.specs.Legal.{Route, legal}
 use Rattle.rules.specs.Ranking.{steps, written, IsBest}
 use Rattle.best.specs.Best.{Outcome, found, none, best}
 use Rattle.answers.specs.Lists.{listOf}
+use Rattle.answers.specs.Numbers.{filledWords}
 use Rattle.answers.specs.declared.records.Tables.{Tables}
 use Rattle.answers.specs.declared.records.BufferRecord.{BufferRecord}
 use Rattle.answers.specs.declared.answer.Answer.{Answer}
-use Rattle.answers.specs.declared.answer.Answer.the-variants.{Found, NoRoom, Refused}
 use Rattle.answers.specs.declared.answer.Refusal.{Refusal}
 use Rattle.router.specs.Route.{Question, questionOf, rulesAsked, cellsAsked, cellWords, Check, passes, fails, checks, figuresOf, answerOf, scratchOf, visitsOf}
 
@@ -49,12 +49,6 @@ unfoldable pub asked : RouteAsk → List ℕ → Question
 asked a marks = questionOf marks (a .width) (a .height) (a .tables) (listOf (a .buffers)) (a .source) (a .sink)
 
 -- What the call gives: its contract (router/specs/Route.antt).
-
--- visit words that an answer fills
-unfoldable pub filledWords : Answer → ℕ
-filledWords (Found f) = 2 * (f .steps + 1)
-filledWords (NoRoom f) = 0
-filledWords (Refused r) = 0
 
 -- scratch words that are zeroed: once the checks have passed, whatever the answer
 unfoldable pub zeroedWords : Check → Question → ℕ

@@ -1,7 +1,7 @@
 -- The answer is the case that was met.
 use mathlib.Core.Path.{sym, ap}
 use borrow.Author.Needs.{needs}
-use Rattle.report.specs.Filled.{filledWords}
+use Rattle.answers.specs.Numbers.{filledWords}
 use Rattle.report.proofs.answer.filled.Statement.{statement}
 use Rattle.report.proofs.answer.filled.Tie as tie
 
