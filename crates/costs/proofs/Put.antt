@@ -8,15 +8,15 @@ use lib.ListN.{length, getD, set, length-set}
 use lib.Seq.{getD-set-same, getD-set-other}
 use Rattle.timing.specs.Formulas.{bufferDriver}
 use Rattle.timing.specs.declared.elements.Elements.{Elements}
-use Rattle.costs.specs.Costs.{rowWords, costWords, gateCost, bufferAt, buffersAt, Row, RowAt, Stored, BuffersPut}
+use Rattle.costs.specs.Costs.{rowWords, costWords, gateCost, bufferAt, buffersAt, Row, RowAt, RowStored, BuffersPut}
 
 -- Word by word
 
-pub put-none : (at : ℕ) (row all : List ℕ) → length all ≡ costWords → Stored at 0 row all all
+pub put-none : (at : ℕ) (row all : List ℕ) → length all ≡ costWords → RowStored at 0 row all all
 put-none at row all e = record { size = e; done = λ l h. absurd (omega arith); low = λ k h. refl }
 
-module _ {at n : ℕ} {row old new : List ℕ} (w : Stored at n row old new) where
-  pub put-more : (x : ℕ) → at + n < costWords → x ≡ getD row n 0 → Stored at (n + 1) row old (set new (at + n) x)
+module _ {at n : ℕ} {row old new : List ℕ} (w : RowStored at n row old new) where
+  pub put-more : (x : ℕ) → at + n < costWords → x ≡ getD row n 0 → RowStored at (n + 1) row old (set new (at + n) x)
   put-more x h e =
       record {
         size = length-set new (at + n) x ∙ w .size;
@@ -32,7 +32,7 @@ module _ {at n : ℕ} {row old new : List ℕ} (w : Stored at n row old new) whe
   put-stays place h r l k = w .low (place + l) (omega arith) ∙ r l k
 
 -- the row itself
-pub put-costs : {at : ℕ} {row old new : List ℕ} → Stored at rowWords row old new → {cost : ℕ → ℕ} → Row cost row → RowAt cost at new
+pub put-costs : {at : ℕ} {row old new : List ℕ} → RowStored at rowWords row old new → {cost : ℕ → ℕ} → Row cost row → RowAt cost at new
 put-costs w r l k = w .done l k ∙ r l k
 
 -- Buffer by buffer
@@ -41,7 +41,7 @@ pub buffers-none : (e : Elements) (all : List ℕ) → length all ≡ costWords 
 buffers-none e all h = record { size = h; done = λ i k. absurd (omega arith); low = λ k l. refl }
 
 module _ {e : Elements} {n : ℕ} {old new : List ℕ} (w : BuffersPut e n old new) where
-  pub buffers-more : {row last : List ℕ} → Row (gateCost (bufferDriver (bufferAt e n)) (e .limit .0)) row → Stored (buffersAt n) rowWords row new last → BuffersPut e (n + 1) old last
+  pub buffers-more : {row last : List ℕ} → Row (gateCost (bufferDriver (bufferAt e n)) (e .limit .0)) row → RowStored (buffersAt n) rowWords row new last → BuffersPut e (n + 1) old last
   buffers-more {row} {last} r p =
       record {
         size = p .size;

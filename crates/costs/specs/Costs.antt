@@ -42,7 +42,7 @@ abbrev pub RowAt : (ℕ → ℕ) → ℕ → List ℕ → Type 0
 RowAt cost at rows = (l : ℕ) → l < rowWords → getD rows (at + l) 0 ≡ cost l
 
 -- `new` has the first n words of the row at `at`; the words before it are those of `old`
-pub record Stored (at n : ℕ) (row old new : List ℕ) : Type 0 where
+pub record RowStored (at n : ℕ) (row old new : List ℕ) : Type 0 where
   pub size : length new ≡ costWords
   pub done : (l : ℕ) → l < n → getD new (at + l) 0 ≡ getD row l 0
   pub low : (k : ℕ) → k < at → getD new k 0 ≡ getD old k 0

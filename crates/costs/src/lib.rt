@@ -5,7 +5,7 @@ ghost use mathlib.Core.Path.{_≡_};
 ghost use lib.ListN.{length};
 ghost use Rattle.timing.specs.Elements.{WireInRange, DriverInRange};
 ghost use Rattle.timing.specs.Valid.{Valid};
-ghost use Rattle.costs.specs.Costs.{rowWords, costWords, limitCost, gateCost, stepCost, Row, Stored, BuffersPut, CostsOf};
+ghost use Rattle.costs.specs.Costs.{rowWords, costWords, limitCost, gateCost, stepCost, Row, RowStored, BuffersPut, CostsOf};
 use timing::Driver;
 use timing::Elements;
 use timing::Load;
@@ -78,7 +78,7 @@ fn step_row(wire: Wire, limit: usize) -> [u16; ROW]
 // The row is put at `at`; the words before it stay.
 fn put_row(rows: [u16; COSTS], at: usize, row: [u16; ROW]) -> [u16; COSTS]
     requires { ⌜ (length rows ≡ costWords) × (at + rowWords ≤ costWords) ⌝ }
-    ensures { λ r. ⌜ Stored at rowWords row rows r ⌝ }
+    ensures { λ r. ⌜ RowStored at rowWords row rows r ⌝ }
 {
     let mut all = rows;
     let mut l = 0;

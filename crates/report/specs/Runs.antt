@@ -7,7 +7,7 @@ use lib.ListN.{length, getD}
 abbrev pub Equal : List ℕ → ℕ → ℕ → Type 0
 Equal words start end = (k : ℕ) → k < end → start ≤ k → getD words k 0 ≡ getD words start 0
 
-pub record Run (words : List ℕ) (start end : ℕ) : Type 0 where
+pub record EqualRun (words : List ℕ) (start end : ℕ) : Type 0 where
   pub some : start < end
   pub within : end ≤ length words
   pub equal : Equal words start end

@@ -2,7 +2,7 @@
 ghost use mathlib.Core.Path.{_≡_};
 ghost use Prim.Native.Nat.{_<_, min};
 ghost use lib.ListN.{length};
-ghost use Rattle.report.specs.Runs.{Run};
+ghost use Rattle.report.specs.Runs.{EqualRun};
 use streams::write_number;
 use streams::write_text;
 
@@ -29,7 +29,7 @@ pub fn write_words(words: &[u16], end: usize) -> bool {
 // Where the run of words equal to the one at `start` ends.
 pub fn run_end(words: &[u16], start: usize) -> usize
     requires { ⌜ start < length (now words) ⌝ }
-    ensures { λ r. ⌜ Run (now (words .entry)) start r ⌝ }
+    ensures { λ r. ⌜ EqualRun (now (words .entry)) start r ⌝ }
 {
     let value = words[start];
     let mut i = start + 1;

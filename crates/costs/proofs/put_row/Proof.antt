@@ -2,13 +2,13 @@
 use Prim.Native.Nat.{_-_, _≤_}
 use mathlib.Core.Path.{_≡_, refl}
 use native.Mathlib.Omega.{arith}
-use Rattle.costs.specs.Costs.{rowWords, Stored}
+use Rattle.costs.specs.Costs.{rowWords, RowStored}
 use Rattle.costs.proofs.Put.{put-none, put-more}
 use Rattle.costs.proofs.put_row.Statement.{statement}
 use Rattle.costs.proofs.put_row.Tie as tie
 
 abbrev Inv-loop : tie.InvT-loop
-Inv-loop at row all₀ l₀ all l = (l ≤ rowWords) × Stored at l row all₀ all
+Inv-loop at row all₀ l₀ all l = (l ≤ rowWords) × RowStored at l row all₀ all
 
 abbrev μ-loop : tie.MeasureT-loop
 μ-loop at row all₀ l₀ all l = rowWords - l
