@@ -3,6 +3,7 @@
 //!     route_bench                          the table, with the geometric means
 //!     route_bench growth                   how the times grow with cells, buffers and load limit
 //!     route_bench agree [N] [SEED]         N small random plans on which all must agree
+//!     route_bench stack                    bytes of stack that a call takes
 //!     route_bench names                    the names of the table's plans
 //!     route_bench once PLAN SIDE [N]       N calls of a side (ours, search, peer, tuned), for a profiler
 //!
@@ -16,6 +17,7 @@ mod peer;
 mod plans;
 mod problem;
 mod queues;
+mod stack;
 
 use ours::{Answer, Ours};
 use peer::{Plain, Tuned};
@@ -200,6 +202,11 @@ const SHAPES: [Shape; 6] = [
     ("comb, every tip needed", |s| plans::long_comb(s, 28000)),
 ];
 
+/// The shapes of the growth table at one size.
+fn shapes_of(side: usize) -> Vec<Problem> {
+    SHAPES.iter().map(|(_, shape)| shape(Size { side, ..FULL })).collect()
+}
+
 fn growth(budget: Duration) -> bool {
     let size = |side, buffers, limit| Size { side, buffers, limit };
     let sizes =
@@ -252,10 +259,14 @@ fn main() {
         None => table(Duration::from_millis(150)),
         Some(&"growth") => growth(Duration::from_millis(30)),
         Some(&"agree") => agree::run(number(1, 20000), number(2, 1)),
+        Some(&"stack") => stack::run(vec![
+            ("8 x 8", shapes_of(8)),
+            ("32 x 32", table_plans().into_iter().map(|p| p.problem).collect()),
+        ]),
         Some(&"names") => names(),
         Some(&"once") if words.len() > 2 => once(words[1], words[2], number(3, 1)),
         Some(_) => {
-            eprintln!("usage: route_bench [growth | agree [N] [SEED] | names | once PLAN SIDE [N]]");
+            eprintln!("usage: route_bench [growth | agree [N] [SEED] | stack | names | once PLAN SIDE [N]]");
             false
         }
     };

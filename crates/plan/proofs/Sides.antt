@@ -1,4 +1,4 @@
--- The four sides of a cell: they are exactly the cells joined to it, and they are in ascending order.
+-- The four sides of a cell: they are exactly the cells joined to it (`neighbours-exact`, document 02's C-14), and they are in ascending order.
 use Prim.Native.Nat.{ℕ, _+_, _-_, _%_, _<_, _≤_}
 use mathlib.Core.Bool.{Bool, true, false, _&&_, _||_, not, cond}
 use mathlib.Core.Path.{_≡_, refl}
@@ -10,9 +10,10 @@ use lib.Dec.{T, leb, ltb, leb→le, ltb→lt, lt→ltb}
 use Rattle.plan.specs.declared.Neighbours.{Neighbours}
 use Rattle.plan.specs.Plan.{Plan, Sized, cells, column, marksAt, cutRight, cutBelow}
 use Rattle.plan.specs.Joined.{joinsRight, joinsBelow, bothIn, horizontal, vertical, joined, neighboursOf}
+use Rattle.plan.specs.Sides.{OneOf, ExactNeighbours}
 use Rattle.plan.proofs.Truth.{both, fst, snd, or-cases, or-left, or-right, is-false}
 use Rattle.plan.proofs.Division.{left-column, right-column, right-in}
-use Rattle.plan.proofs.Joined.{Right, Below, right-of, of-right, below-of, of-below, vertical-in}
+use Rattle.plan.proofs.Joined.{Right, Below, right-of, of-right, below-of, of-below, vertical-in, joined-in}
 
 choice : (t : Bool) (x y : ℕ) (P : ℕ → Type 0) → (T t → P x) → P y → P (cond t x y)
 choice true x y P f g = f tt
@@ -20,8 +21,7 @@ choice false x y P f g = g
 
 -- b is one of the four sides of c
 abbrev pub IsNeighbour : Plan → ℕ → ℕ → Type 0
-IsNeighbour p c b =
-    (b ≡ neighboursOf p c .up) ⊎ (b ≡ neighboursOf p c .left) ⊎ (b ≡ neighboursOf p c .right) ⊎ (b ≡ neighboursOf p c .down)
+IsNeighbour p c b = OneOf (neighboursOf p c) b
 
 -- The sides s of cell c among n cells: where one is missing it is n; those that exist are in ascending order, with c in the middle.
 pub record Ascending (n c : ℕ) (s : Neighbours) : Type 0 where
@@ -219,3 +219,38 @@ module _ (p : Plan) (s : Sized p) (c : ℕ) (h : c < cells p) where
         left-down = λ i. omega (arith, l i);
         right-down = λ i. ⊎-elim (λ e. absurd (omega arith)) (λ w. ⊎-elim (λ e. omega arith) (λ v. omega (arith, v .0 .next)) down-wire) right-wire;
       }
+
+  -- C-14, of whatever the neighbour step hands back: its contract is this theorem. Each side is told by its wire, one way and the other.
+  pub neighbours-exact : (n : Neighbours) → n ≡ neighboursOf p c → ExactNeighbours p c n
+  neighbours-exact n e =
+      let o = ascending in
+      rw e
+      (record {
+        every = λ b t. (joined-in p c b t .1, joined-neighbour b t);
+        only = neighbour-joined;
+        up =
+            record {
+              given = λ i. ⊎-elim (λ m. absurd (omega arith)) (of-below p (s .wide) _ c) up-wire;
+              every = λ b i t. wire-up b (below-of p (s .wide) b c t);
+              most = o .up-most;
+            };
+        left =
+            record {
+              given = λ i. ⊎-elim (λ m. absurd (omega arith)) (of-right p (s .wide) _ c) left-wire;
+              every = λ b i t. wire-left b (right-of p (s .wide) b c t);
+              most = o .left-most;
+            };
+        right =
+            record {
+              given = λ i. ⊎-elim (λ m. absurd (omega arith)) (of-right p (s .wide) c _) right-wire;
+              every = λ b i t. wire-right b (right-of p (s .wide) c b t);
+              most = o .right-most;
+            };
+        down =
+            record {
+              given = λ i. ⊎-elim (λ m. absurd (omega arith)) (λ w. of-below p (s .wide) c _ (w .0)) down-wire;
+              every = λ b i t. wire-down b i (below-of p (s .wide) c b t);
+              most = o .down-most;
+            };
+        is = refl;
+      })

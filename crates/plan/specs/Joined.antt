@@ -26,7 +26,7 @@ vertical p a b = bothIn p a b && (joinsBelow p a b || joinsBelow p b a)
 unfoldable pub joined : Plan → ℕ → ℕ → Bool
 joined p a b = horizontal p a b || vertical p a b
 
--- What the neighbour step gives: the cell joined to c on each side, or the number of cells where there is none. The laws of proofs/Sides say that these are exactly the cells joined to c, left and right by a horizontal wire, up and down by a vertical one, and that they ascend.
+-- What the neighbour step gives, by formulas: the cell joined to c on each side, or the number of cells where there is none. What it means stands in specs/Sides; that it is so, and that the sides ascend, is proved in proofs/Sides.
 unfoldable pub neighboursOf : Plan → ℕ → Neighbours
 neighboursOf p c =
     record {

@@ -3,6 +3,7 @@ ghost use mathlib.Core.Path.{_≡_};
 ghost use Prim.Native.Nat.{_*_, _<_};
 ghost use Rattle.plan.specs.Plan.{Sized, planOf, blocked, tap, cutRight, cutBelow};
 ghost use Rattle.plan.specs.Joined.{neighboursOf};
+ghost use Rattle.plan.specs.Sides.{ExactNeighbours};
 ghost use Rattle.plan.specs.Check.{gridFault, invalidMark, markFault, checkedPlan};
 
 // Width and height are at most this.
@@ -179,10 +180,11 @@ fn below(plan: &[u8], width: usize, height: usize, cell: usize) -> usize
     cell + width
 }
 
-// The cells that an uncut wire joins to the cell, on each side; where there is none, the number of cells.
+// The neighbour step: exactly the cells that an uncut wire joins to the cell, each on its side; where there is none, the number of cells.
+// The marks are read from the lent plan. Document 02, C-14: `neighbours-exact` of proofs/Sides.antt.
 pub fn neighbours_of(plan: &[u8], width: usize, height: usize, cell: usize) -> Neighbours
     requires { ⌜ Sized (planOf width height (now plan)) × (cell < width * height) ⌝ }
-    ensures { λ r. ⌜ r ≡ neighboursOf (planOf width height (now (plan .entry))) cell ⌝ }
+    ensures { λ r. ⌜ ExactNeighbours (planOf width height (now (plan .entry))) cell r ⌝ }
 {
     Neighbours {
         up: above(plan, width, height, cell),

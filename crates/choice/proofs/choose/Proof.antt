@@ -11,7 +11,7 @@ use Rattle.choice.proofs.choose.Tie as tie
 
 near : (c : tie.After-neighbours-of) → let a = c .before .before .before .args in c .neighbours-of .result ≡ neighboursOf (planFor (a .p) (a .plan .now)) (a .from .cell)
 unfolding planFor
-near c = c .neighbours-of .ensures
+near c = c .neighbours-of .ensures .is
 
 -- what was found on each side, and that it was nothing
 

@@ -1,5 +1,7 @@
--- The four sides, each by its function.
+-- The four sides, each by its function; together they are `neighbours-exact`.
 use borrow.Author.Needs.{needs}
+use Rattle.plan.specs.Plan.{cells}
+use Rattle.plan.proofs.Sides.{neighbours-exact}
 use Rattle.plan.proofs.neighbours_of.Statement.{statement}
 use Rattle.plan.proofs.neighbours_of.Tie as tie
 
@@ -16,13 +18,16 @@ below-requires : tie.Need-below-requires
 below-requires c κs = search needs
 
 returns : tie.Need-returns
+unfolding cells
 returns c =
-    λ i. record {
+    let s = c .before .before .before .before .before in
+    neighbours-exact _ (s .pre .0) _ (s .pre .1) _
+    (λ i. record {
       up = c .before .before .before .above .ensures i;
       left = c .before .before .before2 .ensures i;
       right = c .before .after .ensures i;
       down = c .below .ensures i;
-    }
+    })
 
 pub neighbours-of-spec : {M : Type 1} → statement M
 neighbours-of-spec = tie.close (tie.spec above-requires before-requires after-requires below-requires returns)

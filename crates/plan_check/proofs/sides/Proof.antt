@@ -18,7 +18,7 @@ neighbours-of-requires c κs = (valid-sized _ refl, lit< tt)
 
 expect-sides-requires : tie.Need-expect-sides-requires
 unfolding neighboursOf column cells marksAt cutRight cutBelow
-expect-sides-requires c κs = let e = c .neighbours-of .ensures in (λ i. e i .up, λ i. e i .left, λ i. e i .right, λ i. e i .down)
+expect-sides-requires c κs = let e = c .neighbours-of .ensures .is in (λ i. e i .up, λ i. e i .left, λ i. e i .right, λ i. e i .down)
 
 slice-aggregate-neighbours-of-2 : tie.Need-slice-aggregate-neighbours-of-2
 slice-aggregate-neighbours-of-2 c = search needs
@@ -29,7 +29,7 @@ neighbours-of-requires-2 c κs = (valid-sized _ refl, lit< tt)
 
 expect-sides-requires-2 : tie.Need-expect-sides-requires-2
 unfolding neighboursOf column cells marksAt cutRight cutBelow
-expect-sides-requires-2 c κs = let e = c .neighbours-of2 .ensures in (λ i. e i .up, λ i. e i .left, λ i. e i .right, λ i. e i .down)
+expect-sides-requires-2 c κs = let e = c .neighbours-of2 .ensures .is in (λ i. e i .up, λ i. e i .left, λ i. e i .right, λ i. e i .down)
 
 slice-aggregate-neighbours-of-3 : tie.Need-slice-aggregate-neighbours-of-3
 slice-aggregate-neighbours-of-3 c = search needs
@@ -40,7 +40,7 @@ neighbours-of-requires-3 c κs = (valid-sized _ refl, lit< tt)
 
 expect-sides-requires-3 : tie.Need-expect-sides-requires-3
 unfolding neighboursOf column cells marksAt cutRight cutBelow
-expect-sides-requires-3 c κs = let e = c .neighbours-of3 .ensures in (λ i. e i .up, λ i. e i .left, λ i. e i .right, λ i. e i .down)
+expect-sides-requires-3 c κs = let e = c .neighbours-of3 .ensures .is in (λ i. e i .up, λ i. e i .left, λ i. e i .right, λ i. e i .down)
 
 slice-aggregate-neighbours-of-4 : tie.Need-slice-aggregate-neighbours-of-4
 slice-aggregate-neighbours-of-4 c = search needs
@@ -51,7 +51,7 @@ neighbours-of-requires-4 c κs = (valid-sized _ refl, lit< tt)
 
 expect-sides-requires-4 : tie.Need-expect-sides-requires-4
 unfolding neighboursOf column cells marksAt cutRight cutBelow
-expect-sides-requires-4 c κs = let e = c .neighbours-of4 .ensures in (λ i. e i .up, λ i. e i .left, λ i. e i .right, λ i. e i .down)
+expect-sides-requires-4 c κs = let e = c .neighbours-of4 .ensures .is in (λ i. e i .up, λ i. e i .left, λ i. e i .right, λ i. e i .down)
 
 returns : tie.Need-returns
 returns c = search needs
