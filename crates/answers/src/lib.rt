@@ -19,4 +19,5 @@ pub use tables::BuffersRead;
 pub use tables::ElementFault;
 pub use tables::TablesCheck;
 pub use tables::check_tables;
+pub use tables::no_elements;
 pub use tables::read_list;

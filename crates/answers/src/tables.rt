@@ -126,7 +126,8 @@ fn refused(fault: Fault) -> TablesCheck
     }
 }
 
-fn no_elements() -> Elements
+// Elements of zeros, where there is a fault.
+pub fn no_elements() -> Elements
     ensures { λ r. ⌜ r ≡ noElements ⌝ }
 {
     Elements {

@@ -27,7 +27,7 @@ use Rattle.labels.specs.Labels.{knownOf, registersOf, stepsOf, labelsOf}
 use Rattle.labels.proofs.Labels.{known-word, word-known}
 use Rattle.costs.specs.Costs.{rowWords}
 use Rattle.rows.specs.Rows.{viewOf}
-use Rattle.table.specs.declared.problem.Problem.{Problem}
+use Rattle.problem.specs.declared.Problem.{Problem}
 use Rattle.table.specs.Problem.{planFor, rulesFor, budgetOf}
 use Rattle.costs.specs.Costs.{bufferAt}
 use Rattle.table.specs.ArrivalRow.{takesBuffers}

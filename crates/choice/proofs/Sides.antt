@@ -4,24 +4,24 @@ use mathlib.Core.Path.{_≡_, refl}
 use mathlib.Core.List.{List}
 use mathlib.Core.Logic.{_⊎_, inl, inr}
 use native.Mathlib.Omega.{arith}
-use lib.Dec.{T, not-T}
+use lib.Dec.{T}
 use lib.ListN.{length}
 use Rattle.plan.specs.Plan.{Plan, cells}
-use Rattle.plan.specs.Joined.{horizontal, neighboursOf}
+use Rattle.plan.specs.Joined.{neighboursOf}
 use Rattle.plan.specs.declared.Neighbours.{Neighbours}
-use Rattle.plan.proofs.Sides.{Ascending, IsNeighbour, ascending, joined-neighbour, neighbour-joined, horizontal-neighbour, neighbour-horizontal}
+use Rattle.plan.proofs.Sides.{Ascending, IsNeighbour}
 use Rattle.timing.specs.declared.elements.Wire.{Wire}
 use Rattle.timing.specs.declared.elements.Elements.{Elements}
 use Rattle.timing.specs.Elements.{WireInRange}
-use Rattle.rules.specs.Rules.{Rules, rulesOf, wireBetween, registerCode}
-use Rattle.plan.proofs.Truth.{is-true, is-false}
+use Rattle.rules.specs.Rules.{Rules, registerCode}
 use Rattle.budget.specs.Table.{Table}
 use Rattle.budget.specs.Done.{Labels}
 use Rattle.budget.specs.Emission.{Before}
 use Rattle.labels.specs.Labels.{labelsOf}
-use Rattle.table.specs.declared.problem.Problem.{Problem}
+use Rattle.problem.specs.declared.Problem.{Problem}
 use Rattle.table.specs.Problem.{planFor, rulesFor, budgetOf}
-use Rattle.table.proofs.Spreads.{cells-are}
+use Rattle.problem.proofs.Sizes.{cells-are}
+use Rattle.problem.proofs.Wires.{in-order, sides, linked, across, along}
 use Rattle.choice.specs.declared.State.{State}
 use Rattle.choice.specs.declared.Choice.{Choice}
 use Rattle.choice.specs.Choice.{ChooseAsks, Goes, FirstVisit, ChosenAmong, Chosen}
@@ -50,56 +50,27 @@ module _ (p : Problem) (marks words : List ℕ) (from : State) (asks : ChooseAsk
   abbrev near : Neighbours
   near = neighboursOf P (from .cell)
 
-  inside : from .cell < cells P
-  inside = omega (arith, asks .inRange .inPlan, cells-are p marks (asks .ready))
+  abbrev inPlan : from .cell < n
+  inPlan = asks .inRange .inPlan
 
   order : Ascending (cells P) (from .cell) near
-  order = ascending P (asks .ready .sized) (from .cell) inside
-
-  -- the wire to each side
-
-  sides : (c : ℕ) → T (R .linked (from .cell) c) → IsNeighbour P (from .cell) c
-  unfolding rulesFor rulesOf
-  sides c t = joined-neighbour P (asks .ready .sized) (from .cell) inside c t
-
-  linked : (c : ℕ) → IsNeighbour P (from .cell) c → c < n → T (R .linked (from .cell) c)
-  unfolding rulesFor rulesOf
-  linked c s h = neighbour-joined P (asks .ready .sized) (from .cell) inside c (omega (arith, cells-are p marks (asks .ready))) s
-
-  across : (c : ℕ) → (c ≡ near .left) ⊎ (c ≡ near .right) → c < n → R .wire (from .cell) c ≡ e .horizontal
-  unfolding rulesFor rulesOf wireBetween
-  across c s h =
-      rw (is-true (horizontal P (from .cell) c) (neighbour-horizontal P (asks .ready .sized) (from .cell) inside c (omega (arith, cells-are p marks (asks .ready))) s))
-
-  along : (c : ℕ) → (c ≡ near .up) ⊎ (c ≡ near .down) → c < n → R .wire (from .cell) c ≡ e .vertical
-  unfolding rulesFor rulesOf wireBetween
-  along c s h =
-      rw (is-false (horizontal P (from .cell) c) (not-T (horizontal P (from .cell) c) (λ t. go s (horizontal-neighbour P (asks .ready .sized) (from .cell) inside c t))))
-    where
-      size : n ≡ cells P
-      size = cells-are p marks (asks .ready)
-
-      go : (c ≡ near .up) ⊎ (c ≡ near .down) → (c ≡ near .left) ⊎ (c ≡ near .right) → ⊥
-      go (inl a) (inl b) = omega (arith, size, order .up-left (omega (arith, size)))
-      go (inl a) (inr b) = omega (arith, size, order .up-right (omega (arith, size)))
-      go (inr a) (inl b) = omega (arith, size, order .left-down (omega (arith, size)))
-      go (inr a) (inr b) = omega (arith, size, order .right-down (omega (arith, size)))
+  order = in-order p marks (asks .ready) (from .cell) inPlan
 
   side-asks : (c : ℕ) (wire : Wire) → IsNeighbour P (from .cell) c → c ≤ cells P → WireInRange wire → (c < n → R .wire (from .cell) c ≡ wire) → TryAsks p marks words from c wire
   side-asks c wire s h w q =
-      record { asks = asks; within = omega (arith, cells-are p marks (asks .ready)); joined = linked c s; same = q; wireFits = w }
+      record { asks = asks; within = omega (arith, cells-are p marks (asks .ready)); joined = linked p marks (asks .ready) (from .cell) inPlan c s; same = q; wireFits = w }
 
   pub up-asks : TryAsks p marks words from (near .up) (e .vertical)
-  up-asks = side-asks (near .up) (e .vertical) (inl refl) (order .up-most) (asks .ready .valid .vertical) (along (near .up) (inl refl))
+  up-asks = side-asks (near .up) (e .vertical) (inl refl) (order .up-most) (asks .ready .valid .vertical) (along p marks (asks .ready) (from .cell) inPlan (near .up) (inl refl))
 
   pub left-asks : TryAsks p marks words from (near .left) (e .horizontal)
-  left-asks = side-asks (near .left) (e .horizontal) (inr (inl refl)) (order .left-most) (asks .ready .valid .horizontal) (across (near .left) (inl refl))
+  left-asks = side-asks (near .left) (e .horizontal) (inr (inl refl)) (order .left-most) (asks .ready .valid .horizontal) (across p marks (asks .ready) (from .cell) inPlan (near .left) (inl refl))
 
   pub right-asks : TryAsks p marks words from (near .right) (e .horizontal)
-  right-asks = side-asks (near .right) (e .horizontal) (inr (inr (inl refl))) (order .right-most) (asks .ready .valid .horizontal) (across (near .right) (inr refl))
+  right-asks = side-asks (near .right) (e .horizontal) (inr (inr (inl refl))) (order .right-most) (asks .ready .valid .horizontal) (across p marks (asks .ready) (from .cell) inPlan (near .right) (inr refl))
 
   pub down-asks : TryAsks p marks words from (near .down) (e .vertical)
-  down-asks = side-asks (near .down) (e .vertical) (inr (inr (inr refl))) (order .down-most) (asks .ready .valid .vertical) (along (near .down) (inr refl))
+  down-asks = side-asks (near .down) (e .vertical) (inr (inr (inr refl))) (order .down-most) (asks .ready .valid .vertical) (along p marks (asks .ready) (from .cell) inPlan (near .down) (inr refl))
 
   -- one side
 
@@ -133,7 +104,7 @@ module _ (p : Problem) (marks words : List ℕ) (from : State) (asks : ChooseAsk
       })
     where
       first : (c a : ℕ) → T (R .linked (from .cell) c) → a ≤ registerCode → Before c a (to .cell) code → Goes R m A from c a → ⊥
-      first c a l h (inl b) t = none (omega (arith, x .among, x .inRange .inPlan, cells-are p marks (asks .ready))) c (omega (arith, x .among)) (sides c l) a h t
+      first c a l h (inl b) t = none (omega (arith, x .among, x .inRange .inPlan, cells-are p marks (asks .ready))) c (omega (arith, x .among)) (sides p marks (asks .ready) (from .cell) inPlan c l) a h t
       first c a l h (inr b) t = x .isFirst c a (omega (arith, x .among)) h (inr b) t
 
   -- the sides in their order
@@ -175,7 +146,7 @@ module _ (p : Problem) (marks words : List ℕ) (from : State) (asks : ChooseAsk
           none h c k (inr (inl q)) = rw q left
           none h c k (inr (inr (inl q))) = rw q right
           none h c k (inr (inr (inr q))) = absurd (omega arith)
-      down-last right Choice.Nothing (ChosenAmong.nothing f) = ChosenAmong.nothing (λ c a l. none c (sides c l) a)
+      down-last right Choice.Nothing (ChosenAmong.nothing f) = ChosenAmong.nothing (λ c a l. none c (sides p marks (asks .ready) (from .cell) inPlan c l) a)
         where
           none : (c : ℕ) → IsNeighbour P (from .cell) c → Empty c
           none c (inl q) = rw q up

@@ -23,10 +23,10 @@ use Rattle.budget.specs.Done.{Labels}
 use Rattle.budget.specs.Emission.{goesOn, afterLoad, afterDelay, Before}
 use Rattle.budget.proofs.Visit.{Gate, gate}
 use Rattle.labels.specs.Labels.{labelsOf}
-use Rattle.table.specs.declared.problem.Problem.{Problem}
+use Rattle.problem.specs.declared.Problem.{Problem}
 use Rattle.table.specs.Problem.{planFor, rulesFor, budgetOf}
 use Rattle.costs.specs.Costs.{bufferAt}
-use Rattle.table.proofs.Spreads.{cells-are}
+use Rattle.problem.proofs.Sizes.{cells-are}
 use Rattle.choice.specs.declared.State.{State}
 use Rattle.choice.specs.declared.Choice.{Choice}
 use Rattle.choice.specs.Choice.{delayMost, Goes, ChosenAmong}

@@ -10,7 +10,7 @@ use Rattle.rules.specs.Rules.{Rules, registerCode}
 use Rattle.budget.specs.Table.{Table}
 use Rattle.budget.specs.Done.{Labels}
 use Rattle.budget.specs.Emission.{goesOn, afterLoad, afterDelay, afterRegisters, Before}
-use Rattle.table.specs.declared.problem.Problem.{Problem}
+use Rattle.problem.specs.declared.Problem.{Problem}
 use Rattle.table.specs.Problem.{Ready, Room}
 use Rattle.choice.specs.declared.State.{State}
 use Rattle.choice.specs.declared.Choice.{Choice}

@@ -18,7 +18,7 @@ use Rattle.budget.specs.Done.{Labels}
 use Rattle.budget.specs.Emission.{exactSeed, afterRegisters}
 use Rattle.costs.specs.Costs.{rowWords}
 use Rattle.rows.specs.Rows.{viewOf}
-use Rattle.table.specs.declared.problem.Problem.{Problem}
+use Rattle.problem.specs.declared.Problem.{Problem}
 use Rattle.table.specs.Problem.{rulesFor, Ready, Room}
 use Rattle.costs.specs.Costs.{bufferAt}
 use Rattle.choice.specs.declared.State.{State}

@@ -18,8 +18,8 @@ ghost use Rattle.choice.specs.Codes.{arrivalMost, RowAsks, CodeAsks, Try
 use labels::steps_of;
 use layout::LABELS;
 use plan::neighbours_of;
+use problem::Problem;
 use rows::view;
-use table::Problem;
 use table::takes_buffers;
 use timing::Driver;
 use timing::Elements;

@@ -13,7 +13,7 @@ use Rattle.layout.specs.Layout.{cellWords}
 use Rattle.rows.specs.Words.{Filled, KeptFrom}
 use Rattle.labels.specs.Labels.{labelsOf}
 use Rattle.choice.specs.declared.State.{State}
-use Rattle.table.specs.declared.problem.Problem.{Problem}
+use Rattle.problem.specs.declared.Problem.{Problem}
 use Rattle.table.specs.Problem.{Ready, Room, rulesFor}
 use Rattle.search.specs.Turn.{Reaching}
 use Rattle.choice.specs.Choice.{InRange}

@@ -8,9 +8,9 @@ use choice::Choice;
 use choice::State;
 use choice::choose;
 use costs::COSTS;
+use problem::Problem;
 use reach::load_layer;
 use reach::no_layers;
-use table::Problem;
 
 // A visit's two words.
 fn put_visit(visits: &mut [u16], i: usize, cell: usize, code: u16)

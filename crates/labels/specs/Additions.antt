@@ -10,7 +10,7 @@ use Rattle.rules.specs.Legal.{mayStand}
 use Rattle.budget.specs.Done.{NotAfter}
 use Rattle.layout.specs.Layout.{labelsAt, activeAt}
 use Rattle.lists.specs.Lists.{flagOf}
-use Rattle.table.specs.declared.problem.Problem.{Problem}
+use Rattle.problem.specs.declared.Problem.{Problem}
 use Rattle.table.specs.Problem.{rulesFor, Ready, Room, budgetOf}
 use Rattle.labels.specs.Labels.{knownOf, registersOf, stepsOf, orderOf, Ordered}
 

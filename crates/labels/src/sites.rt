@@ -14,8 +14,8 @@ use crate::label;
 use layout::ACTIVE;
 use layout::LABELS;
 use plan::is_tap;
+use problem::Problem;
 use rows::view;
-use table::Problem;
 
 // A register may stand on the cell, between the ends.
 pub fn may_register(plan: &[u8], p: Problem, cell: usize) -> bool

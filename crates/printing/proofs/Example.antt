@@ -20,7 +20,7 @@ use Rattle.best.specs.Search.{layerTurn, quietTurn, turn, searchFrom, mostSteps
 use Rattle.best.specs.Best.{reachRows, routeOf, outcome, best}
 use Rattle.answers.specs.Tables.{periodInRange, wireOk, registerOk, bufferOk, bufferFault, buffersFault, listFault, tablesFault, wireFrom, registerFrom, bufferFrom, listedBuffer, sixPlaces, elementsOf}
 use Rattle.answers.specs.Ends.{endsFault}
-use Rattle.router.specs.Route.{rulesAsked, cellsAsked, afterPlan, afterTables, checks, figuresOf, answerFor, visitsFor, answerAfter, answerOf, visitsAfter, visitsOf}
+use Rattle.router.specs.Route.{rulesAsked, cellsAsked, afterPlan, afterTables, questionChecks, checks, figuresOf, answerFor, visitsFor, answerAfter, answerOf, visitsAfter, visitsOf}
 use Rattle.numbers.specs.Numbers.{closed, thirdGroup, secondGroup, number}
 use Rattle.numbers.specs.Runs.{prepend, oneMore, run}
 use Rattle.job.specs.Fields.{tablesOf, bufferRecordAt, bufferListOf}
@@ -38,5 +38,5 @@ abbrev lines : List ℕ
 lines = 114 ∷ 111 ∷ 117 ∷ 116 ∷ 101 ∷ 32 ∷ 49 ∷ 32 ∷ 50 ∷ 32 ∷ 53 ∷ 48 ∷ 10 ∷ 50 ∷ 32 ∷ 55 ∷ 10 ∷ 49 ∷ 32 ∷ 55 ∷ 10 ∷ 48 ∷ 32 ∷ 55 ∷ 10 ∷ []
 
 pub printed-example : printed job ≡ lines
-unfolding gridFault lengthFault invalidMark invalidBelow markFault checkedPlan wireInRange registerInRange bufferInRange written periodInRange wireOk registerOk bufferOk bufferFault buffersFault listFault tablesFault wireFrom registerFrom bufferFrom listedBuffer sixPlaces elementsOf endsFault rulesAsked cellsAsked afterPlan afterTables checks figuresOf answerFor visitsFor answerAfter answerOf visitsAfter visitsOf closed thirdGroup secondGroup number prepend oneMore run tablesOf bufferListOf bufferRecordAt withNumber withRun askedOf questionFrom ended buffersFrom countFrom tablesFrom marksFrom sized readJob digit spelled decimal refusedLine refusalText figuresLine visitLine visitLines answerText blank readingText printed cells row column marksAt blocked tap cutRight cutBelow joinsRight joinsBelow bothIn horizontal vertical joined wireOf bufferOf registerOf driverOf wireDelay gateDelay wireLoad bufferDriver bufferLoad registerDriver registerLoad setupDelay rulesOf siteOf wireBetween mayStand isEnd loadAt delayAt bufferCost loadOf closeCost only maxBelow viaBuffer arrival given seedAt exactSeed goesOn afterLoad afterDelay afterRegisters firstFrom nextCode nextCell emit listFrom sumBelow tableOf rowsOf layerRows budgetSum isKnown labelRegisters labelSteps labelsListed relabelAt relabel least leastBelow isPending isOfWave nextPending firstOfWave layerTurn quietTurn turn searchFrom mostSteps mostTurns search reachRows routeOf outcome best codeSevens registers steps latency
+unfolding gridFault lengthFault invalidMark invalidBelow markFault checkedPlan wireInRange registerInRange bufferInRange written periodInRange wireOk registerOk bufferOk bufferFault buffersFault listFault tablesFault wireFrom registerFrom bufferFrom listedBuffer sixPlaces elementsOf endsFault rulesAsked cellsAsked afterPlan afterTables questionChecks checks figuresOf answerFor visitsFor answerAfter answerOf visitsAfter visitsOf closed thirdGroup secondGroup number prepend oneMore run tablesOf bufferListOf bufferRecordAt withNumber withRun askedOf questionFrom ended buffersFrom countFrom tablesFrom marksFrom sized readJob digit spelled decimal refusedLine refusalText figuresLine visitLine visitLines answerText blank readingText printed cells row column marksAt blocked tap cutRight cutBelow joinsRight joinsBelow bothIn horizontal vertical joined wireOf bufferOf registerOf driverOf wireDelay gateDelay wireLoad bufferDriver bufferLoad registerDriver registerLoad setupDelay rulesOf siteOf wireBetween mayStand isEnd loadAt delayAt bufferCost loadOf closeCost only maxBelow viaBuffer arrival given seedAt exactSeed goesOn afterLoad afterDelay afterRegisters firstFrom nextCode nextCell emit listFrom sumBelow tableOf rowsOf layerRows budgetSum isKnown labelRegisters labelSteps labelsListed relabelAt relabel least leastBelow isPending isOfWave nextPending firstOfWave layerTurn quietTurn turn searchFrom mostSteps mostTurns search reachRows routeOf outcome best codeSevens registers steps latency
 printed-example = refl

@@ -7,7 +7,7 @@ use lib.Dec.{T}
 use lib.ListN.{length, getD}
 use Rattle.layout.specs.Layout.{activeAt, nextAt, seedsAt, trailAt}
 use Rattle.lists.specs.Lists.{flagOf, ListedAt, Listed}
-use Rattle.table.specs.declared.problem.Problem.{Problem}
+use Rattle.problem.specs.declared.Problem.{Problem}
 
 -- no cell is flagged, and there are `active` cells at the active list
 pub record ListAsks (n active width : ℕ) (words : List ℕ) : Type 0 where

@@ -21,7 +21,7 @@ use Rattle.trail.specs.Trail.{Sound, History}
 use Rattle.table.specs.Problem.{rulesFor, Ready, Room, budgetOf, seedOf}
 use Rattle.table.specs.Layer.{ActiveIn}
 use Rattle.table.specs.Colours.{Coloured}
-use Rattle.table.specs.declared.problem.Problem.{Problem}
+use Rattle.problem.specs.declared.Problem.{Problem}
 use Rattle.reach.specs.declared.layers.Layers.{Layers}
 use Rattle.labels.specs.Labels.{registersOf, stepsOf, labelsOf, orderOf, Ordered}
 

@@ -10,8 +10,8 @@ use layout::NEXT;
 use layout::SEEDS;
 use lists::enlist;
 use lists::take_list;
+use problem::Problem;
 use rows::clear;
-use table::Problem;
 
 // The difference of two numbers.
 fn difference(a: usize, b: usize) -> usize

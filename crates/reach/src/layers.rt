@@ -10,7 +10,7 @@ use crate::span::next_steps;
 use crate::span::start_span;
 use costs::COSTS;
 use labels::arrive;
-use table::Problem;
+use problem::Problem;
 use table::next_layer;
 use trail::Trail;
 use trail::new_trail;

@@ -14,8 +14,8 @@ use layout::LABELS;
 use layout::LISTED;
 use layout::ORDER;
 use layout::TRAIL;
+use problem::Problem;
 use rows::clear;
-use table::Problem;
 use trail::rewind;
 
 // The first place of the order, up to `count`, whose label has at least these registers to go.

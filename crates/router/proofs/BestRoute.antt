@@ -14,7 +14,7 @@ use Rattle.budget.proofs.Emit.{emit-first}
 use Rattle.budget.proofs.Best as figures
 use Rattle.best.specs.Best.{found, none, best}
 use Rattle.best.proofs.Document01.{rules-best, rules-none, registers-fit, steps-fit, latency-fits}
-use Rattle.table.specs.declared.problem.Problem.{Problem}
+use Rattle.problem.specs.declared.Problem.{Problem}
 use Rattle.table.specs.Problem.{planFor, rulesFor, Ready}
 use Rattle.labels.specs.Labels.{labelsOf}
 use Rattle.search.specs.Turn.{Reaching}

@@ -12,7 +12,7 @@ use Rattle.answers.specs.declared.answer.Answer.{Answer}
 use Rattle.answers.specs.declared.answer.Refusal.{Refusal}
 use Rattle.rows.specs.Words.{Filled}
 use Rattle.emission.proofs.Visits.{written-length}
-use Rattle.table.specs.declared.problem.Problem.{Problem}
+use Rattle.problem.specs.declared.Problem.{Problem}
 use Rattle.table.specs.Problem.{rulesFor}
 use Rattle.router.specs.Route.{cellWords, figuresOf, answerFor, visitsFor, zeroed}
 use Rattle.router.specs.Ready.{RouteDone}

@@ -5,7 +5,7 @@ use mathlib.Core.List.{List}
 use lib.ListN.{length}
 use Rattle.best.specs.Best.{best}
 use Rattle.answers.specs.declared.answer.Answer.{Answer}
-use Rattle.table.specs.declared.problem.Problem.{Problem}
+use Rattle.problem.specs.declared.Problem.{Problem}
 use Rattle.table.specs.Problem.{rulesFor}
 use Rattle.router.specs.Route.{cellWords, answerFor, visitsFor, zeroed}
 

@@ -6,70 +6,19 @@ use mathlib.Core.List.{List, _++_}
 use mathlib.Core.Path.{_≡_}
 use lib.Dec.{leb, ltb}
 use lib.ListN.{length, drop, replicate}
-use Rattle.plan.specs.Plan.{planOf}
-use Rattle.plan.specs.Check.{checkedPlan}
-use Rattle.plan.specs.declared.PlanCheck.{PlanCheck}
-use Rattle.plan.specs.declared.PlanCheck.the-variants.{Valid, Grid, Length, Mark}
-use Rattle.rules.specs.Rules.{Rules, rulesOf}
 pub use Rattle.layout.specs.Layout.{cellWords}
+pub use Rattle.question.specs.Question.{Question, Check, passes, fails, questionOf, orElse}
+unfoldable pub use Rattle.question.specs.Question.{rulesAsked, cellsAsked, afterPlan, afterTables, questionChecks}
 use Rattle.rules.specs.Legal.{Route}
 use Rattle.rules.specs.Ranking.{registers, steps, latency, written}
 use Rattle.best.specs.Best.{Outcome, found, none, best}
-use Rattle.answers.specs.Tables.{tablesFault, elementsOf}
-use Rattle.answers.specs.Ends.{endsFault}
-use Rattle.answers.specs.declared.records.Tables.{Tables}
-use Rattle.answers.specs.declared.records.BufferList.{BufferList}
-use Rattle.answers.specs.declared.tables.ElementFault.{ElementFault}
-use Rattle.answers.specs.declared.tables.ElementFault.the-variants.{Nothing, At}
 use Rattle.answers.specs.declared.answer.Figures.{Figures}
 use Rattle.answers.specs.declared.answer.Refusal.{Refusal}
 use Rattle.answers.specs.declared.answer.Answer.{Answer}
 
--- what is asked: the plan's bytes and sides, the raw tables, the buffers, the ends
-pub record Question : Type 0 where
-  pub marks : List ℕ
-  pub width : ℕ
-  pub height : ℕ
-  pub tables : Tables
-  pub buffers : BufferList
-  pub source : ℕ
-  pub sink : ℕ
-
-abbrev pub questionOf : List ℕ → ℕ → ℕ → Tables → BufferList → ℕ → ℕ → Question
-questionOf marks w h t list a b =
-    record { marks = marks; width = w; height = h; tables = t; buffers = list; source = a; sink = b }
-
--- document 01's rules for this question
-unfoldable pub rulesAsked : Question → Rules
-rulesAsked q = rulesOf (planOf (q .width) (q .height) (q .marks)) (elementsOf (q .tables) (q .buffers)) (q .source) (q .sink)
-
-unfoldable pub cellsAsked : Question → ℕ
-cellsAsked q = q .width * q .height
-
--- Refusals 1 to 6, in this order, or none of them
-
-pub data Check : Type 0 where
-  passes : Check
-  fails : Refusal → Check
-
--- 1, 2, 3, then the rest
-unfoldable pub afterPlan : PlanCheck → Check → Check
-afterPlan Valid rest = rest
-afterPlan Grid rest = fails Refusal.Grid
-afterPlan Length rest = fails Refusal.Length
-afterPlan Mark rest = fails Refusal.Mark
-
--- 4 with the number at fault, then the rest
-unfoldable pub afterTables : ElementFault → Check → Check
-afterTables Nothing rest = rest
-afterTables (At f) rest = fails (Refusal.Element f)
-
+-- refusals 1 to 6, in this order, or none of them
 unfoldable pub checks : Question → ℕ → Check
-checks q scratch =
-    afterPlan (checkedPlan (planOf (q .width) (q .height) (q .marks)))
-    (afterTables (tablesFault (q .tables) (q .buffers))
-    (cond (endsFault (cellsAsked q) (q .source) (q .sink)) (fails Refusal.Ends)
-    (cond (ltb scratch (cellsAsked q * cellWords)) (fails Refusal.Scratch) passes)))
+checks q scratch = questionChecks q (orElse (ltb scratch (cellsAsked q * cellWords)) Refusal.Scratch passes)
 
 -- the best route's figures
 unfoldable pub figuresOf : ℕ → Route → Figures

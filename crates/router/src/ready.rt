@@ -14,10 +14,10 @@ use layout::ARRIVAL;
 use layout::CELL_WORDS;
 use layout::LABELS;
 use layout::TRAIL;
+use problem::Problem;
 use rows::clear;
 use search::Reached;
 use search::search;
-use table::Problem;
 
 // The route of these figures is written, if there is room.
 fn write_route(

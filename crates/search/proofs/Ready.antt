@@ -9,9 +9,9 @@ use Rattle.budget.specs.Done.{Lawful}
 use Rattle.budget.specs.Cone.{Lipschitz}
 use Rattle.budget.proofs.Document01.{rules-lawful}
 use Rattle.budget.proofs.Cone.{apart-lipschitz}
-use Rattle.table.specs.declared.problem.Problem.{Problem}
+use Rattle.problem.specs.declared.Problem.{Problem}
 use Rattle.table.specs.Problem.{planFor, rulesFor, Ready}
-use Rattle.table.proofs.Spreads.{cells-are}
+use Rattle.problem.proofs.Sizes.{cells-are}
 
 -- rows and columns from any cell are a distance
 pub rules-apart : (p : Problem) (marks : List ℕ) (start : ℕ) → Lipschitz (rulesFor p marks) (apartBy (p .width) start)

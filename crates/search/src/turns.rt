@@ -12,7 +12,7 @@ use labels::fresh_in;
 use labels::label_active;
 use labels::steps_of;
 use layout::ORDER;
-use table::Problem;
+use problem::Problem;
 use table::next_layer;
 use trail::no_trail;
 

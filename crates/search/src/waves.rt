@@ -9,7 +9,7 @@ use crate::turns::take_turn;
 use costs::COSTS;
 use labels::arrive;
 use labels::plant;
-use table::Problem;
+use problem::Problem;
 
 pub enum Reached {
     // The least registers and steps from the sink; the count of labels.

@@ -19,7 +19,7 @@ use Rattle.budget.proofs.Max.{max-longer}
 use Rattle.budget.proofs.Active.{max-same}
 use Rattle.costs.specs.Costs.{rowWords, bufferAt}
 use Rattle.rows.proofs.Leaves.{limited, driven}
-use Rattle.table.specs.declared.problem.Problem.{Problem}
+use Rattle.problem.specs.declared.Problem.{Problem}
 use Rattle.table.specs.Problem.{planFor, rulesFor, Ready, budgetOf, seedOf}
 use Rattle.table.specs.ArrivalRow.{takesBuffers, behind, raisedByBuffers}
 use Rattle.table.proofs.Views.{budget-at, buffer-named, limit-named}

@@ -15,7 +15,7 @@ use Rattle.lists.proofs.Lists.{bit-cases, listed-count}
 use Rattle.trail.specs.declared.Trail.{Trail}
 use Rattle.trail.specs.Trail.{Sound}
 use Rattle.trail.proofs.History.{sound-kept}
-use Rattle.table.specs.declared.problem.Problem.{Problem}
+use Rattle.problem.specs.declared.Problem.{Problem}
 use Rattle.table.specs.Problem.{rulesFor, Ready}
 use Rattle.table.specs.Colours.{Unlinked}
 use Rattle.table.specs.Layer.{FlagsCleared, SpreadAllAsks}

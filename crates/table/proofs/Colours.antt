@@ -14,7 +14,7 @@ use Rattle.layout.specs.Layout.{activeAt}
 use Rattle.lists.specs.Lists.{flagOf, Listed}
 use Rattle.lists.proofs.Lists.{empty-flags}
 use Rattle.trail.specs.declared.Trail.{Trail}
-use Rattle.table.specs.declared.problem.Problem.{Problem}
+use Rattle.problem.specs.declared.Problem.{Problem}
 use Rattle.table.specs.declared.pushes.Grown.{Grown}
 use Rattle.table.specs.Problem.{planFor, rulesFor, budgetOf}
 use Rattle.table.specs.Layer.{arrivals, SpreadAll, Layered}

@@ -9,7 +9,6 @@ use lib.Dec.{leb, leb→le}
 use lib.ListN.{length, getD}
 use Rattle.plan.specs.Plan.{Plan, cells}
 use Rattle.plan.specs.Joined.{neighboursOf}
-use Rattle.plan.proofs.Check.{cells-most}
 use Rattle.timing.specs.declared.elements.Wire.{Wire}
 use Rattle.timing.specs.Elements.{WireInRange}
 use Rattle.timing.specs.Formulas.{wireDelay, wireLoad}
@@ -26,29 +25,17 @@ use Rattle.lists.specs.Lists.{Listed}
 use Rattle.lists.proofs.Lists.{listed-none, listed-kept}
 use Rattle.trail.specs.declared.Trail.{Trail}
 use Rattle.trail.specs.Trail.{Sound}
-use Rattle.table.specs.declared.problem.Problem.{Problem}
+use Rattle.problem.specs.declared.Problem.{Problem}
 use Rattle.table.specs.declared.pushes.Grown.{Grown}
 use Rattle.costs.specs.Costs.{rowWords, costWords, stepCost, horizontalAt, verticalAt, RowAt}
 use Rattle.rows.specs.Rows.{StepRow}
 use Rattle.rows.proofs.Leaves.{step-leaves}
+use Rattle.problem.proofs.Sizes.{cells-are, few-cells}
 use Rattle.table.specs.Problem.{planFor, rulesFor, Ready, budgetOf, seedOf}
 use Rattle.table.specs.Layer.{arrivalOf, viaStep, arrivals, Raised, Follows, Offered, OfferAsks, Spread, SpreadAsks, SpreadAll, SpreadAllAsks}
 use Rattle.table.proofs.Views.{budget-kept, seeds-kept, arrival-at, arrival-outside, limit-named}
 use Rattle.table.proofs.Follows.{follows-same, follows-kept, follows-more}
 use Rattle.table.proofs.WholeLayer.{raised-more}
-
--- a ready problem's sizes
-module _ (p : Problem) (marks : List ℕ) (ready : Ready p marks) where
-  pub cells-are : length marks ≡ cells (planFor p marks)
-  unfolding planFor
-  cells-are = ready .sized .full
-
-  pub cells-product : length marks ≡ p .width * p .height
-  unfolding planFor cells
-  cells-product = ready .sized .full
-
-  pub few-cells : length marks ≤ 1024
-  few-cells = omega (arith, cells-are, cells-most (planFor p marks) (ready .sized))
 
 -- an offer only adds
 pub offered-least : {n to : ℕ} {costs : List ℕ} {base step : ℕ} {t : Trail} {old new : List ℕ} {next : Grown} → Offered n to costs base step t old new next → (c l : ℕ) → budgetOf n old c l ≤ budgetOf n new c l

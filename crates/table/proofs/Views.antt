@@ -14,7 +14,7 @@ use Rattle.rows.specs.Words.{Kept}
 use Rattle.rows.specs.Rows.{wordOf}
 use Rattle.costs.specs.Costs.{rowWords, bufferAt}
 use Rattle.rules.specs.Rules.{rulesOf}
-use Rattle.table.specs.declared.problem.Problem.{Problem}
+use Rattle.problem.specs.declared.Problem.{Problem}
 use Rattle.table.specs.Problem.{rulesFor, budgetOf, seedOf}
 use Rattle.table.specs.Layer.{arrivalOf}
 

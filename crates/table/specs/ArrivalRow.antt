@@ -11,7 +11,7 @@ use Rattle.timing.specs.Valid.{Valid}
 use Rattle.budget.specs.Table.{only, maxBelow}
 use Rattle.costs.specs.Costs.{rowWords, bufferAt, BufferRows, CostsOf}
 use Rattle.rows.specs.Rows.{viewOf}
-use Rattle.table.specs.declared.problem.Problem.{Problem}
+use Rattle.problem.specs.declared.Problem.{Problem}
 use Rattle.table.specs.Problem.{Ready, Room}
 
 -- a cell of a plan that has passed the checks, the costs, and room for the scratch words

@@ -18,7 +18,7 @@ use Rattle.trail.specs.declared.Trail.{Trail}
 use Rattle.trail.specs.Trail.{Sound, History, Noted}
 use Rattle.table.specs.Problem.{Ready, Room, rulesFor, budgetOf, seedOf}
 use Rattle.table.specs.Colours.{ActiveNeighbour}
-use Rattle.table.specs.declared.problem.Problem.{Problem}
+use Rattle.problem.specs.declared.Problem.{Problem}
 use Rattle.table.specs.declared.pushes.Grown.{Grown}
 
 -- the arrival row in the words; 0 past the loads

@@ -9,13 +9,13 @@ ghost use Rattle.trail.specs.Trail.{Sound};
 ghost use Rattle.table.specs.Problem.{Ready, Room, rulesFor};
 ghost use Rattle.table.specs.Colours.{Unlinked};
 ghost use Rattle.table.specs.Layer.{FlagsCleared, Layered};
-use crate::problem::Problem;
 use crate::pushes::Grown;
 use crate::pushes::spread_all;
 use costs::COSTS;
 use layout::ACTIVE;
 use layout::LISTED;
 use lists::take_list;
+use problem::Problem;
 use trail::Trail;
 
 // The flags of the active cells are cleared.

@@ -4,7 +4,7 @@ use native.Mathlib.Omega.{arith}
 use borrow.Author.Needs.{needs}
 use Rattle.plan.specs.Joined.{neighboursOf}
 use Rattle.table.specs.Problem.{planFor}
-use Rattle.table.proofs.Spreads.{cells-product}
+use Rattle.problem.proofs.Sizes.{cells-product}
 use Rattle.choice.proofs.Sides.{Only, Empty, empty, up-asks, left-asks, right-asks, down-asks, up-first, left-first, right-first, down-last}
 use Rattle.choice.proofs.choose.Statement.{statement}
 use Rattle.choice.proofs.choose.Tie as tie

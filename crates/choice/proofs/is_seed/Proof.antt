@@ -2,7 +2,7 @@
 use mathlib.Core.Path.{sym}
 use native.Mathlib.Omega.{arith}
 use borrow.Author.Needs.{needs}
-use Rattle.table.proofs.Spreads.{few-cells}
+use Rattle.problem.proofs.Sizes.{few-cells}
 use Rattle.choice.proofs.Codes.{seed-last, seed-elsewhere, seed-label}
 use Rattle.choice.proofs.is_seed.Statement.{statement}
 use Rattle.choice.proofs.is_seed.Tie as tie

@@ -10,7 +10,7 @@ use Rattle.rules.specs.Rules.{Rules, registerCode, rulesOf}
 use Rattle.timing.specs.Formulas.{registerLoad, setupDelay}
 use Rattle.budget.proofs.Colours.{label-in-step}
 use Rattle.table.specs.Problem.{rulesFor, budgetOf}
-use Rattle.table.proofs.Spreads.{few-cells}
+use Rattle.problem.proofs.Sizes.{few-cells}
 use Rattle.labels.specs.Labels.{labelsOf}
 use Rattle.search.proofs.Ready.{ready-lawful, ready-cells}
 use Rattle.choice.specs.Choice.{FirstVisit}

@@ -17,7 +17,7 @@ use Rattle.answers.specs.Numbers.{filledWords}
 use Rattle.answers.specs.declared.answer.Answer.{Answer}
 use Rattle.answers.specs.declared.answer.Refusal.{Refusal}
 use Rattle.emission.proofs.Visits.{written-length}
-use Rattle.router.specs.Route.{Question, rulesAsked, cellsAsked, cellWords, Check, passes, fails, afterPlan, checks, figuresOf, answerAfter, answerOf, visitsAfter, visitsOf, zeroed, scratchAfter, scratchOf}
+use Rattle.router.specs.Route.{Question, rulesAsked, cellsAsked, cellWords, Check, passes, fails, afterPlan, questionChecks, checks, figuresOf, answerAfter, answerOf, visitsAfter, visitsOf, zeroed, scratchAfter, scratchOf}
 use Rattle.router.proofs.Passed.{asked-best, asked-none}
 use Rattle.router.proofs.Demand2.{Demand2, demand-2}
 use Rattle.session_model.specs.Asks.Route.{RouteAsk, RouteReply, AlikeRoutes, asked, zeroedWords, routeGives, zeros, bestReply, checkedReply, routeReply, RouteAnswered, isRefused, noRoute, noRoom, isFound}
@@ -74,7 +74,7 @@ module _ (q : Question) (scratch visits : List ℕ) where
 
 -- sides that are no sides of the plan's bytes: refused with 2
 pub other-sides : (a : RouteAsk) (marks : List ℕ) (scratch : ℕ) → gridFault (a .width) (a .height) ≡ false → (length marks ≡ a .width * a .height → ⊥) → checks (asked a marks) scratch ≡ fails Refusal.Length
-unfolding checks afterPlan checkedPlan lengthFault cells asked
+unfolding checks questionChecks afterPlan checkedPlan lengthFault cells asked
 other-sides a marks scratch grid other = rw (grid, ne-eqb (length marks) (a .width * a .height) other)
 
 -- contents of what is lent do not matter

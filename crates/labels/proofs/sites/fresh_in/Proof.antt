@@ -12,7 +12,7 @@ use Rattle.timing.specs.Formulas.{registerLoad, setupDelay}
 use Rattle.timing.specs.Valid.{Valid}
 use Rattle.rules.specs.Rules.{rulesOf}
 use Rattle.costs.specs.Costs.{rowWords}
-use Rattle.table.specs.declared.problem.Problem.{Problem}
+use Rattle.problem.specs.declared.Problem.{Problem}
 use Rattle.table.specs.Problem.{rulesFor, budgetOf}
 use Rattle.table.proofs.Views.{budget-at}
 use Rattle.labels.specs.Additions.{FreshIn}

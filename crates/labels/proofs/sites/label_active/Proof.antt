@@ -7,9 +7,9 @@ use lib.ListN.{length, getD}
 use Rattle.layout.specs.Layout.{activeAt}
 use Rattle.lists.specs.Lists.{flagOf, ListedAt, Listed}
 use Rattle.lists.proofs.Lists.{listed-count}
-use Rattle.table.specs.declared.problem.Problem.{Problem}
+use Rattle.problem.specs.declared.Problem.{Problem}
 use Rattle.table.specs.Problem.{rulesFor}
-use Rattle.table.proofs.Spreads.{few-cells}
+use Rattle.problem.proofs.Sizes.{few-cells}
 use Rattle.labels.specs.Additions.{LabelAsks, LabelsAddedAmong, LabelsAdded}
 use Rattle.labels.proofs.Additions.{labels-none, labels-more, labels-among, labels-last}
 use Rattle.labels.proofs.sites.label_active.Statement.{statement}

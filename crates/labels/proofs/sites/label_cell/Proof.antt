@@ -12,9 +12,9 @@ use Rattle.rules.specs.Rules.{Rules, registerCode}
 use Rattle.rules.specs.Legal.{mayStand}
 use Rattle.plan.proofs.Truth.{of-true}
 use Rattle.layout.specs.Layout.{labelsAt}
-use Rattle.table.specs.declared.problem.Problem.{Problem}
+use Rattle.problem.specs.declared.Problem.{Problem}
 use Rattle.table.specs.Problem.{rulesFor, budgetOf}
-use Rattle.table.proofs.Spreads.{few-cells}
+use Rattle.problem.proofs.Sizes.{few-cells}
 use Rattle.labels.specs.Labels.{knownOf, Labelable, LabelAdded}
 use Rattle.labels.specs.Additions.{FreshIn, LabelAsks, LabelsAddedAmong}
 use Rattle.labels.proofs.Labels.{word-known, word-unknown, unknown-not, ordered-count}

@@ -12,7 +12,7 @@ use Rattle.layout.specs.Layout.{activeAt, listedAt, seedsAt}
 use Rattle.rows.specs.Words.{Filled}
 use Rattle.lists.specs.Lists.{flagOf, ListedAt, Listed, Taken}
 use Rattle.lists.proofs.Lists.{bit-cases, listed-count}
-use Rattle.table.specs.declared.problem.Problem.{Problem}
+use Rattle.problem.specs.declared.Problem.{Problem}
 use Rattle.reach.specs.Cone.{ListAsks, ListedInside, DropAsks, Dropped}
 use Rattle.reach.proofs.cone.drop_outside.Statement.{statement}
 use Rattle.reach.proofs.cone.drop_outside.Tie as tie

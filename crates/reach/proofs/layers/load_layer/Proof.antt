@@ -1,7 +1,7 @@
 -- `reach::layers::load_layer`: back on the trail, or the span again.
 use mathlib.Core.Path.{sym, _∙_}
 use Rattle.plan.proofs.Truth.{of-true}
-use Rattle.table.proofs.Spreads.{few-cells}
+use Rattle.problem.proofs.Sizes.{few-cells}
 use Rattle.reach.proofs.Trailing.{held-parts, back-loaded}
 use Rattle.reach.proofs.layers.load_layer.Statement.{statement}
 use Rattle.reach.proofs.layers.load_layer.Tie as tie

@@ -12,9 +12,9 @@ use Rattle.plan.specs.Apart.{apartBy}
 use Rattle.budget.specs.Cone.{Shrinking, inCone}
 use Rattle.budget.proofs.Cone.{cone-shrinks}
 use Rattle.trail.specs.declared.Trail.{Trail}
-use Rattle.table.specs.declared.problem.Problem.{Problem}
+use Rattle.problem.specs.declared.Problem.{Problem}
 use Rattle.table.specs.Problem.{planFor, rulesFor}
-use Rattle.table.proofs.Spreads.{few-cells}
+use Rattle.problem.proofs.Sizes.{few-cells}
 use Rattle.table.proofs.Colours.{problem-colouring, coloured-unlinked}
 use Rattle.labels.proofs.Labels.{ordered-count}
 use Rattle.reach.specs.Reach.{Running, Started, Current, Trailing}

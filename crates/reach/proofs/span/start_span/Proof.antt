@@ -4,7 +4,7 @@ use native.Mathlib.Omega.{arith}
 use borrow.Author.Needs.{needs}
 use Rattle.rules.specs.Rules.{rulesOf}
 use Rattle.table.specs.Problem.{rulesFor}
-use Rattle.table.proofs.Spreads.{few-cells}
+use Rattle.problem.proofs.Sizes.{few-cells}
 use Rattle.labels.proofs.Labels.{ordered-count, ordered-kept}
 use Rattle.reach.proofs.Start.{listed, source-start, from-end, labels-started}
 use Rattle.reach.proofs.span.start_span.Statement.{statement}

@@ -1,55 +1,99 @@
--- `router::checks::route_read` meets its contract: refusals 1, 2 and 3, or what follows them.
-use mathlib.Core.Path.{sym, _∙_}
+-- `router::checks::route_read` meets its contract: refusals 1 to 5, then 6, or the route.
+use mathlib.Core.Path.{_≡_, sym, ap, _∙_}
+use native.Mathlib.Omega.{arith}
 use borrow.Author.Needs.{needs}
-use Rattle.router.specs.Route.{questionOf}
-use Rattle.router.proofs.Refusals.{refused, refused-grid, refused-length, refused-mark}
+use Rattle.answers.specs.declared.answer.Refusal.{Refusal}
+use Rattle.problem.proofs.Sizes.{few-cells}
+use Rattle.question.specs.declared.Checked.{Checked}
+use Rattle.question.specs.declared.QuestionCheck.{QuestionCheck}
+use Rattle.question.specs.Checked.{problemAsked}
+use Rattle.question.proofs.Checks.{outcome-fails, outcome-passes, passed-ready}
+use Rattle.router.specs.Route.{Question, questionOf, passes, fails, questionChecks}
+use Rattle.router.proofs.Refusals.{refused, refused-five, refused-scratch, routed}
 use Rattle.router.proofs.checks.route_read.Statement.{statement}
 use Rattle.router.proofs.checks.route_read.Tie as tie
 
-check-plan-requires : tie.Need-check-plan-requires
-check-plan-requires c κs = search needs
+-- the entry, seen from the checks
+abbrev start : tie.After-check-question → tie.Start
+start c = c .before .before .before .before
+
+abbrev asked : tie.Start → Question
+asked s = questionOf (s .args .plan .now) (s .args .width) (s .args .height) (s .args .tables) (s .args .read .list) (s .args .source) (s .args .sink)
+
+five-failed : (c : tie.After-check-question) (r : Refusal) → c .check-question .result .outcome ≡ Checked.Fails r → questionChecks (asked (start c)) passes ≡ fails r
+five-failed c r e =
+    outcome-fails (asked (start c)) r (sym (ap (λ (x : QuestionCheck). x .outcome) (c .check-question .ensures)) ∙ e)
+
+five-passed : (c : tie.After-check-question) → c .check-question .result .outcome ≡ Checked.Passes → (questionChecks (asked (start c)) passes ≡ passes) × (c .check-question .result .problem ≡ problemAsked (asked (start c)))
+five-passed c e =
+    let p = outcome-passes (asked (start c)) (sym (ap (λ (x : QuestionCheck). x .outcome) (c .check-question .ensures)) ∙ e) in
+    (p .0, ap (λ (x : QuestionCheck). x .problem) (c .check-question .ensures) ∙ p .1)
+
+check-question-requires : tie.Need-check-question-requires
+check-question-requires c κs = c .before .before .before .pre
+
+enum-known-outcome : tie.Need-enum-known-outcome
+enum-known-outcome c = search needs
+
+returns : tie.Need-returns
+returns c =
+    let k = c .before .before .before in
+    let q = asked (start k) in
+    refused q _ _ _ (refused-five q (start k .args .scratch .now) (start k .args .visits .now) _ (five-failed k _ (c .before .outcome .given .1)))
 
 enum-told : tie.Need-enum-told
 enum-told c = search needs
 
-returns : tie.Need-returns
-returns c =
-    let a = c .before .before .before .before .before .before .args in
-    let q = questionOf (a .plan .now) (a .width) (a .height) (a .tables) (a .read .list) (a .source) (a .sink) in
-    refused q (a .scratch .now) (a .visits .now) _ (refused-grid q (a .scratch .now) (a .visits .now) (sym (c .before .before .check-plan .ensures) ∙ c .enum-told .given .1))
-
-enum-told-2 : tie.Need-enum-told-2
-enum-told-2 c = search needs
+mul-if1 : tie.Need-mul-if1
+mul-if1 c =
+    let k = c .before .before in
+    omega (arith, few-cells _ _ (passed-ready (asked (start k)) passes (five-passed k (c .enum-told .given .1) .0)))
 
 returns-2 : tie.Need-returns-2
 returns-2 c =
-    let a = c .before .before .before .before .before .before .args in
-    let q = questionOf (a .plan .now) (a .width) (a .height) (a .tables) (a .read .list) (a .source) (a .sink) in
-    refused q (a .scratch .now) (a .visits .now) _ (refused-length q (a .scratch .now) (a .visits .now) (sym (c .before .before .check-plan .ensures) ∙ c .enum-told2 .given .1))
+    let k = c .before .before .before in
+    let q = asked (start k) in
+    refused q _ _ _ (refused-scratch q (start k .args .scratch .now) (start k .args .visits .now) (five-passed k (c .before .enum-told .given .1) .0) (c .if1 .taken))
 
-enum-told-3 : tie.Need-enum-told-3
-enum-told-3 c = search needs
+costs-of-requires : tie.Need-costs-of-requires
+costs-of-requires c κs =
+    let k = c .before .before .before .before .before in
+    let f = five-passed k (c .before .before .before .enum-told .given .1) in
+    rw (f .1) (passed-ready (asked (start k)) passes (f .0) .valid)
+
+route-ready-requires : tie.Need-route-ready-requires
+route-ready-requires c κs =
+    let k = c .before .before .before .before .before .before .before .before .before in
+    let f = five-passed k (c .before .before .before .before .before .before .before .enum-told .given .1) in
+    (rw (f .1) (passed-ready (asked (start k)) passes (f .0)), (c .before .before .before .before .before .before .if1 .left, c .before .before .before .costs-of .ensures))
+
+same-length : tie.Need-same-length
+same-length c = c .before .before .before .before .route-ready .kept .1 .0
+
+same-length-2 : tie.Need-same-length-2
+same-length-2 c = c .before .before .before .before .route-ready .kept .1 .1 .1 .1 .0
 
 returns-3 : tie.Need-returns-3
 returns-3 c =
-    let a = c .before .before .before .before .before .before .args in
-    let q = questionOf (a .plan .now) (a .width) (a .height) (a .tables) (a .read .list) (a .source) (a .sink) in
-    refused q (a .scratch .now) (a .visits .now) _ (refused-mark q (a .scratch .now) (a .visits .now) (sym (c .before .before .check-plan .ensures) ∙ c .enum-told3 .given .1))
-
-enum-told-4 : tie.Need-enum-told-4
-enum-told-4 c = search needs
-
-after-plan-requires : tie.Need-after-plan-requires
-after-plan-requires c κs = (sym (c .before .before .before .before .check-plan .ensures) ∙ c .before .before .enum-told4 .given .1, c .before .before .before .before .before .before .before .before .pre)
-
-same-length : tie.Need-same-length
-same-length c = c .before .before .before .before .after-plan .kept .1 .1 .1 .1 .1 .1 .1 .0
-
-same-length-2 : tie.Need-same-length-2
-same-length-2 c = c .before .before .before .before .after-plan .kept .1 .1 .1 .1 .1 .1 .1 .1 .0
-
-returns-4 : tie.Need-returns-4
-returns-4 c = c .before .before .before .before .after-plan .ensures
+    let n = c .before .before .before .before in
+    let e = n .before .before .before .before .before .before .before in
+    let k = e .before .before .before in
+    let f = five-passed k (e .before .enum-told .given .1) in
+    let q = asked (start k) in
+    routed q _ _ (f .0) (e .if1 .left) _ _ _ (rw (f .1) at (n .route-ready .ensures))
 
 pub route-read-spec : {M : Type 1} → statement M
-route-read-spec = tie.close (tie.spec check-plan-requires enum-told returns enum-told-2 returns-2 enum-told-3 returns-3 enum-told-4 after-plan-requires same-length same-length-2 returns-4)
+route-read-spec =
+    tie.close
+    (tie.spec
+    check-question-requires
+    enum-known-outcome
+    returns
+    enum-told
+    mul-if1
+    returns-2
+    costs-of-requires
+    route-ready-requires
+    same-length
+    same-length-2
+    returns-3)

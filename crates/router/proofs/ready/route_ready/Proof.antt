@@ -6,7 +6,7 @@ use borrow.Author.Needs.{needs}
 use lib.ListN.{length}
 use Rattle.layout.specs.Layout.{cellWords}
 use Rattle.rows.proofs.Words.{filled-at}
-use Rattle.table.proofs.Spreads.{few-cells}
+use Rattle.problem.proofs.Sizes.{few-cells}
 use Rattle.router.proofs.Splice.{zeroed-is, zeroed-kept}
 use Rattle.router.proofs.BestRoute.{best-is-none}
 use Rattle.router.proofs.Outcomes.{done-none}

@@ -3,7 +3,7 @@ use mathlib.Core.Path.{refl, _∙_}
 use native.Mathlib.Omega.{arith}
 use borrow.Author.Needs.{needs}
 use Rattle.table.specs.Problem.{rulesFor}
-use Rattle.table.proofs.Spreads.{few-cells}
+use Rattle.problem.proofs.Sizes.{few-cells}
 use Rattle.router.proofs.Splice.{zeroed-is}
 use Rattle.router.proofs.BestRoute.{BestIs, best-is}
 use Rattle.router.proofs.Outcomes.{done-no-room, done-found}

@@ -10,7 +10,7 @@ use Rattle.trail.proofs.History.{sound-none}
 use Rattle.table.specs.Problem.{rulesFor, budgetOf}
 use Rattle.table.specs.Layer.{Layered}
 use Rattle.table.proofs.Colours.{problem-colouring, coloured-unlinked}
-use Rattle.table.proofs.Spreads.{few-cells}
+use Rattle.problem.proofs.Sizes.{few-cells}
 use Rattle.labels.proofs.Labels.{ordered-count, ordered-kept}
 use Rattle.search.proofs.Total.{total-fits}
 use Rattle.search.proofs.Ready.{ready-lawful, ready-cells}

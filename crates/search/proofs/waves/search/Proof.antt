@@ -7,7 +7,7 @@ use lib.ListN.{length}
 use Rattle.rules.specs.Rules.{rulesOf}
 use Rattle.layout.specs.Layout.{trailAt}
 use Rattle.table.specs.Problem.{rulesFor}
-use Rattle.table.proofs.Spreads.{few-cells}
+use Rattle.problem.proofs.Sizes.{few-cells}
 use Rattle.rows.specs.Words.{KeptFrom}
 use Rattle.labels.proofs.Labels.{ordered-count}
 use Rattle.lists.proofs.Lists.{listed-none}

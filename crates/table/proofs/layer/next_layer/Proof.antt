@@ -3,7 +3,7 @@ use mathlib.Core.Path.{sym, _∙_}
 use native.Mathlib.Omega.{arith}
 use Rattle.rules.specs.Rules.{rulesOf}
 use Rattle.table.specs.Problem.{rulesFor}
-use Rattle.table.proofs.Spreads.{few-cells, cells-are}
+use Rattle.problem.proofs.Sizes.{few-cells, cells-are}
 use Rattle.table.proofs.Clears.{cleared-asks}
 use Rattle.table.proofs.WholeLayer.{layered}
 use Rattle.table.proofs.layer.next_layer.Statement.{statement}

@@ -5,7 +5,8 @@ use borrow.Author.Needs.{needs}
 use Rattle.plan.proofs.Sides.{ascending}
 use Rattle.costs.specs.Costs.{horizontalAt, verticalAt}
 use Rattle.table.specs.Problem.{planFor}
-use Rattle.table.proofs.Spreads.{cells-are, cells-product, step-row, offer-asks, filled-listed, filled-follows, spread-whole}
+use Rattle.problem.proofs.Sizes.{cells-are, cells-product}
+use Rattle.table.proofs.Spreads.{step-row, offer-asks, filled-listed, filled-follows, spread-whole}
 use Rattle.table.proofs.pushes.spread.Statement.{statement}
 use Rattle.table.proofs.pushes.spread.Tie as tie
 

@@ -6,7 +6,8 @@ use lib.ListN.{length}
 use Rattle.layout.specs.Layout.{activeAt}
 use Rattle.table.specs.Problem.{rulesFor}
 use Rattle.table.specs.Layer.{SpreadAll}
-use Rattle.table.proofs.Spreads.{few-cells, spread-none, spread-next-asks, spread-more}
+use Rattle.problem.proofs.Sizes.{few-cells}
+use Rattle.table.proofs.Spreads.{spread-none, spread-next-asks, spread-more}
 use Rattle.table.proofs.pushes.spread_all.Statement.{statement}
 use Rattle.table.proofs.pushes.spread_all.Tie as tie
 

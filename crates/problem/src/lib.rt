@@ -1,4 +1,4 @@
-// A routing problem: the plan's sides, the ends and the checked tables. The marks are lent beside it, and what the tables cost at each load.
+// A routing problem: the plan's sides, the ends and the checked tables. The marks are lent beside it.
 use timing::Elements;
 
 pub struct Problem {
