@@ -1,1 +1,4 @@
 pub mod Routes
+pub mod Accepted
+pub mod Checks
+pub mod Faults
