@@ -1,0 +1,25 @@
+-- The better of two route lists: document 02, C-11. "by the ranking of demand 2; where only one is legal, that one; where they are equal, the first"
+-- Of the refusals it has 18, "neither of two lists is legal"; those before it are the question's and the lists' own.
+use Prim.Native.Nat.{ℕ}
+use mathlib.Core.Bool.{_&&_, cond}
+use mathlib.Core.List.{List, []}
+use mathlib.Core.Path.{_≡_}
+use denote.Ref.{RefT, now}
+use Rattle.answers.specs.declared.answer.Refusal.{Refusal}
+use Rattle.answers.specs.declared.verdict.Comparison.{Comparison}
+use Rattle.answers.specs.declared.verdict.Comparison.the-variants.{First, Second, Refused}
+use Rattle.rules.specs.Rules.{Rules}
+use Rattle.rules.specs.Legal.{Route, legal}
+use Rattle.rules.specs.Ranking.{ranksBefore}
+
+unfoldable pub comparisonFor : Rules → Route → Route → Comparison
+comparisonFor R a b =
+    cond (legal R a)
+    (cond (legal R b && ranksBefore b a) Second First)
+    (cond (legal R b) Second (Refused Refusal.NoneLegal))
+
+-- What is handed back of two lists: "the caller's own words", or an empty part
+abbrev pub Handed : Comparison → RefT (List ℕ) → RefT (List ℕ) → RefT (List ℕ) → Type 0
+Handed First a b r = r ≡ a
+Handed Second a b r = r ≡ b
+Handed (Refused k) a b r = now r ≡ []
