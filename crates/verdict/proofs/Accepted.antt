@@ -1,11 +1,12 @@
 -- The verdict accepts exactly the legal routes. Visit by visit, the chain of tests is right where the test of document 01 passes, and it stops where that one fails.
-use Prim.Native.Nat.{ℕ, suc}
+use Prim.Native.Nat.{ℕ, suc, _≤_}
 use mathlib.Core.Bool.{Bool, true, false, _&&_}
 use mathlib.Core.List.{[], _∷_}
 use mathlib.Core.Path.{_≡_, refl}
 use mathlib.Core.Logic.{_↔_}
 use native.Mathlib.Omega.{arith}
 use lib.Dec.{T, eqb, leb, ltb}
+use lib.ListN.{length}
 use Rattle.plan.proofs.Truth.{of-true}
 use Rattle.answers.specs.declared.verdict.VisitFault.{VisitFault}
 use Rattle.answers.specs.declared.verdict.VisitFault.the-variants.{Cell, Wire, Site, Load, Period}
@@ -14,6 +15,8 @@ use Rattle.answers.specs.declared.verdict.Verdict.the-variants.{Accepted, AtFau
 use Rattle.rules.specs.Rules.{Rules, registerCode}
 use Rattle.rules.specs.Legal.{Visit, Route, arrive, isLast, cellRight, wireRight, codeRight, loadRight, periodRight, visitRight, legalFrom, firstRight, legal}
 use Rattle.rules.specs.Beginning.{Place, nextPlace, startPlace}
+use Rattle.rules.proofs.View.{LegalRoute, starts, route-view}
+use Rattle.rules.proofs.Figures.{ending-visits}
 use Rattle.verdict.specs.Verdict.{VisitCheck, right, wrong, orWrong, visitCheck, firstCheck, judgeFrom, judgeRoute}
 
 -- what a verdict says of a route that is legal or not
@@ -60,19 +63,31 @@ module _ (R : Rules) where
       (λ x ok. Says (elim x [ wrong f ↦ AtFault 0 f | right ↦ judgeFrom R 1 (startPlace R v) (w ∷ vs) ]) (ok && legalFrom R (v .cell) 0 (R .start) (w ∷ vs)))
       (judge-from 1 (startPlace R v) w vs) (λ x. refl)
 
--- The verdict accepts exactly the legal routes.
-pub accepted-legal : (R : Rules) (v w : Visit) (vs : Route) → (judgeRoute R (v ∷ w ∷ vs) ≡ Accepted) ↔ T (legal R (v ∷ w ∷ vs))
-accepted-legal R v w vs = (λ e. there (judgeRoute R r) e (judge-says R v w vs), λ h. back (judgeRoute R r) (judge-says R v w vs) h)
-  where
-    r : Route
-    r = v ∷ w ∷ vs
+  said : (r : Route) → 2 ≤ length r → Says (judgeRoute R r) (legal R r)
+  said [] h = absurd (omega arith)
+  said (v ∷ []) h = absurd (omega arith)
+  said (v ∷ (w ∷ vs)) h = judge-says v w vs
 
+-- The verdict accepts exactly the legal routes. (A list of fewer visits is refused.)
+pub accepted-legal : (R : Rules) (r : Route) → 2 ≤ length r → (judgeRoute R r ≡ Accepted) ↔ T (legal R r)
+accepted-legal R r h = (λ e. there (judgeRoute R r) e (said R r h), λ k. back (judgeRoute R r) (said R r h) k)
+  where
     there : (j : Verdict) → j ≡ Accepted → Says j (legal R r) → T (legal R r)
     there Accepted e q = of-true (legal R r) q
     there (AtFault i f) e q = absurd (let z : _≡_ {A = ℕ} 0 1 = cc in omega arith)
     there (Refused k) e q = absurd q
 
     back : (j : Verdict) → Says j (legal R r) → T (legal R r) → j ≡ Accepted
-    back Accepted q h = refl
-    back (AtFault i f) q h = absurd (rw q at h)
-    back (Refused k) q h = absurd q
+    back Accepted q k = refl
+    back (AtFault i f) q k = absurd (rw q at k)
+    back (Refused n) q k = absurd q
+
+-- a legal route has both ends
+pub legal-visits : (R : Rules) (r : Route) → T (legal R r) → 2 ≤ length r
+legal-visits R r h = go (route-view R r h)
+  where
+    go : {q : Route} → LegalRoute R q → 2 ≤ length q
+    go (starts first e) = omega (arith, ending-visits e)
+
+pub legal-accepted : (R : Rules) (r : Route) → T (legal R r) → judgeRoute R r ≡ Accepted
+legal-accepted R r h = accepted-legal R r (legal-visits R r h) .1 h

@@ -1,7 +1,7 @@
 -- A verdict with a fault tells the first visit at fault and the first fault there, and it tells one wherever there is one.
 -- The visits are tried one by one: each that is right moves the tests on by one visit, and the first that is wrong ends them. Two first faults are the same, since each would have passed before the other.
 use Prim.Native.Nat.{ℕ, zero, suc, _+_, _<_}
-use mathlib.Core.Bool.{Bool, true, false}
+use mathlib.Core.Bool.{Bool, false}
 use mathlib.Core.List.{[], _∷_}
 use mathlib.Core.Path.{_≡_, refl, sym, ap, _∙_}
 use mathlib.Core.Logic.{_↔_, _⊎_, inl, inr}
@@ -15,7 +15,7 @@ use Rattle.answers.specs.declared.verdict.VisitFault.the-variants.{Cell, Wire, 
 use Rattle.answers.specs.declared.verdict.Verdict.{Verdict}
 use Rattle.answers.specs.declared.verdict.Verdict.the-variants.{Accepted, AtFault, Refused}
 use Rattle.rules.specs.Rules.{Rules}
-use Rattle.rules.specs.Legal.{Visit, Route, isLast}
+use Rattle.rules.specs.Legal.{Route, isLast}
 use Rattle.rules.specs.Beginning.{Place, nextPlace, placeFrom, startPlace, placeAfter}
 use Rattle.verdict.specs.Verdict.{VisitCheck, right, wrong, visitCheck, firstCheck, judgeFrom, judgeRoute}
 use Rattle.verdict.specs.Fault.{testOrder, sinkTest, laterTest, nextTest, faultTest, FirstFault}

@@ -1,15 +1,15 @@
 -- The route in a list of words: the visits and the words are each read off the other, part by part.
 use Prim.Native.Nat.{ℕ, zero, suc, _+_, _*_, _%_, _≤_, _<_}
-use mathlib.Core.Bool.{Bool, true, false}
+use mathlib.Core.Bool.{false}
 use mathlib.Core.List.{List, [], _∷_}
 use mathlib.Core.Path.{_≡_, refl, sym, ap, _∙_}
 use native.Mathlib.Omega.{arith}
 use borrow.Author.Tests.{ne-eqb}
 use lib.Dec.{eqb, ltb, nltb→le, eqb·suc-suc}
 use lib.ListN.{length, drop, getD}
-use lib.Seq.{drop-cons, drop-nil}
+use lib.Seq.{drop-nil}
 use Rattle.plan.proofs.Truth.{neqb→ne, of-false, or-false}
-use Rattle.rules.specs.Legal.{Visit, Route, isLast}
+use Rattle.rules.specs.Legal.{Route, isLast}
 use Rattle.rules.specs.Ranking.{written}
 use Rattle.verdict.specs.Verdict.{routeIn, badList}
 
@@ -53,6 +53,9 @@ good-even ws e = omega (arith, neqb→ne (length ws % 2) 1 (of-false (eqb (lengt
 pub good-length : (ws : List ℕ) → badList ws ≡ false → 4 ≤ length ws
 unfolding badList
 good-length ws e = nltb→le (length ws) 4 (of-false (ltb (length ws) 4) (or-false (eqb (length ws % 2) 1) (ltb (length ws) 4) e .1))
+
+pub good-visits : (ws : List ℕ) → badList ws ≡ false → 2 ≤ length (routeIn ws)
+good-visits ws e = omega (arith, visits-even ws (good-even ws e), good-length ws e)
 
 -- The rest of a list after some visits
 
