@@ -1,10 +1,12 @@
--- The number and the figures that document 01 gives for each case of a route's answer, and the words it fills.
+-- The number and the figures that document 01 gives for each case of a route's answer, and the words it fills; the numbers of a verdict and of a comparison (document 02, C-11).
 use Prim.Native.Nat.{ℕ, _+_, _*_}
 use Rattle.answers.specs.declared.answer.Figures.{Figures}
 use Rattle.answers.specs.declared.answer.Refusal.{Refusal}
-use Rattle.answers.specs.declared.answer.Refusal.the-variants.{Grid, Length, Mark, Element, Ends, Scratch, NoRoute}
+use Rattle.answers.specs.declared.answer.Refusal.the-variants.{Grid, Length, Mark, Element, Ends, Scratch, NoRoute, RouteList, NoneLegal}
 use Rattle.answers.specs.declared.answer.Answer.{Answer}
 use Rattle.answers.specs.declared.answer.Answer.the-variants.{Found, NoRoom, Refused}
+use Rattle.answers.specs.declared.verdict.Verdict.{Verdict}
+use Rattle.answers.specs.declared.verdict.Comparison.{Comparison}
 
 abbrev pub refusalNumber : Refusal → ℕ
 refusalNumber Grid = 1
@@ -14,6 +16,8 @@ refusalNumber (Element f) = 4
 refusalNumber Ends = 5
 refusalNumber Scratch = 6
 refusalNumber NoRoute = 7
+refusalNumber RouteList = 17
+refusalNumber NoneLegal = 18
 
 abbrev pub answerNumber : Answer → ℕ
 answerNumber (Found f) = 0
@@ -34,3 +38,14 @@ abbrev pub filledWords : Answer → ℕ
 filledWords (Found f) = 2 * (f .steps + 1)
 filledWords (NoRoom f) = 0
 filledWords (Refused r) = 0
+
+-- an illegal list is answered, not refused
+abbrev pub verdictNumber : Verdict → ℕ
+verdictNumber Verdict.Accepted = 0
+verdictNumber (Verdict.AtFault i f) = 0
+verdictNumber (Verdict.Refused r) = refusalNumber r
+
+abbrev pub comparisonNumber : Comparison → ℕ
+comparisonNumber Comparison.First = 0
+comparisonNumber Comparison.Second = 0
+comparisonNumber (Comparison.Refused r) = refusalNumber r

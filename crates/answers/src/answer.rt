@@ -15,7 +15,7 @@ pub enum Fault {
     Buffer(u16),
 }
 
-// The refusals of a route call that have no figures.
+// The refusals that have no figures.
 pub enum Refusal {
     Grid,
     // plan length
@@ -27,6 +27,10 @@ pub enum Refusal {
     // bench
     Scratch,
     NoRoute,
+    // a route list of odd length or under two visits
+    RouteList,
+    // neither of two lists is legal
+    NoneLegal,
 }
 
 pub struct Figures {
@@ -43,7 +47,7 @@ pub enum Answer {
 }
 
 impl Refusal {
-    // Document 01's number, 1 to 7.
+    // Document 01's number, 1 to 7, or document 02's, 17 and 18.
     pub fn number(self) -> u16
         ensures { λ r. ⌜ r ≡ refusalNumber self ⌝ }
     {
@@ -55,6 +59,8 @@ impl Refusal {
             Refusal::Ends => 5,
             Refusal::Scratch => 6,
             Refusal::NoRoute => 7,
+            Refusal::RouteList => 17,
+            Refusal::NoneLegal => 18,
         }
     }
 }

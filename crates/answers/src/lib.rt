@@ -4,6 +4,7 @@ mod answer;
 mod ends;
 mod records;
 mod tables;
+mod verdict;
 
 pub use answer::Answer;
 pub use answer::Fault;
@@ -21,3 +22,6 @@ pub use tables::TablesCheck;
 pub use tables::check_tables;
 pub use tables::no_elements;
 pub use tables::read_list;
+pub use verdict::Comparison;
+pub use verdict::Verdict;
+pub use verdict::VisitFault;

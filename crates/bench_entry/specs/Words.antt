@@ -9,7 +9,7 @@ use Rattle.answers.specs.declared.records.BufferList.{BufferList}
 use Rattle.answers.specs.declared.answer.Fault.{Fault}
 use Rattle.answers.specs.declared.answer.Fault.the-variants.{Period, Limit, Horizontal, Vertical, Register, Count, Buffer}
 use Rattle.answers.specs.declared.answer.Refusal.{Refusal}
-use Rattle.answers.specs.declared.answer.Refusal.the-variants.{Grid, Length, Mark, Element, Ends, Scratch, NoRoute}
+use Rattle.answers.specs.declared.answer.Refusal.the-variants.{Grid, Length, Mark, Element, Ends, Scratch, NoRoute, RouteList, NoneLegal}
 use Rattle.answers.specs.declared.answer.Answer.{Answer}
 use Rattle.answers.specs.declared.answer.Answer.the-variants.{Found, NoRoom, Refused}
 use Rattle.job.specs.Fields.{tablesOf, tableNumbers, bufferListOf}
@@ -48,6 +48,8 @@ refusalFault (Element f) = faultPlace f
 refusalFault Ends = 0
 refusalFault Scratch = 0
 refusalFault NoRoute = 0
+refusalFault RouteList = 0
+refusalFault NoneLegal = 0
 
 abbrev pub answerFault : Answer → ℕ
 answerFault (Found f) = 0

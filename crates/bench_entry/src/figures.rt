@@ -31,6 +31,8 @@ fn refusal_fault(refusal: Refusal) -> u32
         Refusal::Ends => 0,
         Refusal::Scratch => 0,
         Refusal::NoRoute => 0,
+        Refusal::RouteList => 0,
+        Refusal::NoneLegal => 0,
     }
 }
 

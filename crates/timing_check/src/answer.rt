@@ -1,7 +1,10 @@
-// Refusal 5, and the numbers and figures of answers.
+// Refusal 5, and the numbers and figures of answers, verdicts and comparisons.
 use answers::Answer;
+use answers::Comparison;
 use answers::Figures;
 use answers::Refusal;
+use answers::Verdict;
+use answers::VisitFault;
 use answers::ends_fault;
 use check::expect;
 
@@ -23,4 +26,15 @@ pub fn answers() {
     expect(Answer::NoRoom(figures).figures().latency == 50);
     expect(Answer::Refused(Refusal::NoRoute).number() == 7);
     expect(Answer::Refused(Refusal::NoRoute).figures().latency == 0);
+}
+
+pub fn verdicts() {
+    expect(Verdict::Accepted.number() == 0);
+    expect(Verdict::AtFault(3, VisitFault::Load).number() == 0);
+    expect(Verdict::Refused(Refusal::Ends).number() == 5);
+    expect(Verdict::Refused(Refusal::RouteList).number() == 17);
+    expect(Comparison::First.number() == 0);
+    expect(Comparison::Second.number() == 0);
+    expect(Comparison::Refused(Refusal::RouteList).number() == 17);
+    expect(Comparison::Refused(Refusal::NoneLegal).number() == 18);
 }

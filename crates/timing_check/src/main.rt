@@ -13,4 +13,5 @@ fn main() {
     fault::order();
     answer::ends();
     answer::answers();
+    answer::verdicts();
 }

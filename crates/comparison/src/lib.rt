@@ -1,0 +1,1 @@
+// The better of two route lists from outside: definitions and laws; no code. See specs/ and proofs/.
