@@ -1,18 +1,19 @@
 -- The ranking of two lists by their words: registers, then lengths, then lexicographic order.
-use Prim.Native.Nat.{ℕ, _+_, _*_, _-_, _%_, _≤_, _<_}
-use mathlib.Core.Bool.{Bool, true, false, _&&_, _||_}
-use mathlib.Core.List.{List, [], _∷_}
-use mathlib.Core.Path.{_≡_, refl, sym, ap, _∙_}
+use Prim.Native.Nat.{ℕ, suc, _+_, _*_, _-_, _%_, _≤_, _<_}
+use mathlib.Core.Bool.{false, _&&_, _||_, cond}
+use mathlib.Core.List.{List}
+use mathlib.Core.Path.{_≡_, sym, _∙_}
 use mathlib.Core.Logic.{_⊎_, inl, inr}
 use native.Mathlib.Omega.{arith}
 use borrow.Author.Tests.{lt-ltb, le-ltb, eq-eqb, ne-eqb}
 use lib.Dec.{eqb, ltb}
-use lib.ListN.{length}
+use lib.ListN.{length, drop, getD, drop-of-length-le}
+use lib.Seq.{drop-cons}
 use Rattle.plan.proofs.Truth.{split, equal}
-use Rattle.rules.specs.Legal.{Route}
-use Rattle.rules.specs.Ranking.{registers, steps, written, precedes, key, ranksBefore}
+use Rattle.rules.specs.Rules.{registerCode}
+use Rattle.rules.specs.Ranking.{codeSevens, registers, steps, precedes, key, ranksBefore}
 use Rattle.verdict.specs.Verdict.{routeIn}
-use Rattle.verdict.proofs.Routes.{written-route, visits-even}
+use Rattle.verdict.proofs.Routes.{written-route, visits-even, visits-most, route-cons}
 
 -- two tests agree where the facts do
 
@@ -50,3 +51,21 @@ module _ (a b : List ℕ) (evenA : length a % 2 ≡ 0) (evenB : length b % 2 ≡
   pub ranks-words : ranksBefore (routeIn b) (routeIn a) ≡ (ltb (registers (routeIn b)) (registers (routeIn a)) || (eqb (registers (routeIn b)) (registers (routeIn a)) && (ltb (length b) (length a) || (eqb (length b) (length a) && precedes b a))))
   unfolding ranksBefore key precedes
   ranks-words = rw (fewer-steps-words, same-steps-words, written-route a evenA, written-route b evenB)
+
+-- What loops over the words use: the registers' codes of one visit more, and the order one word further
+
+pub sevens-next : (ws : List ℕ) (i : ℕ) → 2 * i + 1 < length ws → codeSevens (drop i (routeIn ws)) ≡ cond (eqb (getD ws (2 * i + 1) 0) registerCode) 1 0 + codeSevens (drop (suc i) (routeIn ws))
+unfolding codeSevens
+sevens-next ws i h = rw (route-cons ws i h, codeSevens)
+
+pub sevens-end : (ws : List ℕ) (i : ℕ) → length ws ≤ 2 * i → codeSevens (drop i (routeIn ws)) ≡ 0
+unfolding codeSevens
+sevens-end ws i h = rw (drop-of-length-le (routeIn ws) {i = i} (omega (arith, visits-most ws)))
+
+pub precedes-next : (a b : List ℕ) (i : ℕ) → i < length a → i < length b → precedes (drop i b) (drop i a) ≡ (ltb (getD b i 0) (getD a i 0) || (eqb (getD b i 0) (getD a i 0) && precedes (drop (suc i) b) (drop (suc i) a)))
+unfolding precedes
+precedes-next a b i h k = rw (drop-cons a i 0 h, drop-cons b i 0 k, precedes)
+
+pub precedes-end : (a b : List ℕ) (i : ℕ) → length a ≤ i → length b ≤ i → precedes (drop i b) (drop i a) ≡ false
+unfolding precedes
+precedes-end a b i h k = rw (drop-of-length-le a {i = i} h, drop-of-length-le b {i = i} k)
