@@ -31,6 +31,26 @@ fn searched(r: &mut Random) -> Drawn {
     }
 }
 
+// The problem on a plan of up to 32 by 32, its ends not far apart.
+fn enlarged(r: &mut Random, p: &Problem) -> Drawn {
+    let (width, height) = (r.pick(&[17, 31, 32, 32]), r.pick(&[17, 31, 32, 32]));
+    let cell = |row: u32, column: u32| row * width + column;
+    let (row, column) = (r.below(height - 8), r.below(width - 8));
+    let marks = |r: &mut Random, at: u32| {
+        let right = at % width + 1 < width && r.chance(5);
+        let below = at / width + 1 < height && r.chance(5);
+        r.below(4) | 4 * right as u32 | 8 * below as u32
+    };
+    let mut large = Problem { width, height, ..p.clone() };
+    large.marks = (0..width * height).map(|at| marks(r, at)).collect();
+    large.source = cell(row, column);
+    large.sink = cell(row + r.within(1, 7), column + r.below(8));
+    if r.chance(50) {
+        std::mem::swap(&mut large.source, &mut large.sink);
+    }
+    (large, None)
+}
+
 fn short_walk(r: &mut Random, p: &Problem) -> Vec<Visit> {
     let wandering = r.pick(&[0, 0, 0, 3, 8]);
     let how = Walk { visits: 60, wandering, gates: r.pick(&[0, 20, 50, 90]) };
@@ -171,7 +191,10 @@ fn refused(r: &mut Random, (p, route): &Drawn) -> Vec<Block> {
 
 // The next blocks, all on one drawn problem.
 pub fn draw(r: &mut Random) -> Vec<Block> {
-    let drawn = searched(r);
+    let mut drawn = searched(r);
+    if r.chance(10) {
+        drawn = enlarged(r, &drawn.0);
+    }
     let mut out = vec![near(r, &drawn), near(r, &drawn), paired(r, &drawn)];
     if r.chance(25) {
         out.extend(refused(r, &drawn));

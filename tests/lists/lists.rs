@@ -6,13 +6,13 @@ use crate::rules::{Problem, Visit};
 use std::collections::VecDeque;
 
 // The cells that an uncut wire joins to a cell.
-pub fn neighbours(p: &Problem, cell: u32) -> Vec<u32> {
+fn neighbours(p: &Problem, cell: u32) -> Vec<u32> {
     let sides = [cell.checked_sub(p.width), cell.checked_sub(1), Some(cell + 1), Some(cell + p.width)];
     sides.into_iter().flatten().filter(|&to| to < p.cells() && wire(p, cell, to).is_ok()).collect()
 }
 
 // Steps from each cell to the source; none where no way leads there.
-pub fn distances(p: &Problem) -> Vec<Option<usize>> {
+fn distances(p: &Problem) -> Vec<Option<usize>> {
     let mut out = vec![None; p.cells() as usize];
     let mut next = VecDeque::from([p.source]);
     out[p.source as usize] = Some(0);
@@ -130,14 +130,14 @@ fn other_code(r: &mut Random, p: &Problem) -> u32 {
     }
 }
 
-// One change: a cell, a code, a swap, a cut, a visit twice or left out, a step back over an end.
+// One change: a cell, a code, a swap, a cut, a visit twice or left out, a step back over an end, the number next to the
+// cell before.
 pub fn change(r: &mut Random, p: &Problem, list: &mut Vec<Visit>) {
     let n = list.len() as u32;
     let any = r.below(n);
     let at = r.pick(&[0, n - 1, n.max(2) - 2, any, any, any]) as usize;
     match r.below(13) {
         0..3 => list[at].0 = other_cell(r, p, list[at].0),
-        12 if at > 0 => list[at].0 = r.pick(&[list[at - 1].0 + 1, list[at - 1].0.max(1) - 1]).min(65_535),
         3..7 => list[at].1 = other_code(r, p),
         7 => list.swap(at, r.below(n) as usize),
         8 => list.truncate(r.within(1, n) as usize),
@@ -148,6 +148,7 @@ pub fn change(r: &mut Random, p: &Problem, list: &mut Vec<Visit>) {
         10 => {
             list.remove(at);
         }
+        11 if at > 0 => list[at].0 = r.pick(&[list[at - 1].0 + 1, list[at - 1].0.max(1) - 1]).min(65_535),
         _ => over_an_end(r, p, list),
     }
 }

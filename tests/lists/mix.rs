@@ -48,13 +48,15 @@ const ORDER: [&str; 6] = ["grid", "length", "plan", "element", "ends", "list"];
 const ELEMENTS: [&str; 12] = ["1", "2", "3", "4", "5", "6", "7 1", "7 2", "7 3", "7 4", "7 5", "7 6"];
 const NUMBERS: [&str; 6] = ["1", "2", "3", "4", "5", "17"];
 
-const LISTS: [&str; 12] = [
+const LISTS: [&str; 14] = [
     "accepted with a register on a blocked tap",
     "accepted over an end's cell",
     "accepted with two gates on one cell",
     "accepted with the period just met",
     "accepted with the load limit just met",
     "accepted of over 1,000 visits",
+    "accepted over a cell above 255",
+    "at fault over a cell above 255",
     "period just missed",
     "load limit just missed",
     "at fault past visit 1,000",
@@ -162,6 +164,7 @@ impl Mix {
         self.add_if(*slowest + 1 >= 2 * p.period as u64, "accepted with the period just met");
         self.add_if(measured.greatest_load == p.limit, "accepted with the load limit just met");
         self.add_if(route.len() > LONG, "accepted of over 1,000 visits");
+        self.add_if(route.iter().any(|visit| visit.0 > 255), "accepted over a cell above 255");
     }
 
     pub fn at_fault(&mut self, p: &Problem, route: &[Visit], at: usize, cause: Cause) {
@@ -173,6 +176,7 @@ impl Mix {
         self.add(&format!("fault {} {place}", cause.fault()));
         self.add(&format!("cause {cause:?} {place}"));
         self.add_if(at > LONG, "at fault past visit 1,000");
+        self.add_if((256..p.cells()).contains(&route[at].0), "at fault over a cell above 255");
         let looser = Problem { period: p.period + 1, ..p.clone() };
         self.add_if(cause == Cause::Period && judge(&looser, route) != Err((at, cause)), "period just missed");
         let looser = Problem { limit: p.limit + 1, ..p.clone() };

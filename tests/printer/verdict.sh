@@ -18,7 +18,7 @@ own() { # WORDS PLAN
     tools/route "$2" >"$work/own.sheet"
     accepts "the planner's own sheet of $2" "$1" "$2" "$work/own.sheet"
 }
-accepts "the example" "22 visits, 2 registers" examples/crossing.txt examples/crossing.sheet
+accepts "the guide's sheet" "$(sed -n 's/^    accepted: //p' docs/GUIDE.md)" examples/crossing.txt examples/crossing.sheet
 own "22 visits, 2 registers" examples/crossing.txt
 own "3 visits, 0 registers" examples/strip.txt
 own "5 visits, 1 register" examples/twice.txt
@@ -68,7 +68,7 @@ fault "visit 2 (cell 63, code 7): no gate may stand on an end's cell in between"
 fault "visit 21 (cell 48, code 9): no gate may stand on an end's cell in between" $plan 's/^32 1/32 0\n48 9\n&/'
 fault "visit 5 (cell 13, code 8): no such code; the largest is 7, a register" $plan 's/^13 2/13 8/'
 fault "visit 5 (cell 13, code 3): no such buffer in the tables, which have 2" $plan 's/^13 2/13 3/'
-fault "visit 4 (cell 14, code 7): no clock tap here" $plan 's/^14 0/14 7/'
+fault "$(sed -n 's/^    visit/visit/p' docs/GUIDE.md)" $plan 's/^14 0/14 7/'
 fault "visit 12 (cell 6, code 0): the load is more than the limit, 24" $plan 's/^13 2/13 0/; s/^11 7/11 0/; s/^8 1/8 0/'
 printf 'route 0 2 26\n2 7\n1 0\n0 7\n' >"$work/strip.sheet"
 sheet=$work/strip.sheet
