@@ -1,11 +1,11 @@
 // The two questions: their refusals in order, then the answer, as the session player prints it.
 
 use crate::comparison::{compare, Choice};
-use crate::judge::judge;
+use crate::judge::{judge, Cause};
 use crate::mix::Mix;
 use crate::plan::{self, Fault};
 use crate::question;
-use crate::rules::{legal, Problem, Visit};
+use crate::rules::{legal, Measured, Problem, Visit};
 
 pub enum Asked {
     Judge(Vec<u32>),
@@ -84,31 +84,41 @@ impl Asked {
         match self {
             Asked::Judge(list) => line(0, &verdict(p, &visits(list), mix)),
             Asked::Better(a, b) => {
-                let choice = compare(p, &visits(a), &visits(b));
-                mix.pair(&choice, &visits(a), &visits(b));
-                match choice {
-                    Choice::First(_) => line(0, &format!(" first words{}", joined(a))),
-                    Choice::Second(_) => line(0, &format!(" second words{}", joined(b))),
-                    Choice::Neither => line(18, words),
-                }
+                let (number, rest) = comparison(p, a, b, mix);
+                line(number, &rest)
             }
         }
     }
 }
 
-// The verdict, after the depth. It must agree with the brute force's definition of a legal route.
-fn verdict(p: &Problem, route: &[Visit], mix: &mut Mix) -> String {
-    let verdict = judge(p, route);
-    let legal = legal(p, route);
+// The judge's verdict, which must agree with the brute force's definition of a legal route.
+fn agreed(p: &Problem, route: &[Visit]) -> Result<Measured, (usize, Cause)> {
+    let (verdict, legal) = (judge(p, route), legal(p, route));
     assert_eq!(verdict.is_ok(), legal.is_some(), "the judge and the brute force differ: {p:?} {route:?} {verdict:?}");
-    match verdict {
-        Ok(()) => {
-            mix.accepted(p, route, &legal.unwrap());
+    verdict.map(|()| legal.unwrap())
+}
+
+// What is printed after the depth.
+fn verdict(p: &Problem, route: &[Visit], mix: &mut Mix) -> String {
+    match agreed(p, route) {
+        Ok(measured) => {
+            mix.accepted(p, route, &measured);
             " accepted".to_string()
         }
         Err((at, cause)) => {
             mix.at_fault(p, route, at, cause);
             format!(" visit {at} {}", cause.fault())
         }
+    }
+}
+
+fn comparison(p: &Problem, a: &[u32], b: &[u32], mix: &mut Mix) -> (u32, String) {
+    let (first, second) = (visits(a), visits(b));
+    let choice = compare(agreed(p, &first).is_ok(), &first, agreed(p, &second).is_ok(), &second);
+    mix.pair(&choice, &first, &second);
+    match choice {
+        Choice::First(_) => (0, format!(" first words{}", joined(a))),
+        Choice::Second(_) => (0, format!(" second words{}", joined(b))),
+        Choice::Neither => (18, " words".to_string()),
     }
 }

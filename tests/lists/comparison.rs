@@ -1,7 +1,6 @@
 // The better of two lists: the ranking of demand 2, where both are legal.
 
-use crate::judge::judge;
-use crate::rules::{Problem, Visit};
+use crate::rules::Visit;
 use std::cmp::Ordering;
 
 #[derive(Clone, Copy, Debug, PartialEq)]
@@ -41,8 +40,9 @@ fn rank(a: &[Visit], b: &[Visit]) -> (Ordering, Why) {
     }
 }
 
-pub fn compare(p: &Problem, a: &[Visit], b: &[Visit]) -> Choice {
-    match (judge(p, a).is_ok(), judge(p, b).is_ok()) {
+// Two lists, each with whether it is legal.
+pub fn compare(a_legal: bool, a: &[Visit], b_legal: bool, b: &[Visit]) -> Choice {
+    match (a_legal, b_legal) {
         (true, true) => match rank(a, b) {
             (Ordering::Greater, why) => Choice::Second(why),
             (_, why) => Choice::First(why),

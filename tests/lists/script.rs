@@ -70,9 +70,7 @@ fn laid(r: &mut Random, p: &Problem) -> (Vec<Laid>, u32) {
     let mut moves = Vec::new();
     for depth in 1..=r.below(4) {
         let cell = r.below(p.cells());
-        if moves.iter().all(|(moved, _): &Laid| !matches!(moved, Command::Move(at, _) if *at == cell)) {
-            opened[cell as usize] ^= r.below(4) as u8;
-        }
+        opened[cell as usize] ^= r.below(4) as u8;
         let line = format!("move 0 depth {depth}");
         moves.push((Command::Move(cell, marks[cell as usize] as u32), Some(line)));
     }
