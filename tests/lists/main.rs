@@ -46,7 +46,7 @@ use std::process::{Command, ExitCode, Stdio};
 use std::time::Instant;
 
 const MISMATCHES: u64 = 5; // then the run stops
-const MIXED: (u64, u64) = (5_000, 2_000); // lists and pairs from which on no class may be rare
+const MIXED: (u64, u64) = (10_000, 4_000); // lists and pairs from which on no class may be rare
 const SAVED: &str = "target/lists"; // where a script that fails is kept
 const SHORT: usize = 2_000; // bytes of a script that is shown whole
 

@@ -89,7 +89,7 @@ const PAIRS: [&str; 7] = [
     "fewer steps and later in written order",
 ];
 
-// The classes of one kind, with the least number of each among 5,000 lists and 2,000 pairs.
+// The classes of one kind, with the least number of each among 10,000 lists and 4,000 pairs.
 fn kinds() -> Vec<(&'static str, u64, Vec<String>)> {
     let at = |head: &str, list: &[(&str, &[&str])]| -> Vec<String> {
         list.iter().flat_map(|(name, places)| places.iter().map(move |p| format!("{head}{name} {p}"))).collect()
