@@ -10,7 +10,10 @@ use session::Session;
 // What is wrong with a script beside its numbers: a word is no command.
 pub const UNKNOWN: u8 = 3;
 
-// The record, the lengths of plan, journal and scratch, and the tables of the next route call.
+// A line of output was not written: why a play ends, beside what is wrong with a script.
+pub const UNWRITTEN: u8 = 4;
+
+// The record, the lengths of plan, journal and scratch, and the tables of the next call.
 pub struct Player {
     pub session: Session,
     pub plan: usize,
@@ -69,4 +72,11 @@ pub fn next(c: Cursor, p: Player) -> Turn {
         cursor: c,
         player: p,
     }
+}
+
+// The turn after a line of output; one that was not written ends the play.
+pub fn ended(c: Cursor, p: Player, written: bool) -> Turn {
+    let bad = if written { c.bad } else { UNWRITTEN };
+    let cursor = Cursor { at: c.at, bad: bad };
+    next(cursor, p)
 }

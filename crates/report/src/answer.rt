@@ -1,4 +1,4 @@
-// The answer of a route call.
+// The answer of a call.
 ghost use mathlib.Core.Path.{_≡_};
 ghost use Rattle.answers.specs.Numbers.{filledWords};
 use answers::Answer;
@@ -27,15 +27,20 @@ pub fn write_figures(answer: Answer) -> bool {
 }
 
 // Of refusal 4 the word `fault`, the fault's place in document 01's order and a buffer's place in its list; of any other
-// answer nothing.
-pub fn write_fault(answer: Answer) -> bool {
-    let Answer::Refused(refusal) = answer else {
-        return true;
-    };
+// refusal nothing.
+pub fn write_element(refusal: Refusal) -> bool {
     let Refusal::Element(fault) = refusal else {
         return true;
     };
     write_text(b" fault") && write_place(fault)
+}
+
+// The same of an answer.
+pub fn write_fault(answer: Answer) -> bool {
+    let Answer::Refused(refusal) = answer else {
+        return true;
+    };
+    write_element(refusal)
 }
 
 fn write_place(fault: Fault) -> bool {
@@ -48,4 +53,12 @@ fn write_place(fault: Fault) -> bool {
         Fault::Count => write_number(6),
         Fault::Buffer(place) => write_number(7) && write_number(place as u64),
     }
+}
+
+// A call's name, its number and a session record's depth.
+pub fn write_call(name: &[u8], answer: u16, depth: u16) -> bool {
+    write_text(name)
+        && write_number(answer as u64)
+        && write_text(b" depth")
+        && write_number(depth as u64)
 }

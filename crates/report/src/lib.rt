@@ -1,8 +1,10 @@
-// What the programs print of a route call: its answer, and the words that it was lent. Each says whether all was written.
+// What the programs print of a call: its answer, and the words that it was lent. Each says whether all was written.
 mod answer;
 mod words;
 
 pub use answer::filled;
+pub use answer::write_call;
+pub use answer::write_element;
 pub use answer::write_fault;
 pub use answer::write_figures;
 pub use words::run_end;

@@ -1,12 +1,14 @@
 // The commands that call and the one that shows.
 use crate::lines::write_bytes;
-use crate::lines::write_call;
 use crate::lines::write_line;
 use crate::lines::write_route;
 use player::Player;
 use player::Turn;
+use player::ended;
 use player::next;
+use player::read_net;
 use report::smaller;
+use report::write_call;
 use route_call::Call;
 use route_call::ask;
 use script::Cursor;
@@ -17,21 +19,11 @@ use session::set_marks_at;
 use session::undo_at;
 use streams::write_text;
 
-// A line of output was not written: why a play ends, beside what is wrong with a script.
-pub const UNWRITTEN: u8 = 4;
-
 // The largest number of a script.
 const MAX: u16 = 65535;
 
 // What the words hold before a route call.
 const UNUSED: u16 = 65535;
-
-// The turn after a line of output; one that was not written ends the play.
-fn ended(c: Cursor, p: Player, written: bool) -> Turn {
-    let bad = if written { c.bad } else { UNWRITTEN };
-    let cursor = Cursor { at: c.at, bad: bad };
-    next(cursor, p)
-}
 
 // The line of a session call, and its record kept.
 fn stepped(name: &[u8], step: SessionStep, c: Cursor, p: Player) -> Turn {
@@ -112,11 +104,8 @@ pub fn route(
     scratch: &mut [u16],
     visits: &mut [u16],
 ) -> Turn {
-    let w = read_number(src, c, MAX);
-    let h = read_number(src, w.cursor, MAX);
-    let a = read_number(src, h.cursor, MAX);
-    let b = read_number(src, a.cursor, MAX);
-    let v = read_number(src, b.cursor, 2048);
+    let net = read_net(src, c);
+    let v = read_number(src, net.cursor, 2048);
     let cursor = v.cursor;
     if cursor.bad != 0 {
         return next(cursor, p);
@@ -125,12 +114,12 @@ pub fn route(
     let tables = p.tables;
     let list = p.list;
     let call = Call {
-        width: w.value,
-        height: h.value,
+        width: net.width,
+        height: net.height,
         tables: tables,
         list: list,
-        source: a.value,
-        sink: b.value,
+        source: net.source,
+        sink: net.sink,
         scratch: p.scratch,
         visits: v.value as usize,
     };

@@ -3,6 +3,7 @@ use answers::Answer;
 use report::filled;
 use report::run_end;
 use report::smaller;
+use report::write_call;
 use report::write_fault;
 use report::write_figures;
 use report::write_runs;
@@ -11,14 +12,6 @@ use script::NO_NUMBER;
 use script::TOO_LARGE;
 use streams::write_number;
 use streams::write_text;
-
-// A call's name, number and the record's depth.
-pub fn write_call(name: &[u8], answer: u16, depth: u16) -> bool {
-    write_text(name)
-        && write_number(answer as u64)
-        && write_text(b" depth")
-        && write_number(depth as u64)
-}
 
 // A name and the bytes before `end`.
 pub fn write_bytes(name: &[u8], bytes: &[u8], end: usize) -> bool {

@@ -1,13 +1,15 @@
 // The commands of a script, one after the other.
-use crate::calls::UNWRITTEN;
 use crate::calls::open;
 use crate::calls::route;
 use crate::calls::set_marks;
 use crate::calls::show;
 use crate::calls::undo;
 use crate::lines::write_bad;
+use list_calls::better;
+use list_calls::judge;
 use player::Player;
 use player::Turn;
+use player::UNWRITTEN;
 use player::lend;
 use player::new_player;
 use script::Cursor;
@@ -15,6 +17,27 @@ use script::is_word;
 use script::line_of;
 use script::skip;
 use script::word_end;
+
+// A command on route lists, or one of the session.
+fn on_lists(
+    src: &[u8],
+    start: usize,
+    end: usize,
+    p: Player,
+    plan: &mut [u8],
+    journal: &mut [u8],
+    first: &mut [u16],
+    second: &mut [u16],
+) -> Turn {
+    let c = Cursor { at: end, bad: 0 };
+    if is_word(src, start, end, b"judge") {
+        return judge(src, c, p, plan, first);
+    }
+    if is_word(src, start, end, b"better") {
+        return better(src, c, p, plan, first, second);
+    }
+    on_session(src, start, end, p, plan, journal)
+}
 
 // A command of the session, whose word stands from `start` up to `end`, or one that calls nothing.
 fn on_session(
@@ -47,6 +70,8 @@ fn one_command(
     journal: &mut [u8],
     scratch: &mut [u16],
     visits: &mut [u16],
+    first: &mut [u16],
+    second: &mut [u16],
 ) -> Turn {
     let end = word_end(src, start);
     let c = Cursor { at: end, bad: 0 };
@@ -56,7 +81,7 @@ fn one_command(
     if is_word(src, start, end, b"show") {
         return show(c, p, plan, journal, scratch, visits);
     }
-    on_session(src, start, end, p, plan, journal)
+    on_lists(src, start, end, p, plan, journal, first, second)
 }
 
 // How a play ends early: a line was not written, or the script is wrong.
@@ -74,6 +99,8 @@ pub fn play(
     journal: &mut [u8],
     scratch: &mut [u16],
     visits: &mut [u16],
+    first: &mut [u16],
+    second: &mut [u16],
 ) -> bool {
     let mut at = skip(src, 0);
     let mut p = new_player();
@@ -82,7 +109,9 @@ pub fn play(
         if src.len() <= at {
             return true;
         }
-        let t = one_command(src, at, p, plan, journal, scratch, visits);
+        let t = one_command(
+            src, at, p, plan, journal, scratch, visits, first, second,
+        );
         let cursor = t.cursor;
         if cursor.bad != 0 {
             return stopped(src, cursor);

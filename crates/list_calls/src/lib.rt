@@ -1,0 +1,7 @@
+// The session player's commands on route lists from outside, and what they print.
+mod commands;
+mod lines;
+mod words;
+
+pub use commands::better;
+pub use commands::judge;
