@@ -1,6 +1,6 @@
 -- The ranking of two lists by their words: registers, then lengths, then lexicographic order.
 use Prim.Native.Nat.{ℕ, _+_, _*_, _-_, _%_, _≤_, _<_}
-use mathlib.Core.Bool.{Bool, true, false, _&&_, _||_}
+use mathlib.Core.Bool.{false, _&&_, _||_, or-false}
 use mathlib.Core.List.{List, [], _∷_}
 use mathlib.Core.Path.{_≡_, refl, sym, ap, _∙_}
 use mathlib.Core.Logic.{_⊎_, inl, inr}
@@ -11,8 +11,8 @@ use lib.ListN.{length}
 use Rattle.plan.proofs.Truth.{split, equal}
 use Rattle.rules.specs.Legal.{Route}
 use Rattle.rules.specs.Ranking.{registers, steps, written, precedes, key, ranksBefore}
-use Rattle.verdict.specs.Verdict.{routeIn}
-use Rattle.verdict.proofs.Routes.{written-route, visits-even}
+use Rattle.verdict.specs.Verdict.{routeIn, badList}
+use Rattle.verdict.proofs.Routes.{written-route, visits-even, good-even, good-length}
 
 -- two tests agree where the facts do
 
@@ -32,6 +32,9 @@ same-equal a b c d f g = go (equal a b)
     go (inl e) = eq-eqb a b e ∙ sym (eq-eqb c d (f e))
     go (inr n) = ne-eqb a b n ∙ sym (ne-eqb c d (λ e. n (g e)))
 
+not-less : {m n : ℕ} → m ≡ n → ltb m n ≡ false
+not-less {m} {n} e = le-ltb m n (omega arith)
+
 module _ (a b : List ℕ) (evenA : length a % 2 ≡ 0) (evenB : length b % 2 ≡ 0) (longA : 4 ≤ length a) (longB : 4 ≤ length b) where
   fewer-steps-words : ltb (steps (routeIn b)) (steps (routeIn a)) ≡ ltb (length b) (length a)
   unfolding steps
@@ -50,3 +53,19 @@ module _ (a b : List ℕ) (evenA : length a % 2 ≡ 0) (evenB : length b % 2 ≡
   pub ranks-words : ranksBefore (routeIn b) (routeIn a) ≡ (ltb (registers (routeIn b)) (registers (routeIn a)) || (eqb (registers (routeIn b)) (registers (routeIn a)) && (ltb (length b) (length a) || (eqb (length b) (length a) && precedes b a))))
   unfolding ranksBefore key precedes
   ranks-words = rw (fewer-steps-words, same-steps-words, written-route a evenA, written-route b evenB)
+
+-- The ranking of two lists that are not refused, decided by the first of the three that differs
+
+module _ (b a : List ℕ) (goodB : badList b ≡ false) (goodA : badList a ≡ false) where
+  ranks-good : ranksBefore (routeIn b) (routeIn a) ≡ (ltb (registers (routeIn b)) (registers (routeIn a)) || (eqb (registers (routeIn b)) (registers (routeIn a)) && (ltb (length b) (length a) || (eqb (length b) (length a) && precedes b a))))
+  ranks-good = ranks-words a b (good-even a goodA) (good-even b goodB) (good-length a goodA) (good-length b goodB)
+
+  pub ranks-by-registers : (registers (routeIn b) ≡ registers (routeIn a) → ⊥) → ranksBefore (routeIn b) (routeIn a) ≡ ltb (registers (routeIn b)) (registers (routeIn a))
+  ranks-by-registers n = rw (ranks-good, ne-eqb _ _ n) (or-false _)
+
+  module _ (same : registers (routeIn b) ≡ registers (routeIn a)) where
+    pub ranks-by-lengths : (length b ≡ length a → ⊥) → ranksBefore (routeIn b) (routeIn a) ≡ ltb (length b) (length a)
+    ranks-by-lengths n = rw (ranks-good, not-less same, eq-eqb _ _ same, ne-eqb _ _ n) (or-false _)
+
+    pub ranks-by-words : length b ≡ length a → ranksBefore (routeIn b) (routeIn a) ≡ precedes b a
+    ranks-by-words e = rw (ranks-good, not-less same, eq-eqb _ _ same, not-less e, eq-eqb _ _ e)

@@ -1,1 +1,4 @@
-// The better of two route lists from outside: definitions and laws; no code. See specs/ and proofs/.
+// The better of two route lists from outside.
+mod ranks;
+
+pub use ranks::ranks_before;
