@@ -21,7 +21,6 @@ use plan::neighbours_of;
 use problem::Problem;
 use rows::view;
 use table::takes_buffers;
-use timing::Driver;
 use timing::Elements;
 use timing::HalfTicks;
 use timing::Load;
@@ -42,14 +41,6 @@ pub enum Choice {
     Nothing,
 }
 
-// The delay after a gate with this driver.
-fn driven(driver: Driver, at: State) -> HalfTicks
-    requires { ⌜ DriverInRange driver × ((at .load .0 ≤ loadMax) × (at .delay .0 ≤ arrivalMost)) ⌝ }
-    ensures { λ r. ⌜ r .0 ≡ at .delay .0 + gateDelay driver (at .load .0) ⌝ }
-{
-    at.delay.plus(driver.delay(at.load))
-}
-
 // The table's word for a cell and a load: what a delay there is below.
 fn budget_at(scratch: &[u16], cell: usize, load: Load) -> HalfTicks
     requires { ⌜ (load .0 ≤ loadMax) × (cell * 64 + rowWords ≤ length (now scratch)) ⌝ }
@@ -68,7 +59,7 @@ fn buffer_drives(scratch: &[u16], elements: Elements, at: State, i: usize) -> bo
     if !own.at_most(elements.limit) {
         return false;
     }
-    driven(buffer.driver(), at).below(budget_at(scratch, at.cell, own))
+    buffer.driver().after(at.load, at.delay).below(budget_at(scratch, at.cell, own))
 }
 
 // The first buffer whose state is in the table, or the number of buffers.
@@ -102,16 +93,6 @@ fn is_seed(plan: &[u8], scratch: &[u16], p: Problem, at: State) -> bool
     steps_of(scratch, n, at.cell) <= at.steps
 }
 
-// Whether a register after this load and delay closes the span in time: below the rules' bound, one more than 2T.
-fn in_time(elements: Elements, at: State) -> bool
-    requires { ⌜ Valid elements × ((at .load .0 ≤ loadMax) × (at .delay .0 ≤ arrivalMost)) ⌝ }
-    ensures { λ r. ⌜ r ≡ ltb (at .delay .0 + gateDelay (registerDriver (elements .register)) (at .load .0)) (2 * elements .period + 1) ⌝ }
-{
-    let register = elements.register;
-    let bound = HalfTicks(2 * (elements.period as u32) + 1);
-    driven(register.driver(), at).below(bound)
-}
-
 // The first code with which a visit to the cell goes on, 8 for none.
 fn first_code(plan: &[u8], scratch: &[u16], p: Problem, at: State) -> u16
     requires { ⌜ CodeAsks p (now plan) (now scratch) at ⌝ }
@@ -129,7 +110,7 @@ fn first_code(plan: &[u8], scratch: &[u16], p: Problem, at: State) -> u16
         }
     }
     if is_seed(plan, scratch, p, at) {
-        if in_time(elements, at) {
+        if elements.in_time(at.load, at.delay) {
             return 7;
         }
     }
@@ -159,7 +140,7 @@ fn leave(elements: Elements, at: State, code: u16) -> State
     State {
         cell: at.cell,
         load: buffer.load(),
-        delay: driven(buffer.driver(), at),
+        delay: buffer.driver().after(at.load, at.delay),
         registers: at.registers,
         steps: at.steps,
     }

@@ -1,16 +1,15 @@
 -- The ranking of two lists by their words: registers, then lengths, then lexicographic order.
-use Prim.Native.Nat.{ℕ, _+_, _*_, _-_, _%_, _≤_, _<_}
+use Prim.Native.Nat.{ℕ, _*_, _-_, _%_, _≤_, _<_}
 use mathlib.Core.Bool.{false, _&&_, _||_, or-false}
-use mathlib.Core.List.{List, [], _∷_}
-use mathlib.Core.Path.{_≡_, refl, sym, ap, _∙_}
+use mathlib.Core.List.{List}
+use mathlib.Core.Path.{_≡_, sym, _∙_}
 use mathlib.Core.Logic.{_⊎_, inl, inr}
 use native.Mathlib.Omega.{arith}
 use borrow.Author.Tests.{lt-ltb, le-ltb, eq-eqb, ne-eqb}
 use lib.Dec.{eqb, ltb}
 use lib.ListN.{length}
 use Rattle.plan.proofs.Truth.{split, equal}
-use Rattle.rules.specs.Legal.{Route}
-use Rattle.rules.specs.Ranking.{registers, steps, written, precedes, key, ranksBefore}
+use Rattle.rules.specs.Ranking.{registers, steps, precedes, key, ranksBefore}
 use Rattle.verdict.specs.Verdict.{routeIn, badList}
 use Rattle.verdict.proofs.Routes.{written-route, visits-even, good-even, good-length}
 

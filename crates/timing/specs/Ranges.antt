@@ -27,3 +27,7 @@ periodMax = 30000
 -- the longest list of buffers
 abbrev pub buffersMax : ℕ
 buffersMax = 6
+
+-- a delay to which a gate's delay is added, in half-ticks: the sum has 32 bits
+abbrev pub sumMost : ℕ
+sumMost = 4000000000

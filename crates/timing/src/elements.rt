@@ -1,7 +1,9 @@
 // The elements. Fields are private: an element comes from its checking constructor, or is the all-zero one.
 ghost use mathlib.Core.Path.{_≡_};
-ghost use Prim.Native.Nat.{_≤_};
-ghost use Rattle.timing.specs.Ranges.{loadMax};
+ghost use Prim.Native.Nat.{_+_, _*_, _≤_};
+ghost use lib.Dec.{ltb};
+ghost use Rattle.timing.specs.Ranges.{loadMax, sumMost};
+ghost use Rattle.timing.specs.Valid.{Valid};
 ghost use Rattle.timing.specs.Formulas.{wireDelay, gateDelay, wireLoad, bufferDriver, bufferLoad, registerDriver, registerLoad, setupDelay};
 ghost use Rattle.timing.specs.Elements.{WireInRange, DriverInRange, RegisterInRange, checkedWire, checkedBuffer, checkedRegister, wireOf, bufferOf, registerOf};
 use crate::units::HalfTicks;
@@ -67,6 +69,16 @@ impl Elements {
     pub const LIMIT_MAX: u16 = Load::MAX;
 
     pub const BUFFERS_MAX: usize = 6;
+
+    // Whether a span with this delay closes in time at a register under this load: at most 2T.
+    pub fn in_time(self, load: Load, delay: HalfTicks) -> bool
+        requires { ⌜ Valid self × ((load .0 ≤ loadMax) × (delay .0 ≤ sumMost)) ⌝ }
+        ensures { λ r. ⌜ r ≡ ltb (delay .0 + gateDelay (registerDriver (self .register)) (load .0)) (2 * self .period + 1) ⌝ }
+    {
+        let register = self.register;
+        let bound = HalfTicks(2 * (self.period as u32) + 1);
+        register.driver().after(load, delay).below(bound)
+    }
 }
 
 impl Wire {
@@ -123,6 +135,14 @@ impl Driver {
         ensures { λ r. ⌜ r .0 ≡ gateDelay self (load .0) ⌝ }
     {
         HalfTicks(2 * (self.resistance.0 as u32 * load.0 as u32 + self.delay as u32))
+    }
+
+    // The delay after the gate, of a span that comes to it with this load and delay.
+    pub fn after(self, load: Load, delay: HalfTicks) -> HalfTicks
+        requires { ⌜ DriverInRange self × ((load .0 ≤ loadMax) × (delay .0 ≤ sumMost)) ⌝ }
+        ensures { λ r. ⌜ r .0 ≡ delay .0 + gateDelay self (load .0) ⌝ }
+    {
+        delay.plus(self.delay(load))
     }
 }
 

@@ -37,9 +37,9 @@ returns c = simp (fits (c .before) ∙ not-true _ (c .if1 .taken))
 driver-requires : tie.Need-driver-requires
 driver-requires c κs = search needs
 
-driven-requires : tie.Need-driven-requires
+after-requires : tie.Need-after-requires
 unfolding bufferAt bufferOf driverOf
-driven-requires c κs =
+after-requires c κs =
     let start = c .before .before .before .before .before .before .before in
     let driver : c .driver .result ≡ bufferDriver (bufferAt (start .args .t2) (start .args .i)) = c .driver .ensures in
     (rw driver (buffer-driver-fits (start .pre .0 .valid) (start .args .i) (omega arith)), (start .pre .0 .light, start .pre .0 .early))
@@ -62,8 +62,8 @@ returns-2 c =
     let b = bufferAt (start .args .t2) (start .args .i) in
     let load : tested .before .before .load .result .0 ≡ bufferLoad b = tested .before .before .load .ensures in
     let driver : c .before .before .before .driver .result ≡ bufferDriver b = c .before .before .before .driver .ensures in
-    let driven : c .before .before .driven .result .0 ≡ start .args .at .delay .0 + gateDelay (bufferDriver b) (start .args .at .load .0) = rw driver at (c .before .before .driven .ensures) in
-    simp (c .below .ensures, driven, c .before .budget-at .ensures, load, fits tested ∙ not-false _ (c .before .before .before .before .if1 .left))
+    let after : c .before .before .after .result .0 ≡ start .args .at .delay .0 + gateDelay (bufferDriver b) (start .args .at .load .0) = rw driver at (c .before .before .after .ensures) in
+    simp (c .below .ensures, after, c .before .budget-at .ensures, load, fits tested ∙ not-false _ (c .before .before .before .before .if1 .left))
 
 pub buffer-drives-spec : {M : Type 1} → statement M
 buffer-drives-spec =
@@ -75,7 +75,7 @@ buffer-drives-spec =
     at-most-requires
     returns
     driver-requires
-    driven-requires
+    after-requires
     budget-at-requires
     below-requires
     returns-2)

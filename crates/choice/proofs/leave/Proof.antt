@@ -66,9 +66,9 @@ load-requires-2 c κs = search needs
 driver-requires : tie.Need-driver-requires
 driver-requires c κs = search needs
 
-driven-requires : tie.Need-driven-requires
+after-requires : tie.Need-after-requires
 unfolding bufferAt bufferOf driverOf
-driven-requires c κs =
+after-requires c κs =
     let start = c .before .before .before .before .before in
     let driver : c .driver .result ≡ bufferDriver (bufferAt (start .args .t1) (start .args .code - 1)) = c .driver .ensures in
     (rw driver (buffer-driver-fits (start .pre .0) (start .args .code - 1) (omega (arith, c .before .before .before .if2 .left))), (start .pre .1 .0, start .pre .1 .1 .0))
@@ -85,7 +85,7 @@ returns-3 c =
     record {
       cell = refl;
       load = simp (ne-eqb code noGate some, ne-eqb code registerCode other) (c .before .before .load2 .ensures);
-      delay = simp (ne-eqb code noGate some, ne-eqb code registerCode other) (rw driver at (c .driven .ensures));
+      delay = simp (ne-eqb code noGate some, ne-eqb code registerCode other) (rw driver at (c .after .ensures));
       registers = sym (registers-kept _ code other);
       steps = refl;
     }
@@ -105,5 +105,5 @@ leave-spec =
     element-copy-out-buffer
     load-requires-2
     driver-requires
-    driven-requires
+    after-requires
     returns-3)
