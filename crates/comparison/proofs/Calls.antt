@@ -29,10 +29,16 @@ pub record Ranked (R : Rules) (a b : Route) (answer : Comparison) : Type 0 where
   -- 18: neither is legal
   pub neither : (answer ≡ Refused Refusal.NoneLegal) ↔ ((T (legal R a) → ⊥) × (T (legal R b) → ⊥))
 
--- What is handed back: an empty part if the call is refused. Else one of the two lists: its route is legal, no legal one of the two ranks before it, and of equal lists it is the first.
+-- One of the two lists, the caller's own words: its route is legal, no legal one of the two ranks before it, and of equal lists it is the first.
+pub record BetterOf (R : Rules) (a b r : RefT (List ℕ)) : Type 0 where
+  pub own : (r ≡ a) ⊎ (r ≡ b)
+  pub best : BestOf R (routeIn (now a)) (routeIn (now b)) (routeIn (now r))
+  pub equal : now a ≡ now b → r ≡ a
+
+-- What is handed back: an empty part if the call is refused, or else the better list
 pub data HandedBack (q : Question) (a b r : RefT (List ℕ)) : Type 0 where
-  nothing : (k : Refusal) → comparisonOf q (now a) (now b) ≡ Refused k → now r ≡ [] → HandedBack q a b r
-  better : (r ≡ a) ⊎ (r ≡ b) → BestOf (rulesAsked q) (routeIn (now a)) (routeIn (now b)) (routeIn (now r)) → (now a ≡ now b → r ≡ a) → HandedBack q a b r
+  refused : (k : Refusal) → comparisonOf q (now a) (now b) ≡ Refused k → now r ≡ [] → HandedBack q a b r
+  answered : BetterOf (rulesAsked q) a b r → HandedBack q a b r
 
 -- All that the calls on two lists answer and hand back
 pub record BetterRanks (q : Question) (a b : RefT (List ℕ)) : Type 0 where
@@ -62,15 +68,15 @@ module _ (q : Question) (a b : List ℕ) where
     compared e f = rw (first-five q _ five, e, f, comparisonAfter)
 
 -- a list is handed back only by the comparison of two routes
-answered : (k : Check) (q : Question) (a b : List ℕ) (x : Comparison) → comparisonAfter k q a b ≡ x → ((j : Refusal) → Refused j ≡ x → ⊥) → comparisonFor (rulesAsked q) (routeIn a) (routeIn b) ≡ x
+by-check : (k : Check) (q : Question) (a b : List ℕ) (x : Comparison) → comparisonAfter k q a b ≡ x → ((j : Refusal) → Refused j ≡ x → ⊥) → comparisonFor (rulesAsked q) (routeIn a) (routeIn b) ≡ x
 unfolding comparisonAfter
-answered passes q a b x e n = e
-answered (fails j) q a b x e n = absurd (n j e)
+by-check passes q a b x e n = e
+by-check (fails j) q a b x e n = absurd (n j e)
 
 module _ (q : Question) (a b : RefT (List ℕ)) where
   by-rules : (x : Comparison) → comparisonOf q (now a) (now b) ≡ x → ((j : Refusal) → Refused j ≡ x → ⊥) → comparisonFor (rulesAsked q) (routeIn (now a)) (routeIn (now b)) ≡ x
   unfolding comparisonOf
-  by-rules x e n = answered (questionChecks q (orElse (badList (now a) || badList (now b)) Refusal.RouteList passes)) q (now a) (now b) x e n
+  by-rules x e n = by-check (questionChecks q (orElse (badList (now a) || badList (now b)) Refusal.RouteList passes)) q (now a) (now b) x e n
 
   handed-back : (r : RefT (List ℕ)) → Handed (comparisonOf q (now a) (now b)) a b r → HandedBack q a b r
   handed-back r h = go (comparisonOf q (now a) (now b)) refl h
@@ -87,13 +93,20 @@ module _ (q : Question) (a b : RefT (List ℕ)) where
       go : (x : Comparison) → comparisonOf q (now a) (now b) ≡ x → Handed x a b r → HandedBack q a b r
       go First e is =
           let f : comparisonFor R v w ≡ First = by-rules First e (λ j g. let z : _≡_ {A = ℕ} 0 1 = cc in omega arith) in
-          better (inl is) (handed-best R a b r (rw f is) (inl (better-first R v w .0 f .0))) (λ same. is)
+          answered (record {
+            own = inl is;
+            best = handed-best R a b r (rw f is) (inl (better-first R v w .0 f .0));
+            equal = λ same. is;
+          })
       go Second e is =
           let f : comparisonFor R v w ≡ Second = by-rules Second e (λ j g. let z : _≡_ {A = ℕ} 0 1 = cc in omega arith) in
           let s = better-second R v w .0 f in
-          better (inr is) (handed-best R a b r (rw f is) (inr (s .0)))
-          (λ same. absurd (ranks-irreflexive w (rw (ap routeIn same) at (s .1 (rw (ap routeIn same) (s .0))))))
-      go (Refused k) e is = nothing k e is
+          answered (record {
+            own = inr is;
+            best = handed-best R a b r (rw f is) (inr (s .0));
+            equal = λ same. absurd (ranks-irreflexive w (rw (ap routeIn same) at (s .1 (rw (ap routeIn same) (s .0)))));
+          })
+      go (Refused k) e is = refused k e is
 
 pub better-ranks : (q : Question) (a b : RefT (List ℕ)) → BetterRanks q a b
 better-ranks q a b =

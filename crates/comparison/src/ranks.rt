@@ -6,7 +6,7 @@ ghost use Rattle.rules.specs.Ranking.{registers, precedes, ranksBefore};
 ghost use Rattle.verdict.specs.Verdict.{routeIn, badList};
 
 // Registers without both ends: the visits with code 7, less two.
-pub fn registers_of(words: &[u16]) -> usize
+fn registers_of(words: &[u16]) -> usize
     ensures { λ r. ⌜ r ≡ registers (routeIn (now (words .entry))) ⌝ }
 {
     let visits = words.len() / 2;
@@ -25,7 +25,7 @@ pub fn registers_of(words: &[u16]) -> usize
 }
 
 // The first of two lists of one length has the smaller word at the first difference.
-pub fn written_before(b: &[u16], a: &[u16]) -> bool
+fn written_before(b: &[u16], a: &[u16]) -> bool
     requires { ⌜ length (now b) ≡ length (now a) ⌝ }
     ensures { λ r. ⌜ r ≡ precedes (now (b .entry)) (now (a .entry)) ⌝ }
 {
