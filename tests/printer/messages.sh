@@ -7,8 +7,8 @@ message() { # MESSAGE SED
 last=$(wc -l <examples/crossing.txt)
 message "$(line '^period'): '12x' is not a whole number" 's/^period .*/period 12x/'
 message "$(line '^period'): '-5' is not a whole number" 's/^period .*/period -5/'
-message "$(line '^period'): 65536 is above 65535, the largest number of a job" 's/^period .*/period 65536/'
-message "$(line '^period'): 99999999999999999999999 is above 65535, the largest number of a job" 's/^period .*/period 99999999999999999999999/'
+message "$(line '^period'): 65536 is above 65535, the largest number taken" 's/^period .*/period 65536/'
+message "$(line '^period'): 99999999999999999999999 is above 65535, the largest number taken" 's/^period .*/period 99999999999999999999999/'
 message "$(line '^period'): one number is expected here, not 0" 's/^period .*/period/'
 message "$(line '^period'): one number is expected here, not 2" 's/^period .*/period 1 2/'
 message "$last: the text ends without the line 'period'" 's/^period .*//'
@@ -70,9 +70,9 @@ message "$(line '^limit'): '$cut' is not the name of a line; the names are row, 
 message "$(line '^register'): '$cut' is not expected here; the form is: R NUMBER K NUMBER C NUMBER setup NUMBER" "s/^register.*/register $long 1/"
 message "$(line '# row 2'): cell '$cut': 'a' is none of . x t | _" "s/\.\( *# row 2\)/$long\1/"
 digits=$(tr a 9 <<<"$long")
-message "$(line '^limit'): ${cut//a/9} is above 65535, the largest number of a job" "s/^limit.*/limit $digits/"
-told "an endless text" 2 "" "standard input: longer than 16777216 bytes; no plan is" sh -c "yes | $job write"
-told "an endless job" 2 "" "/dev/zero: longer than 16777216 bytes; no plan is" $job read /dev/zero
+message "$(line '^limit'): ${cut//a/9} is above 65535, the largest number taken" "s/^limit.*/limit $digits/"
+told "an endless text" 2 "" "standard input: longer than 16777216 bytes; no plan or sheet is" sh -c "yes | $job write"
+told "an endless job" 2 "" "/dev/zero: longer than 16777216 bytes; no plan or sheet is" $job read /dev/zero
 
 # ---- jobs
 bad_job() { # NAME BYTES MESSAGE
@@ -94,6 +94,8 @@ bad_job "a text as a job" 'row . .\n' "the job ends after 8 bytes, at the marks 
 usage="usage: job write [TEXT]
        job read [JOB]
        job route PRINTER TEXT [--picture] [--svg FILE]
+       job script TEXT SHEET
+       job verdict PLAYER TEXT SHEET
        job --help
        job --version"
 told "the tool without words" 2 "" "$usage" $job

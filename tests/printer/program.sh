@@ -3,9 +3,9 @@
 $job write examples/crossing.txt >"$work/job"
 same_file "the job of the example" examples/crossing.job "$work/job"
 $printer <"$work/job" >"$work/text"
-same_file "the text of the example" $here/crossing.expected "$work/text"
+same_file "the text of the example" examples/crossing.sheet "$work/text"
 target/brute/brute text <"$work/job" >"$work/text"
-same_file "the brute force on the example" $here/crossing.expected "$work/text"
+same_file "the brute force on the example" examples/crossing.sheet "$work/text"
 
 # 1,024 visits fill the program's words, two more do not fit
 tools/route $here/fits.txt >"$work/text"

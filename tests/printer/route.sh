@@ -8,11 +8,11 @@ $usage" tools/route --pictures examples/crossing.txt
 told "--svg without a file" 2 "" "tools/route: --svg needs the name of a file
 $usage" tools/route examples/crossing.txt --svg
 told "a missing file" 4 "" "examples/missing.txt: No such file or directory (os error 2)" tools/route examples/missing.txt
-told "the example" 0 "$(cat $here/crossing.expected)" "" tools/route examples/crossing.txt
+told "the example" 0 "$(cat examples/crossing.sheet)" "" tools/route examples/crossing.txt
 from_there() { (cd examples && ../tools/route crossing.txt); }
-told "the example, from another folder" 0 "$(cat $here/crossing.expected)" "" from_there
+told "the example, from another folder" 0 "$(cat examples/crossing.sheet)" "" from_there
 from_pipe() { tools/route <(cat examples/crossing.txt); }
-told "the example, from a pipe" 0 "$(cat $here/crossing.expected)" "" from_pipe
+told "the example, from a pipe" 0 "$(cat examples/crossing.sheet)" "" from_pipe
 same "the help's first line" "$usage" "$(tools/route --help | head -n 1)"
 same "the version" "tools/route $(cat tools/VERSION)" "$(tools/route --version | cut -d, -f1)"
 

@@ -80,7 +80,7 @@ pub fn needed_period(plan: &[u8], t: &Tables, q: &Question) -> Option<u32> {
 }
 
 // The fault's place in document 01's order, and a buffer's place.
-fn place(fault: rules::Fault) -> String {
+pub fn place(fault: rules::Fault) -> String {
     match fault {
         rules::Fault::Period => "1".to_string(),
         rules::Fault::Limit => "2".to_string(),

@@ -21,7 +21,7 @@ pub enum Answer {
 }
 
 // Numbers as the program prints them, set apart by single spaces.
-fn numbers(line: &str) -> Option<Vec<u64>> {
+pub fn numbers(line: &str) -> Option<Vec<u64>> {
     line.split(' ').map(|word| word.parse::<u64>().ok().filter(|n| n.to_string() == word)).collect()
 }
 
@@ -53,7 +53,7 @@ pub fn wire(job: &Job, a: u32, b: u32) -> Option<(u32, bool)> {
     (second - first == job.width).then_some((first, false))
 }
 
-fn joined(job: &Job, a: u32, b: u32) -> bool {
+pub fn joined(job: &Job, a: u32, b: u32) -> bool {
     match wire(job, a, b) {
         Some((first, true)) => !job.has_mark(first, CUT_RIGHT),
         Some((first, false)) => !job.has_mark(first, CUT_BELOW),

@@ -13,7 +13,7 @@ pub fn number(word: &str) -> Field<u32> {
     }
     match word.parse::<u64>() {
         Ok(value) if value <= LARGEST as u64 => Ok(value as u32),
-        _ => Err(format!("{} is above {LARGEST}, the largest number of a job", shown(word))),
+        _ => Err(format!("{} is above {LARGEST}, the largest number taken", shown(word))),
     }
 }
 

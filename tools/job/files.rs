@@ -7,6 +7,7 @@ use std::io::{Error, ErrorKind, Read, Write};
 // How the tool ends.
 pub const DONE: u8 = 0; // for a route: found
 pub const NONE: u8 = 1; // no legal route exists
+pub const AT_FAULT: u8 = 1; // for a sheet: a visit is
 pub const TEXT: u8 = 2; // usage, or a text or job that cannot be taken
 pub const REFUSED: u8 = 3; // the planner refuses the job
 pub const FAILED: u8 = 4; // input or output
@@ -48,7 +49,7 @@ impl<'a> Source<'a> {
         };
         read.map_err(|error| failed(OsStr::new(&self.name()), &error))?;
         if bytes.len() as u64 > LONGEST {
-            return failure(TEXT, format!("{}: longer than {LONGEST} bytes; no plan is", self.name()));
+            return failure(TEXT, format!("{}: longer than {LONGEST} bytes; no plan or sheet is", self.name()));
         }
         Ok(bytes)
     }

@@ -1,29 +1,38 @@
-// Plan texts, jobs and routes: a text to job bytes and back, and the route printer's answer with its words and drawings.
-// examples/README.md is its help. Nothing here decides a route: target/bin/route_printer, which is proved, does.
+// Plan texts, jobs, routes and sheets: a text to job bytes and back, the route printer's answer with its words and
+// drawings, the session player's verdict on a sheet in words. examples/README.md is its help. Nothing here decides a route
+// or a verdict: target/bin/route_printer and target/bin/session_player, which are proved, do.
 
 mod answer;
 mod bytes;
+mod causes;
 mod cells;
 mod fields;
 mod files;
 mod job;
 mod picture;
+mod program;
 mod refusals;
 mod route;
+mod script;
+mod sheet;
 mod show;
 mod svg;
 mod text;
+mod verdict;
 mod words;
 
+use answer::Visit;
 use files::{failure, Failure, Source, DONE, TEXT};
 use job::Job;
 use std::ffi::OsString;
 use std::process::ExitCode;
-use text::Lines;
+use text::{Lines, Wrong};
 
 const USAGE: &str = "usage: job write [TEXT]
        job read [JOB]
        job route PRINTER TEXT [--picture] [--svg FILE]
+       job script TEXT SHEET
+       job verdict PLAYER TEXT SHEET
        job --help
        job --version";
 const HELP: &str = include_str!("../../examples/README.md");
@@ -33,7 +42,18 @@ const VERSION: &str = include_str!("../VERSION");
 pub fn read_text(from: &Source) -> Result<(Job, Lines), Failure> {
     let bytes = from.read()?;
     let read = text::decode(bytes).and_then(|text| text::parse(&text));
-    read.or_else(|wrong| failure(TEXT, format!("{}:{}: {}", from.name(), wrong.line, wrong.message)))
+    read.or_else(|wrong| misread(from, wrong))
+}
+
+// The visits of a sheet.
+pub fn read_sheet(from: &Source) -> Result<Vec<Visit>, Failure> {
+    let bytes = from.read()?;
+    let read = text::decode(bytes).and_then(|text| sheet::parse(&text));
+    read.or_else(|wrong| misread(from, wrong))
+}
+
+fn misread<T>(from: &Source, wrong: Wrong) -> Result<T, Failure> {
+    failure(TEXT, format!("{}:{}: {}", from.name(), wrong.line, wrong.message))
 }
 
 fn write(from: &Source) -> Result<u8, Failure> {
@@ -64,6 +84,8 @@ fn run(words: &[OsString]) -> Result<u8, Failure> {
             Some(drawings) => route::run(&words[1], &Source::new(words.get(2)), &drawings),
             None => failure(TEXT, USAGE.to_string()),
         },
+        ["script", _, _] => verdict::write(&Source::new(words.get(1)), &Source::new(words.get(2))),
+        ["verdict", _, _, _] => verdict::run(&words[1], &Source::new(words.get(2)), &Source::new(words.get(3))),
         _ => failure(TEXT, USAGE.to_string()),
     }
 }

@@ -1,5 +1,6 @@
 // A refusal in words. The program gives the number; the text shows what it is about, and where.
 
+use crate::files::{failure, Failure, REFUSED};
 use crate::job::{
     range, Job, BUFFER, BUFFERS, CUT_BELOW, CUT_RIGHT, LIMIT, MARKS, PERIOD, PROGRAM_CELLS, PROGRAM_VISITS,
 };
@@ -47,26 +48,35 @@ fn marks(job: &Job, lines: &Lines) -> Option<Reason> {
     None
 }
 
-// The number of buffers is tested while reading, so before all others.
-fn element(job: &Job, lines: &Lines) -> Option<Reason> {
-    if job.buffers.len() > BUFFERS {
-        let words = format!("{} buffers are given, and at most {BUFFERS} are taken", job.buffers.len());
-        return Some((Some(lines.buffers[BUFFERS]), words));
-    }
+// What is outside its range, in the order of the calls: T, L, horizontal, vertical, register, buffer count, a buffer.
+fn elements(job: &Job, lines: &Lines) -> [Option<Reason>; 7] {
     let each = |what: &str, names: &[&str], values: &[u32]| {
         names.iter().zip(values).find_map(|(name, &v)| outside(&format!("{what} {name}"), v, range(name)))
     };
     let at = |name: &str, words: Option<String>| words.map(|words| (Some(lines.of(name)), words));
+    let count = (job.buffers.len() > BUFFERS).then(|| {
+        let words = format!("{} buffers are given, and at most {BUFFERS} are taken", job.buffers.len());
+        (Some(lines.buffers[BUFFERS]), words)
+    });
     let buffer = |place: usize| {
         let words = each(&format!("buffer {}", place + 1), &BUFFER, &job.buffers[place]);
         words.map(|words| (Some(lines.buffers[place]), words))
     };
-    at("period", outside("period", job.period, PERIOD))
-        .or_else(|| at("limit", outside("limit", job.limit, LIMIT)))
-        .or_else(|| at("horizontal", each("horizontal", &WIRE, &job.horizontal)))
-        .or_else(|| at("vertical", each("vertical", &WIRE, &job.vertical)))
-        .or_else(|| at("register", each("register", &REGISTER, &job.register)))
-        .or_else(|| (0..job.buffers.len()).find_map(buffer))
+    [
+        at("period", outside("period", job.period, PERIOD)),
+        at("limit", outside("limit", job.limit, LIMIT)),
+        at("horizontal", each("horizontal", &WIRE, &job.horizontal)),
+        at("vertical", each("vertical", &WIRE, &job.vertical)),
+        at("register", each("register", &REGISTER, &job.register)),
+        count,
+        (0..job.buffers.len()).find_map(buffer),
+    ]
+}
+
+// The number of buffers is tested while reading, so before all others.
+fn element(job: &Job, lines: &Lines) -> Option<Reason> {
+    let mut all = elements(job, lines);
+    all[5].take().or_else(|| all.into_iter().flatten().next())
 }
 
 fn ends(job: &Job, lines: &Lines) -> Option<Reason> {
@@ -86,7 +96,7 @@ pub fn reason(number: u32, job: &Job, lines: &Lines) -> Option<Reason> {
     let (found, general) = match number {
         1 => (grid(job, lines), "width and height must be 1 to 32"),
         3 => (marks(job, lines), "a cell has a mark that it cannot have"),
-        4 => (element(job, lines), "a number is outside its range"),
+        4 => (element(job, lines), RANGE),
         5 => (ends(job, lines), "source and sink must be two cells of the plan"),
         8 => {
             let words =
@@ -97,4 +107,23 @@ pub fn reason(number: u32, job: &Job, lines: &Lines) -> Option<Reason> {
         _ => return None,
     };
     Some(found.unwrap_or((None, general.to_string())))
+}
+
+const RANGE: &str = "a number is outside its range";
+
+// The same of a call, which reads no job: it names the element at fault itself, by its place in the order from 1.
+pub fn reason_of_call(number: u32, place: usize, job: &Job, lines: &Lines) -> Option<Reason> {
+    match number {
+        4 => {
+            let found = elements(job, lines).into_iter().nth(place.checked_sub(1)?)?;
+            Some(found.unwrap_or((None, RANGE.to_string())))
+        }
+        1 | 3 | 5 => reason(number, job, lines),
+        _ => None,
+    }
+}
+
+pub fn told<T>(name: &str, line: Option<usize>, words: &str, number: u32) -> Result<T, Failure> {
+    let line = line.map_or(String::new(), |line| format!("{line}:"));
+    failure(REFUSED, format!("{name}:{line} {words} (refusal {number})"))
 }

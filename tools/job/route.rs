@@ -1,13 +1,12 @@
 // Asks the proved program for the route of a plan text, and shows what it printed.
 
 use crate::answer::{self, Answer};
-use crate::files::{self, failed, failure, Failure, Source, DONE, FAILED, NONE, REFUSED};
+use crate::files::{self, failure, Failure, Source, DONE, FAILED, NONE};
 use crate::job::Job;
+use crate::program::printed;
 use crate::words::{shown, shown_name};
 use crate::{bytes, picture, read_text, refusals, svg};
 use std::ffi::{OsStr, OsString};
-use std::io::{ErrorKind, Write};
-use std::process::{Command, Stdio};
 
 #[derive(Default)]
 pub struct Drawings<'a> {
@@ -21,32 +20,6 @@ pub fn drawings(options: &[OsString]) -> Option<Drawings<'_>> {
         [word, rest @ ..] if word == "--picture" => Some(Drawings { picture: true, ..drawings(rest)? }),
         [word, file, rest @ ..] if word == "--svg" => Some(Drawings { svg: Some(file), ..drawings(rest)? }),
         _ => None,
-    }
-}
-
-// What the program prints for a job. Its status is 0 whatever happens, so a line on standard error counts as a failure.
-fn printed(printer: &OsStr, job: &[u8]) -> Result<String, Failure> {
-    let broken = |what: String| Failure { status: FAILED, message: format!("{}: {what}", shown_name(printer)) };
-    let piped = || Stdio::piped();
-    let mut child = Command::new(printer)
-        .stdin(piped())
-        .stdout(piped())
-        .stderr(piped())
-        .spawn()
-        .map_err(|error| failed(printer, &error))?;
-    let sent = child.stdin.take().unwrap().write_all(job);
-    let output = child.wait_with_output().map_err(|error| failed(printer, &error))?;
-    let said = String::from_utf8_lossy(&output.stderr);
-    if let Some(line) = said.lines().next() {
-        return Err(broken(format!("it says: {}", shown_name(OsStr::new(line)))));
-    }
-    if !output.status.success() {
-        return Err(broken(format!("it ended with {}", output.status)));
-    }
-    match sent {
-        // the program ends as soon as the job is decided
-        Err(error) if error.kind() != ErrorKind::BrokenPipe => Err(failed(printer, &error)),
-        _ => String::from_utf8(output.stdout).map_err(|_| broken("what it printed is no text".to_string())),
     }
 }
 
@@ -84,9 +57,7 @@ pub fn run(printer: &OsStr, from: &Source, drawings: &Drawings) -> Result<u8, Fa
                 return no_answer(format!("it refused the job of the text with {number}, and did not get it whole"));
             };
             files::print(text.as_bytes())?;
-            let line = line.map_or(String::new(), |line| format!("{line}:"));
-            let place = format!("{}:{line}", from.name());
-            failure(REFUSED, format!("{place} {words} (refusal {number})"))
+            refusals::told(&from.name(), line, &words, number)
         }
         None => no_answer(format!("it printed no answer, but '{}'", shown(text.trim_end()))),
     }

@@ -59,7 +59,10 @@ fn buffer_drives(scratch: &[u16], elements: Elements, at: State, i: usize) -> bo
     if !own.at_most(elements.limit) {
         return false;
     }
-    buffer.driver().after(at.load, at.delay).below(budget_at(scratch, at.cell, own))
+    buffer
+        .driver()
+        .after(at.load, at.delay)
+        .below(budget_at(scratch, at.cell, own))
 }
 
 // The first buffer whose state is in the table, or the number of buffers.

@@ -1,6 +1,6 @@
 -- What each check says once it is known, and what passed checks give.
 use Prim.Native.Nat.{ℕ, _*_}
-use mathlib.Core.Path.{_≡_, refl, _∙_}
+use mathlib.Core.Path.{_≡_, refl, sym, ap, _∙_}
 use mathlib.Core.Bool.{Bool, true, false}
 use native.Mathlib.Omega.{arith}
 use lib.ListN.{length}
@@ -22,6 +22,7 @@ use Rattle.problem.proofs.Sizes.{cells-product}
 use Rattle.question.specs.Question.{Question, Check, passes, fails, rulesAsked, cellsAsked, afterPlan, afterTables, orElse, questionChecks}
 use Rattle.question.specs.Checked.{problemAsked, noProblem, checkedAs, checkedQuestion}
 use Rattle.question.specs.declared.Checked.{Checked}
+use Rattle.question.specs.declared.QuestionCheck.{QuestionCheck}
 
 -- Known checks
 
@@ -123,7 +124,7 @@ rules-asked q = refl
 
 -- What the outcome handed back says of the checks
 
-pub outcome-fails : (q : Question) (r : Refusal) → checkedQuestion q .outcome ≡ Checked.Fails r → questionChecks q passes ≡ fails r
+outcome-fails : (q : Question) (r : Refusal) → checkedQuestion q .outcome ≡ Checked.Fails r → questionChecks q passes ≡ fails r
 unfolding checkedQuestion checkedAs
 outcome-fails q r e = go (questionChecks q passes) refl e
   where
@@ -131,13 +132,22 @@ outcome-fails q r e = go (questionChecks q passes) refl e
     go passes h f = absurd (let z : _≡_ {A = ℕ} 0 1 = cc in omega arith)
     go (fails s) h f = h ∙ cc
 
-pub outcome-passes : (q : Question) → checkedQuestion q .outcome ≡ Checked.Passes → (questionChecks q passes ≡ passes) × (checkedQuestion q .problem ≡ problemAsked q)
+outcome-passes : (q : Question) → checkedQuestion q .outcome ≡ Checked.Passes → (questionChecks q passes ≡ passes) × (checkedQuestion q .problem ≡ problemAsked q)
 unfolding checkedQuestion checkedAs
 outcome-passes q e = go (questionChecks q passes) refl e
   where
     go : (k : Check) → questionChecks q passes ≡ k → checkedAs k (problemAsked q) .outcome ≡ Checked.Passes → (questionChecks q passes ≡ passes) × (checkedAs (questionChecks q passes) (problemAsked q) .problem ≡ problemAsked q)
     go passes h f = (h, rw h)
     go (fails s) h f = absurd (let z : _≡_ {A = ℕ} 0 1 = cc in omega arith)
+
+-- the same of what `check_question` has handed back
+pub told-fails : (q : Question) (c : QuestionCheck) (r : Refusal) → c ≡ checkedQuestion q → c .outcome ≡ Checked.Fails r → questionChecks q passes ≡ fails r
+told-fails q c r e h = outcome-fails q r (sym (ap (λ (x : QuestionCheck). x .outcome) e) ∙ h)
+
+pub told-passes : (q : Question) (c : QuestionCheck) → c ≡ checkedQuestion q → c .outcome ≡ Checked.Passes → (questionChecks q passes ≡ passes) × (c .problem ≡ problemAsked q)
+told-passes q c e h =
+    let p = outcome-passes q (sym (ap (λ (x : QuestionCheck). x .outcome) e) ∙ h) in
+    (p .0, ap (λ (x : QuestionCheck). x .problem) e ∙ p .1)
 
 -- a refusal of the first five is the same whatever follows them
 pub five-fail : (q : Question) (r : Refusal) (rest : Check) → questionChecks q passes ≡ fails r → questionChecks q rest ≡ fails r

@@ -1,5 +1,5 @@
 -- What demand 3 of document 01 says, about the whole list of calls: `Demand3`. Its proof: proofs/Demand3.antt.
--- The session is the run of the step definitions that the contracts of open, set_marks, undo and route equal (Run.antt); the reference model is Model.antt.
+-- The session is the run of the step definitions that the contracts of open, set_marks, undo and the questions equal (Run.antt; `better`, which hands back a reference: Asks/Better.antt); the reference model is Model.antt.
 use Prim.Native.Nat.{ℕ}
 use mathlib.Core.List.{List, [], _∷_, _++_}
 use mathlib.Core.Path.{_≡_}
@@ -30,7 +30,7 @@ pub record AnsweredAt (lines : List Line) (place : ℕ) (a : Ask) (marks : List 
 pub record Answered (p : Plan) (journal : List ℕ) (calls : List Call) : Type 0 where
   -- each call of the list gave what the model gives, and left the plan, record and journal that the model has after it
   pub lines : sessionLines (start p journal) calls ≡ modelLines p [] calls
-  -- each question of the list got the whole reply, answer and words filled, that the rules give for the model's plan at its place: with the moves that stand after the calls before it
+  -- each question of the list got the whole reply, answer and words filled or handed back, that the rules give for the model's plan at its place: with the moves that stand after the calls before it
   pub questions : (before later : List Call) (a : Ask) → calls ≡ before ++ (ask a ∷ later) → AnsweredAt (sessionLines (start p journal) calls) (length before) a (laid (p .marks) (standingAfter p [] before))
   -- the whole list left what the model has
   pub last : sessionView (stateAfter (start p journal) calls) ≡ modelView p (standingAfter p [] calls)

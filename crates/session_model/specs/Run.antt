@@ -1,4 +1,4 @@
--- The run of a session: the calls' own step definitions (session/specs/Steps.antt, router/specs/Route.antt), one after the other.
+-- The run of a session: the calls' own step definitions (session/specs/Steps.antt; for the questions Asks.antt), one after the other.
 use Prim.Native.Nat.{ℕ, zero, suc}
 use mathlib.Core.List.{List, [], _∷_, _++_}
 use lib.ListN.{take}

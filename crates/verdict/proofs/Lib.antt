@@ -3,3 +3,9 @@ pub mod Accepted
 pub mod Checks
 pub mod Faults
 pub mod Steps
+pub mod Passing
+pub mod Arriving
+pub mod Links
+pub mod Places
+pub mod Judged
+pub mod Refusing

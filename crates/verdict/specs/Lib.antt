@@ -1,2 +1,4 @@
 pub mod Verdict
 pub mod Fault
+pub mod Gates
+pub mod Visits

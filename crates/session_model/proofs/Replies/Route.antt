@@ -1,15 +1,12 @@
 -- The route question: what the call hands back and fills is the reply that document 01's rules give, and they give one, the model's, from the lengths of what is lent alone.
 use Prim.Native.Nat.{ℕ, _+_, _*_, _<_}
-use mathlib.Core.Bool.{false}
 use mathlib.Core.List.{List, [], _∷_}
 use mathlib.Core.Path.{_≡_, refl}
 use native.Mathlib.Omega.{arith}
-use borrow.Author.Tests.{ne-eqb, le-leb, lt-leb}
+use borrow.Author.Tests.{le-leb, lt-leb}
 use lib.Dec.{T}
 use lib.ListN.{length, take, replicate, length-replicate}
 use lib.Seq.{take-at}
-use Rattle.plan.specs.Plan.{cells}
-use Rattle.plan.specs.Check.{gridFault, lengthFault, checkedPlan}
 use Rattle.rules.specs.Rules.{Rules}
 use Rattle.rules.specs.Legal.{Route, legal}
 use Rattle.rules.specs.Ranking.{steps, written}
@@ -17,10 +14,11 @@ use Rattle.answers.specs.Numbers.{filledWords}
 use Rattle.answers.specs.declared.answer.Answer.{Answer}
 use Rattle.answers.specs.declared.answer.Refusal.{Refusal}
 use Rattle.emission.proofs.Visits.{written-length}
-use Rattle.router.specs.Route.{Question, rulesAsked, cellsAsked, cellWords, Check, passes, fails, afterPlan, questionChecks, checks, figuresOf, answerAfter, answerOf, visitsAfter, visitsOf, zeroed, scratchAfter, scratchOf}
+use Rattle.router.specs.Route.{Question, rulesAsked, cellsAsked, cellWords, Check, passes, fails, checks, figuresOf, answerAfter, answerOf, visitsAfter, visitsOf, zeroed, scratchAfter, scratchOf}
 use Rattle.router.proofs.Passed.{asked-best, asked-none}
 use Rattle.router.proofs.Demand2.{Demand2, demand-2}
-use Rattle.session_model.specs.Asks.Route.{RouteAsk, RouteReply, AlikeRoutes, asked, zeroedWords, routeGives, zeros, bestReply, checkedReply, routeReply, RouteAnswered, isRefused, noRoute, noRoom, isFound}
+use Rattle.session_model.specs.Asks.Asking.{asked}
+use Rattle.session_model.specs.Asks.Route.{RouteAsk, RouteReply, AlikeRoutes, zeroedWords, routeGives, zeros, bestReply, checkedReply, routeReply, RouteAnswered, isRefused, noRoute, noRoom, isFound}
 
 -- a legal route has visits, so that its words are two for each step and two more
 
@@ -72,12 +70,6 @@ module _ (q : Question) (scratch visits : List ℕ) where
       go passes e = passed-answered e
       go (fails r) e = refused-answered r e
 
--- sides that are no sides of the plan's bytes: refused with 2
-pub other-sides : (a : RouteAsk) (marks : List ℕ) (scratch : ℕ) → gridFault (a .width) (a .height) ≡ false → (length marks ≡ a .width * a .height → ⊥) → checks (asked a marks) scratch ≡ fails Refusal.Length
-unfolding checks questionChecks afterPlan checkedPlan lengthFault cells asked
-other-sides a marks scratch grid other = rw (grid, ne-eqb (length marks) (a .width * a .height) other)
-
 -- contents of what is lent do not matter
-pub alike-routes : {a b : RouteAsk} → AlikeRoutes a b → (marks : List ℕ) → routeReply (asked a marks) (length (a .scratch)) (length (a .visits)) ≡ routeReply (asked b marks) (length (b .scratch)) (length (b .visits))
-unfolding asked
-alike-routes e marks = rw (e .width, e .height, e .tables, e .buffers, e .source, e .sink, e .scratch, e .visits)
+pub alike-routes : {a b : RouteAsk} → AlikeRoutes a b → (marks : List ℕ) → routeReply (asked (a .asking) marks) (length (a .scratch)) (length (a .visits)) ≡ routeReply (asked (b .asking) marks) (length (b .scratch)) (length (b .visits))
+alike-routes e marks = rw (e .asking, e .scratch, e .visits)

@@ -8,22 +8,15 @@ use lib.ListN.{length, take, replicate}
 use Rattle.rules.specs.Legal.{Route, legal}
 use Rattle.rules.specs.Ranking.{steps, written, IsBest}
 use Rattle.best.specs.Best.{Outcome, found, none, best}
-use Rattle.answers.specs.Lists.{listOf}
 use Rattle.answers.specs.Numbers.{filledWords}
-use Rattle.answers.specs.declared.records.Tables.{Tables}
-use Rattle.answers.specs.declared.records.BufferRecord.{BufferRecord}
 use Rattle.answers.specs.declared.answer.Answer.{Answer}
 use Rattle.answers.specs.declared.answer.Refusal.{Refusal}
-use Rattle.router.specs.Route.{Question, questionOf, rulesAsked, cellsAsked, cellWords, Check, passes, fails, checks, figuresOf, answerOf, scratchOf, visitsOf}
+use Rattle.router.specs.Route.{Question, rulesAsked, cellsAsked, cellWords, Check, passes, fails, checks, figuresOf, answerOf, scratchOf, visitsOf}
+use Rattle.session_model.specs.Asks.Asking.{Asking}
 
--- what the route call is lent and told, beside the plan's bytes; the sides are the caller's words too, for the call has no record
+-- the call is lent scratch words and visits, too
 pub record RouteAsk : Type 0 where
-  pub width : ℕ
-  pub height : ℕ
-  pub tables : Tables
-  pub buffers : List BufferRecord
-  pub source : ℕ
-  pub sink : ℕ
+  pub asking : Asking
   pub scratch : List ℕ
   pub visits : List ℕ
 
@@ -35,18 +28,9 @@ pub record RouteReply : Type 0 where
 
 -- the same question put to two sessions: what is lent has equal lengths and may differ in contents
 pub record AlikeRoutes (a b : RouteAsk) : Type 0 where
-  pub width : a .width ≡ b .width
-  pub height : a .height ≡ b .height
-  pub tables : a .tables ≡ b .tables
-  pub buffers : a .buffers ≡ b .buffers
-  pub source : a .source ≡ b .source
-  pub sink : a .sink ≡ b .sink
+  pub asking : a .asking ≡ b .asking
   pub scratch : length (a .scratch) ≡ length (b .scratch)
   pub visits : length (a .visits) ≡ length (b .visits)
-
--- the route call's question on a plan's bytes
-unfoldable pub asked : RouteAsk → List ℕ → Question
-asked a marks = questionOf marks (a .width) (a .height) (a .tables) (listOf (a .buffers)) (a .source) (a .sink)
 
 -- What the call gives: its contract (router/specs/Route.antt).
 

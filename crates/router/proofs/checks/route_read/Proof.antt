@@ -1,14 +1,9 @@
 -- `router::checks::route_read` meets its contract: refusals 1 to 5, then 6, or the route.
-use mathlib.Core.Path.{_≡_, sym, ap, _∙_}
 use native.Mathlib.Omega.{arith}
 use borrow.Author.Needs.{needs}
-use Rattle.answers.specs.declared.answer.Refusal.{Refusal}
 use Rattle.problem.proofs.Sizes.{few-cells}
-use Rattle.question.specs.declared.Checked.{Checked}
-use Rattle.question.specs.declared.QuestionCheck.{QuestionCheck}
-use Rattle.question.specs.Checked.{problemAsked}
-use Rattle.question.proofs.Checks.{outcome-fails, outcome-passes, passed-ready}
-use Rattle.router.specs.Route.{Question, questionOf, passes, fails, questionChecks}
+use Rattle.question.proofs.Checks.{told-fails, told-passes, passed-ready}
+use Rattle.router.specs.Route.{Question, questionOf, passes}
 use Rattle.router.proofs.Refusals.{refused, refused-five, refused-scratch, routed}
 use Rattle.router.proofs.checks.route_read.Statement.{statement}
 use Rattle.router.proofs.checks.route_read.Tie as tie
@@ -20,15 +15,6 @@ start c = c .before .before .before .before
 abbrev asked : tie.Start → Question
 asked s = questionOf (s .args .plan .now) (s .args .width) (s .args .height) (s .args .tables) (s .args .read .list) (s .args .source) (s .args .sink)
 
-five-failed : (c : tie.After-check-question) (r : Refusal) → c .check-question .result .outcome ≡ Checked.Fails r → questionChecks (asked (start c)) passes ≡ fails r
-five-failed c r e =
-    outcome-fails (asked (start c)) r (sym (ap (λ (x : QuestionCheck). x .outcome) (c .check-question .ensures)) ∙ e)
-
-five-passed : (c : tie.After-check-question) → c .check-question .result .outcome ≡ Checked.Passes → (questionChecks (asked (start c)) passes ≡ passes) × (c .check-question .result .problem ≡ problemAsked (asked (start c)))
-five-passed c e =
-    let p = outcome-passes (asked (start c)) (sym (ap (λ (x : QuestionCheck). x .outcome) (c .check-question .ensures)) ∙ e) in
-    (p .0, ap (λ (x : QuestionCheck). x .problem) (c .check-question .ensures) ∙ p .1)
-
 check-question-requires : tie.Need-check-question-requires
 check-question-requires c κs = c .before .before .before .pre
 
@@ -39,7 +25,7 @@ returns : tie.Need-returns
 returns c =
     let k = c .before .before .before in
     let q = asked (start k) in
-    refused q _ _ _ (refused-five q (start k .args .scratch .now) (start k .args .visits .now) _ (five-failed k _ (c .before .outcome .given .1)))
+    refused q _ _ _ (refused-five q (start k .args .scratch .now) (start k .args .visits .now) _ (told-fails q _ _ (k .check-question .ensures) (c .before .outcome .given .1)))
 
 enum-told : tie.Need-enum-told
 enum-told c = search needs
@@ -47,24 +33,24 @@ enum-told c = search needs
 mul-if1 : tie.Need-mul-if1
 mul-if1 c =
     let k = c .before .before in
-    omega (arith, few-cells _ _ (passed-ready (asked (start k)) passes (five-passed k (c .enum-told .given .1) .0)))
+    omega (arith, few-cells _ _ (passed-ready (asked (start k)) passes (told-passes (asked (start k)) _ (k .check-question .ensures) (c .enum-told .given .1) .0)))
 
 returns-2 : tie.Need-returns-2
 returns-2 c =
     let k = c .before .before .before in
     let q = asked (start k) in
-    refused q _ _ _ (refused-scratch q (start k .args .scratch .now) (start k .args .visits .now) (five-passed k (c .before .enum-told .given .1) .0) (c .if1 .taken))
+    refused q _ _ _ (refused-scratch q (start k .args .scratch .now) (start k .args .visits .now) (told-passes q _ (k .check-question .ensures) (c .before .enum-told .given .1) .0) (c .if1 .taken))
 
 costs-of-requires : tie.Need-costs-of-requires
 costs-of-requires c κs =
     let k = c .before .before .before .before .before in
-    let f = five-passed k (c .before .before .before .enum-told .given .1) in
+    let f = told-passes (asked (start k)) _ (k .check-question .ensures) (c .before .before .before .enum-told .given .1) in
     rw (f .1) (passed-ready (asked (start k)) passes (f .0) .valid)
 
 route-ready-requires : tie.Need-route-ready-requires
 route-ready-requires c κs =
     let k = c .before .before .before .before .before .before .before .before .before in
-    let f = five-passed k (c .before .before .before .before .before .before .before .enum-told .given .1) in
+    let f = told-passes (asked (start k)) _ (k .check-question .ensures) (c .before .before .before .before .before .before .before .enum-told .given .1) in
     (rw (f .1) (passed-ready (asked (start k)) passes (f .0)), (c .before .before .before .before .before .before .if1 .left, c .before .before .before .costs-of .ensures))
 
 same-length : tie.Need-same-length
@@ -78,7 +64,7 @@ returns-3 c =
     let n = c .before .before .before .before in
     let e = n .before .before .before .before .before .before .before in
     let k = e .before .before .before in
-    let f = five-passed k (e .before .enum-told .given .1) in
+    let f = told-passes (asked (start k)) _ (k .check-question .ensures) (e .before .enum-told .given .1) in
     let q = asked (start k) in
     routed q _ _ (f .0) (e .if1 .left) _ _ _ (rw (f .1) at (n .route-ready .ensures))
 

@@ -1,0 +1,124 @@
+// The two questions: their refusals in order, then the answer, as the session player prints it.
+
+use crate::comparison::{compare, Choice};
+use crate::judge::{judge, Cause};
+use crate::mix::Mix;
+use crate::plan::{self, Fault};
+use crate::question;
+use crate::rules::{legal, Measured, Problem, Visit};
+
+pub enum Asked {
+    Judge(Vec<u32>),
+    Better(Vec<u32>, Vec<u32>),
+}
+
+fn visits(words: &[u32]) -> Vec<Visit> {
+    words.chunks(2).map(|pair| (pair[0], pair[1])).collect()
+}
+
+fn joined(words: &[u32]) -> String {
+    words.iter().map(|word| format!(" {word}")).collect()
+}
+
+// 17: odd, or under two visits.
+fn misfit(words: &[u32]) -> bool {
+    words.len() % 2 == 1 || words.len() < 4
+}
+
+impl Asked {
+    fn name(&self) -> &'static str {
+        match self {
+            Asked::Judge(_) => "judge",
+            Asked::Better(..) => "better",
+        }
+    }
+
+    pub fn command(&self, p: &Problem) -> String {
+        let head = format!("{} {} {} {} {}", self.name(), p.width, p.height, p.source, p.sink);
+        match self {
+            Asked::Judge(list) => format!("{head} {}{}", list.len(), joined(list)),
+            Asked::Better(a, b) => format!("{head} {}{} {}{}", a.len(), joined(a), b.len(), joined(b)),
+        }
+    }
+
+    // All that is at fault with the question itself, in order.
+    fn faults(&self, p: &Problem) -> Vec<Fault> {
+        let bytes: Vec<u8> = p.marks.iter().map(|&marks| marks as u8).collect();
+        let mut out = plan::faults(p.width, p.height, &bytes);
+        if p.fault().is_some() {
+            out.push((4, "element"));
+        }
+        if p.ends_fail() {
+            out.push((5, "ends"));
+        }
+        let lists = match self {
+            Asked::Judge(list) => misfit(list),
+            Asked::Better(a, b) => misfit(a) || misfit(b),
+        };
+        if lists {
+            out.push((17, "list"));
+        }
+        out
+    }
+
+    // The line that is printed, the session's depth given.
+    pub fn line(&self, p: &Problem, depth: u32, mix: &mut Mix) -> String {
+        let name = self.name();
+        match self {
+            Asked::Judge(_) => mix.lists += 1,
+            Asked::Better(..) => mix.pairs += 1,
+        }
+        let line = |number: u32, rest: &str| format!("{name} {number} depth {depth}{rest}");
+        let faults = self.faults(p);
+        let words = if let Asked::Better(..) = self { " words" } else { "" };
+        if let Some(fault) = faults.first() {
+            mix.refused(name, &faults);
+            if let Asked::Better(a, b) = self {
+                mix.misfits(fault.0, misfit(a), misfit(b));
+            }
+            let place = p.fault().filter(|_| fault.0 == 4).map(question::place);
+            mix.element(name, place.as_deref());
+            let place = place.map_or(String::new(), |place| format!(" fault {place}"));
+            return line(fault.0, &format!("{place}{words}"));
+        }
+        match self {
+            Asked::Judge(list) => line(0, &verdict(p, &visits(list), mix)),
+            Asked::Better(a, b) => {
+                let (number, rest) = comparison(p, a, b, mix);
+                line(number, &rest)
+            }
+        }
+    }
+}
+
+// The judge's verdict, which must agree with the brute force's definition of a legal route.
+fn agreed(p: &Problem, route: &[Visit]) -> Result<Measured, (usize, Cause)> {
+    let (verdict, legal) = (judge(p, route), legal(p, route));
+    assert_eq!(verdict.is_ok(), legal.is_some(), "the judge and the brute force differ: {p:?} {route:?} {verdict:?}");
+    verdict.map(|()| legal.unwrap())
+}
+
+// What is printed after the depth.
+fn verdict(p: &Problem, route: &[Visit], mix: &mut Mix) -> String {
+    match agreed(p, route) {
+        Ok(measured) => {
+            mix.accepted(p, route, &measured);
+            " accepted".to_string()
+        }
+        Err((at, cause)) => {
+            mix.at_fault(p, route, at, cause);
+            format!(" visit {at} {}", cause.fault())
+        }
+    }
+}
+
+fn comparison(p: &Problem, a: &[u32], b: &[u32], mix: &mut Mix) -> (u32, String) {
+    let (first, second) = (visits(a), visits(b));
+    let choice = compare(agreed(p, &first).is_ok(), &first, agreed(p, &second).is_ok(), &second);
+    mix.pair(&choice, &first, &second);
+    match choice {
+        Choice::First(_) => (0, format!(" first words{}", joined(a))),
+        Choice::Second(_) => (0, format!(" second words{}", joined(b))),
+        Choice::Neither => (18, " words".to_string()),
+    }
+}

@@ -1,0 +1,333 @@
+// Questions with known lines, worked out by hand from document 01's strip and its cases R1 to R13: the judge must give
+// them, and so must the program.
+
+use crate::asked::Asked;
+use crate::mix::Mix;
+use crate::rules::{Buffer, Problem, Register, Wire};
+
+pub struct Case {
+    pub name: &'static str,
+    problem: Problem,
+    pub asked: Vec<(Asked, String)>, // and the line
+}
+
+impl Case {
+    pub fn script(&self) -> String {
+        let laid = crate::script::as_it_is(&self.problem);
+        let asked = self.asked.iter().map(|(asked, _)| asked.command(&self.problem) + "\n");
+        laid + &asked.collect::<String>()
+    }
+
+    pub fn lines(&self) -> String {
+        self.asked.iter().map(|(_, line)| format!("{line}\n")).collect()
+    }
+
+    // The lines by the judge.
+    pub fn judged(&self) -> String {
+        let mix = &mut Mix::default();
+        self.asked.iter().map(|(asked, _)| asked.line(&self.problem, 0, mix) + "\n").collect()
+    }
+}
+
+fn strip(period: u32) -> Problem {
+    let wire = Wire { r: 2, c: 3 };
+    Problem {
+        width: 3,
+        height: 1,
+        marks: vec![0, 2, 0],
+        register: Register { r: 1, k: 2, c: 1, setup: 1 },
+        horizontal: wire,
+        vertical: wire,
+        period,
+        limit: 63,
+        source: 0,
+        sink: 2,
+        buffers: vec![],
+    }
+}
+
+fn limited(limit: u32) -> Problem {
+    Problem { limit, ..strip(26) }
+}
+
+fn buffered(period: u32) -> Problem {
+    Problem { buffers: vec![Buffer { r: 1, k: 1, c: 1 }], ..strip(period) }
+}
+
+fn marked(marks: &[u32], p: Problem) -> Problem {
+    Problem { marks: marks.to_vec(), ..p }
+}
+
+fn slow(period: u32) -> Problem {
+    Problem { register: Register { setup: 2, ..strip(period).register }, ..strip(period) }
+}
+
+fn two_rows(period: u32) -> Problem {
+    Problem { height: 2, marks: vec![0, 1, 0, 0, 2, 0], vertical: Wire { r: 0, c: 0 }, ..strip(period) }
+}
+
+fn judge(list: &[u32], line: &str) -> (Asked, String) {
+    (Asked::Judge(list.to_vec()), line.to_string())
+}
+
+fn better(a: &[u32], b: &[u32], line: &str) -> (Asked, String) {
+    (Asked::Better(a.to_vec(), b.to_vec()), line.to_string())
+}
+
+fn case(name: &'static str, problem: Problem, asked: Vec<(Asked, String)>) -> Case {
+    Case { name, problem, asked }
+}
+
+const PLAIN: &[u32] = &[2, 7, 1, 0, 0, 7];
+const REGISTERED: &[u32] = &[2, 7, 1, 7, 0, 7];
+const BUFFERED: &[u32] = &[2, 7, 1, 1, 0, 7];
+const OVER_SINK: &[u32] = &[2, 7, 1, 0, 2, 0, 1, 0, 0, 7];
+const BACK: &[u32] = &[2, 7, 1, 7, 2, 0, 1, 7, 0, 7];
+const TWICE: &[u32] = &[2, 7, 1, 0, 4, 7, 1, 0, 0, 7];
+
+const ACCEPTED: &str = "judge 0 depth 0 accepted";
+
+// R1 to R13: what the router answers is accepted, and the next best list fails where the case says.
+fn routes() -> Vec<Case> {
+    vec![
+        case("R1: closes at 52", strip(26), vec![judge(PLAIN, ACCEPTED), judge(REGISTERED, ACCEPTED)]),
+        case(
+            "R2: 52 is over 50",
+            strip(25),
+            vec![judge(PLAIN, "judge 0 depth 0 visit 2 period"), judge(REGISTERED, ACCEPTED)],
+        ),
+        case("R3: each span closes at 24", strip(12), vec![judge(REGISTERED, ACCEPTED)]),
+        case("R4: 24 is over 22", strip(11), vec![judge(REGISTERED, "judge 0 depth 0 visit 1 period")]),
+        case("R5: load 7 at the source", limited(7), vec![judge(PLAIN, ACCEPTED)]),
+        case(
+            "R6: load 7 is over 6",
+            limited(6),
+            vec![judge(PLAIN, "judge 0 depth 0 visit 2 load"), judge(REGISTERED, ACCEPTED)],
+        ),
+        case(
+            "R7: load 4 is over 3, before the gate",
+            limited(3),
+            vec![
+                judge(PLAIN, "judge 0 depth 0 visit 1 load"),
+                judge(REGISTERED, "judge 0 depth 0 visit 1 load"),
+                better(PLAIN, REGISTERED, "better 18 depth 0 words"),
+            ],
+        ),
+        case(
+            "R8: the buffer's span closes at 44",
+            buffered(22),
+            vec![
+                judge(BUFFERED, ACCEPTED),
+                judge(PLAIN, "judge 0 depth 0 visit 2 period"),
+                better(REGISTERED, BUFFERED, "better 0 depth 0 second words 2 7 1 1 0 7"),
+                better(PLAIN, REGISTERED, "better 0 depth 0 second words 2 7 1 7 0 7"),
+            ],
+        ),
+        case("R9: 44 is over 42", buffered(21), vec![judge(BUFFERED, "judge 0 depth 0 visit 2 period")]),
+        case(
+            "R10: three legal lists",
+            buffered(26),
+            vec![
+                better(PLAIN, BUFFERED, "better 0 depth 0 first words 2 7 1 0 0 7"),
+                better(BUFFERED, PLAIN, "better 0 depth 0 second words 2 7 1 0 0 7"),
+                better(REGISTERED, BUFFERED, "better 0 depth 0 second words 2 7 1 1 0 7"),
+                better(PLAIN, PLAIN, "better 0 depth 0 first words 2 7 1 0 0 7"),
+            ],
+        ),
+        case(
+            "R11: no tap",
+            marked(&[0, 1, 0], strip(25)),
+            vec![judge(REGISTERED, "judge 0 depth 0 visit 1 site"), judge(PLAIN, "judge 0 depth 0 visit 2 period")],
+        ),
+        case(
+            "R12: a blocked cell with a tap",
+            marked(&[0, 3, 0], buffered(22)),
+            vec![judge(REGISTERED, ACCEPTED), judge(BUFFERED, "judge 0 depth 0 visit 1 site")],
+        ),
+        case(
+            "R13: a cell passed twice",
+            two_rows(12),
+            vec![
+                judge(TWICE, ACCEPTED),
+                judge(PLAIN, "judge 0 depth 0 visit 2 period"),
+                judge(REGISTERED, "judge 0 depth 0 visit 1 site"),
+                judge(&[2, 7, 5, 0, 4, 7, 3, 0, 0, 7], ACCEPTED),
+                better(&[2, 7, 5, 0, 4, 7, 3, 0, 0, 7], TWICE, "better 0 depth 0 second words 2 7 1 0 4 7 1 0 0 7"),
+                better(&[2, 7, 1, 0, 4, 7, 4, 0, 0, 7], &[2, 7, 3, 0], "better 18 depth 0 words"),
+            ],
+        ),
+    ]
+}
+
+// Every fault at its places; the order of the tests where several fail.
+fn faults() -> Vec<Case> {
+    vec![
+        case(
+            "the first visit",
+            strip(26),
+            vec![
+                judge(&[1, 7, 2, 0, 0, 7], "judge 0 depth 0 visit 0 cell"),
+                judge(&[3, 0, 2, 0, 0, 7], "judge 0 depth 0 visit 0 cell"),
+                judge(&[65_535, 7, 2, 0, 0, 7], "judge 0 depth 0 visit 0 cell"),
+                judge(&[2, 0, 1, 0, 0, 7], "judge 0 depth 0 visit 0 site"),
+                judge(&[2, 8, 9, 0, 0, 7], "judge 0 depth 0 visit 0 site"),
+            ],
+        ),
+        case(
+            "C(reg) 1 is over 0",
+            limited(0),
+            vec![judge(PLAIN, "judge 0 depth 0 visit 0 load"), judge(&[2, 1, 1, 0], "judge 0 depth 0 visit 0 site")],
+        ),
+        case(
+            "the last visit",
+            strip(26),
+            vec![
+                judge(&[2, 7, 1, 7], "judge 0 depth 0 visit 1 cell"),
+                judge(&[2, 7, 2, 7], "judge 0 depth 0 visit 1 cell"),
+                judge(&[2, 7, 1, 0, 3, 7], "judge 0 depth 0 visit 2 cell"),
+                judge(&[2, 7, 0, 7], "judge 0 depth 0 visit 1 wire"),
+                judge(&[2, 7, 1, 0, 0, 0, 0, 7], "judge 0 depth 0 visit 3 wire"),
+                judge(&[2, 7, 1, 0, 0, 0], "judge 0 depth 0 visit 2 site"),
+                judge(&[2, 7, 1, 0, 0, 8], "judge 0 depth 0 visit 2 site"),
+            ],
+        ),
+        case(
+            "in between",
+            marked(&[2, 2, 2], buffered(26)),
+            vec![
+                judge(&[2, 7, 3, 0, 0, 7], "judge 0 depth 0 visit 1 cell"),
+                judge(&[2, 7, 2, 0, 1, 0, 0, 7], "judge 0 depth 0 visit 1 wire"),
+                judge(&[2, 7, 0, 9, 1, 0, 0, 7], "judge 0 depth 0 visit 1 wire"),
+                judge(&[2, 7, 1, 2, 0, 7], "judge 0 depth 0 visit 1 site"),
+                judge(&[2, 7, 1, 8, 0, 7], "judge 0 depth 0 visit 1 site"),
+                judge(&[2, 7, 1, 65_535, 0, 7], "judge 0 depth 0 visit 1 site"),
+                judge(&[2, 7, 1, 7, 2, 7, 1, 7, 0, 7], "judge 0 depth 0 visit 2 site"),
+                judge(&[2, 7, 1, 7, 0, 1, 1, 7, 0, 7], "judge 0 depth 0 visit 2 site"),
+                judge(BACK, ACCEPTED), // its second span is R1's
+            ],
+        ),
+        // 2 + 10 + 22 + 34 + 46 = 114 with load 13 at the source, which adds 2 (13 + 2)
+        case(
+            "closes at 144, over the sink",
+            strip(72),
+            vec![
+                judge(OVER_SINK, ACCEPTED),
+                better(REGISTERED, OVER_SINK, "better 0 depth 0 second words 2 7 1 0 2 0 1 0 0 7"),
+                better(OVER_SINK, PLAIN, "better 0 depth 0 second words 2 7 1 0 0 7"),
+            ],
+        ),
+        case("144 is over 142", strip(71), vec![judge(OVER_SINK, "judge 0 depth 0 visit 4 period")]),
+        case(
+            "fewer steps, later in written order",
+            Problem { source: 2, sink: 0, ..strip(72) },
+            vec![better(
+                &[0, 7, 1, 0, 0, 0, 1, 0, 2, 7],
+                &[0, 7, 1, 0, 2, 7],
+                "better 0 depth 0 second words 0 7 1 0 2 7",
+            )],
+        ),
+        case(
+            "load before period",
+            Problem { limit: 6, ..strip(25) },
+            vec![judge(PLAIN, "judge 0 depth 0 visit 2 load")],
+        ),
+        // setup 2: the first span closes at 26, the second at 4 + 10 + 22 + 18
+        case("a span closes at 54", slow(27), vec![judge(BACK, ACCEPTED)]),
+        case("54 is over 52", slow(26), vec![judge(BACK, "judge 0 depth 0 visit 3 period")]),
+        case(
+            "cut wires, and the next row's first cell",
+            marked(&[8, 5, 0, 0, 2, 0], Problem { height: 2, ..strip(100) }),
+            vec![
+                judge(PLAIN, "judge 0 depth 0 visit 1 wire"),
+                judge(&[2, 7, 3, 0, 0, 7], "judge 0 depth 0 visit 1 wire"),
+                judge(&[2, 7, 5, 0, 4, 7, 3, 0, 0, 7], "judge 0 depth 0 visit 4 wire"),
+                judge(&[2, 7, 5, 0, 4, 7, 1, 0, 0, 7], ACCEPTED),
+            ],
+        ),
+        case(
+            "a buffer of load 9 is over 8",
+            Problem { buffers: vec![Buffer { r: 0, k: 0, c: 9 }], limit: 8, ..strip(26) },
+            vec![judge(BUFFERED, "judge 0 depth 0 visit 1 load"), judge(PLAIN, ACCEPTED)],
+        ),
+    ]
+}
+
+// Each step adds 255 · 2 · 63 half-ticks, in all a little more than a power of two: no width of a number forgets them.
+fn past_powers() -> Case {
+    let problem = Problem {
+        width: 2,
+        marks: vec![0, 0],
+        sink: 1,
+        horizontal: Wire { r: 255, c: 0 },
+        register: Register { c: 63, ..Register::default() },
+        ..strip(30_000)
+    };
+    let asked = [16, 17, 18, 19, 20, 22, 24, 25, 26].map(|power| {
+        let steps = (1u32 << power).div_ceil(255 * 2 * 63); // an odd number: the last one leads to cell 0
+        let mut list: Vec<u32> = (0..=steps).flat_map(|at| [(at + 1) % 2, 0]).collect();
+        (list[1], list[2 * steps as usize + 1]) = (7, 7);
+        judge(&list, &format!("judge 0 depth 0 visit {steps} period"))
+    });
+    case("delays past a power of two", problem, asked.into())
+}
+
+// The refusals, the first of several.
+fn refusals() -> Vec<Case> {
+    let ends = Problem { sink: 0, ..strip(26) };
+    let table = Problem { limit: 64, ..ends.clone() };
+    let buffer = Problem { buffers: vec![Buffer::default(), Buffer { r: 0, k: 1_001, c: 0 }], ..strip(26) };
+    let stray = marked(&[0, 2, 4], table.clone());
+    let short = Problem { height: 2, ..stray.clone() };
+    let grid = Problem { height: 33, ..short.clone() };
+    let list: &[u32] = &[2, 7, 1];
+    vec![
+        case(
+            "17",
+            strip(26),
+            vec![
+                judge(&[], "judge 17 depth 0"),
+                judge(&[2], "judge 17 depth 0"),
+                judge(&[2, 7], "judge 17 depth 0"),
+                judge(&[9, 9, 9], "judge 17 depth 0"),
+                judge(&[2, 7, 1, 0, 0], "judge 17 depth 0"),
+                better(PLAIN, list, "better 17 depth 0 words"),
+                better(&[], PLAIN, "better 17 depth 0 words"),
+                better(&[2, 7], &[2, 7, 1, 0, 0, 7, 0], "better 17 depth 0 words"),
+                better(list, &[2, 7, 1, 7], "better 17 depth 0 words"),
+            ],
+        ),
+        case("5 before 17", ends, vec![judge(list, "judge 5 depth 0"), better(list, PLAIN, "better 5 depth 0 words")]),
+        case(
+            "4 before 5",
+            table,
+            vec![judge(list, "judge 4 depth 0 fault 2"), better(PLAIN, list, "better 4 depth 0 fault 2 words")],
+        ),
+        case(
+            "4 of the second buffer",
+            buffer,
+            vec![judge(PLAIN, "judge 4 depth 0 fault 7 2"), better(PLAIN, PLAIN, "better 4 depth 0 fault 7 2 words")],
+        ),
+        case("3 before 4", stray, vec![judge(list, "judge 3 depth 0"), better(list, list, "better 3 depth 0 words")]),
+        case("2 before 3", short, vec![judge(list, "judge 2 depth 0"), better(list, list, "better 2 depth 0 words")]),
+        case("1 before 2", grid, vec![judge(list, "judge 1 depth 0"), better(list, list, "better 1 depth 0 words")]),
+    ]
+}
+
+pub fn cases() -> Vec<Case> {
+    [routes(), faults(), vec![past_powers()], refusals()].into_iter().flatten().collect()
+}
+
+const NO_NUMBER: &str = "a number is missing";
+const TOO_LARGE: &str = "a number is too large";
+
+// Commands that are wrong at their last word, and what is said of them.
+pub const BAD: [(&str, &str); 8] = [
+    ("judge 3 1 0 show", NO_NUMBER),
+    ("judge 65536", TOO_LARGE),
+    ("judge 3 1 0 2 8193", TOO_LARGE),
+    ("judge 3 1 0 2 6 2 7 1 7 0 show", NO_NUMBER),
+    ("judge 3 1 0 2 6 2 65536", TOO_LARGE),
+    ("better 3 1 0 2 8193", TOO_LARGE),
+    ("better 3 1 0 2 4 2 7 0 7 8193", TOO_LARGE),
+    ("better 3 1 0 2 4 2 7 0 7 4 2 7 0 show", NO_NUMBER),
+];

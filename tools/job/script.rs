@@ -1,0 +1,34 @@
+// The session player's script that asks for the verdict on a sheet; crates/session_player/src/main.rt tells the format.
+
+use crate::answer::Visit;
+use crate::job::Job;
+
+// The most that a script takes. What is above is cut: the planner refuses the rest alike, since a plan of so many cells
+// has a side over 32, a mark above 15 is above 15, and buffers are at most 6.
+const PLAN: usize = 1_100;
+const MARK: u32 = 255;
+const BUFFERS: usize = 20;
+
+fn command(name: &str, numbers: impl Iterator<Item = u32>) -> String {
+    name.to_string() + &numbers.map(|n| format!(" {n}")).collect::<String>() + "\n"
+}
+
+// The numbers after their count.
+fn counted(numbers: Vec<u32>, each: usize) -> impl Iterator<Item = u32> {
+    std::iter::once((numbers.len() / each) as u32).chain(numbers)
+}
+
+pub fn judging(job: &Job, visits: &[Visit]) -> String {
+    let marks = job.marks.iter().take(PLAN).map(|&marks| marks.min(MARK)).collect();
+    let tables = job.register.iter().chain(&job.horizontal).chain(&job.vertical).chain([&job.period, &job.limit]);
+    let buffers = job.buffers.iter().take(BUFFERS).flatten().copied().collect();
+    let words = visits.iter().flat_map(|visit| [visit.cell, visit.code]).collect();
+    let asked = [job.width, job.height, job.source, job.sink];
+    [
+        command("plan", counted(marks, 1)),
+        command("tables", tables.copied()),
+        command("buffers", counted(buffers, 3)),
+        command("judge", asked.into_iter().chain(counted(words, 1))),
+    ]
+    .concat()
+}
