@@ -3,7 +3,7 @@ use Prim.Native.Nat.{ℕ}
 use mathlib.Core.Bool.{true, false, _||_}
 use mathlib.Core.List.{List, []}
 use mathlib.Core.Logic.{_↔_, _⊎_, inl, inr}
-use mathlib.Core.Path.{_≡_, refl, sym, ap}
+use mathlib.Core.Path.{_≡_, refl, ap}
 use native.Mathlib.Omega.{arith}
 use denote.Ref.{RefT, now}
 use lib.Dec.{T}
@@ -53,17 +53,17 @@ pub record BetterRanks (q : Question) (a b : RefT (List ℕ)) : Type 0 where
 
 module _ (q : Question) (a b : List ℕ) where
   -- 1 to 5
-  pub refused-five : (k : Refusal) → questionChecks q passes ≡ fails k → Refused k ≡ comparisonOf q a b
+  pub refused-five : (k : Refusal) → questionChecks q passes ≡ fails k → comparisonOf q a b ≡ Refused k
   unfolding comparisonOf comparisonAfter
   refused-five k e = rw (five-fail q k _ e, comparisonAfter)
 
   module _ (five : questionChecks q passes ≡ passes) where
     -- 17: either list
-    pub refused-list : (badList a || badList b) ≡ true → Refused Refusal.RouteList ≡ comparisonOf q a b
+    pub refused-list : (badList a || badList b) ≡ true → comparisonOf q a b ≡ Refused Refusal.RouteList
     unfolding comparisonOf comparisonAfter
     refused-list e = rw (first-five q _ five, e, comparisonAfter)
 
-    pub compared : badList a ≡ false → badList b ≡ false → comparisonFor (rulesAsked q) (routeIn a) (routeIn b) ≡ comparisonOf q a b
+    pub compared : badList a ≡ false → badList b ≡ false → comparisonOf q a b ≡ comparisonFor (rulesAsked q) (routeIn a) (routeIn b)
     unfolding comparisonOf comparisonAfter
     compared e f = rw (first-five q _ five, e, f, comparisonAfter)
 
@@ -111,8 +111,8 @@ module _ (q : Question) (a b : RefT (List ℕ)) where
 pub better-ranks : (q : Question) (a b : RefT (List ℕ)) → BetterRanks q a b
 better-ranks q a b =
     record {
-      five = λ k e. sym (refused-five q (now a) (now b) k e);
-      lists = λ five e. sym (refused-list q (now a) (now b) five e);
-      ranked = λ five e f. rw (sym (compared q (now a) (now b) five e f)) (record { first = better-first _ _ _; second = better-second _ _ _; neither = better-none _ _ _ });
+      five = refused-five q (now a) (now b);
+      lists = refused-list q (now a) (now b);
+      ranked = λ five e f. rw (compared q (now a) (now b) five e f) (record { first = better-first _ _ _; second = better-second _ _ _; neither = better-none _ _ _ });
       handed = handed-back q a b;
     }

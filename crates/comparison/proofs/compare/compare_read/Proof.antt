@@ -1,14 +1,11 @@
 -- `comparison::compare::compare_read` meets its contract: refusals 1 to 5, then 17, or the comparison.
 use mathlib.Core.Bool.{or-true}
 use mathlib.Core.Logic.{⊎-elim}
-use mathlib.Core.Path.{_≡_, sym, ap, _∙_}
+use mathlib.Core.Path.{_≡_, sym, _∙_}
 use borrow.Author.Needs.{needs}
-use Rattle.answers.specs.declared.answer.Refusal.{Refusal}
-use Rattle.question.specs.declared.Checked.{Checked}
-use Rattle.question.specs.declared.QuestionCheck.{QuestionCheck}
 use Rattle.question.specs.Checked.{problemAsked}
-use Rattle.question.specs.Question.{Question, questionOf, passes, fails, questionChecks}
-use Rattle.question.proofs.Checks.{outcome-fails, outcome-passes, passed-ready, rules-asked}
+use Rattle.question.specs.Question.{Question, questionOf, passes, questionChecks}
+use Rattle.question.proofs.Checks.{told-fails, told-passes, passed-ready, rules-asked}
 use Rattle.verdict.specs.Verdict.{badList}
 use Rattle.comparison.proofs.Calls.{refused-five, refused-list, compared}
 use Rattle.comparison.proofs.compare.compare_read.Statement.{statement}
@@ -21,14 +18,9 @@ start c = c .before .before .before .before
 abbrev asked : tie.Start → Question
 asked s = questionOf (s .args .plan .now) (s .args .width) (s .args .height) (s .args .tables) (s .args .read .list) (s .args .source) (s .args .sink)
 
-five-failed : (c : tie.After-check-question) (r : Refusal) → c .check-question .result .outcome ≡ Checked.Fails r → questionChecks (asked (start c)) passes ≡ fails r
-five-failed c r e =
-    outcome-fails (asked (start c)) r (sym (ap (λ (x : QuestionCheck). x .outcome) (c .check-question .ensures)) ∙ e)
-
-five-passed : (c : tie.After-check-question) → c .check-question .result .outcome ≡ Checked.Passes → (questionChecks (asked (start c)) passes ≡ passes) × (c .check-question .result .problem ≡ problemAsked (asked (start c)))
-five-passed c e =
-    let p = outcome-passes (asked (start c)) (sym (ap (λ (x : QuestionCheck). x .outcome) (c .check-question .ensures)) ∙ e) in
-    (p .0, ap (λ (x : QuestionCheck). x .problem) (c .check-question .ensures) ∙ p .1)
+-- checks 1 to 5 have passed, and the problem is the question's
+passed : (c : tie.After-enum-told) → (questionChecks (asked (start (c .before .before))) passes ≡ passes) × (c .before .before .check-question .result .problem ≡ problemAsked (asked (start (c .before .before))))
+passed c = told-passes _ _ (c .before .before .check-question .ensures) (c .enum-told .given .1)
 
 check-question-requires : tie.Need-check-question-requires
 check-question-requires c κs = c .before .before .before .pre
@@ -39,7 +31,8 @@ enum-known-outcome c = search needs
 returns : tie.Need-returns
 returns c =
     let k = c .before .before .before in
-    refused-five (asked (start k)) _ _ _ (five-failed k _ (c .before .outcome .given .1))
+    let q = asked (start k) in
+    sym (refused-five q _ _ _ (told-fails q _ _ (k .check-question .ensures) (c .before .outcome .given .1)))
 
 enum-told : tie.Need-enum-told
 enum-told c = search needs
@@ -53,32 +46,30 @@ bad-list-requires-2 c κs = search needs
 returns-2 : tie.Need-returns-2
 returns-2 c =
     let n = c .before in
-    let k = n .before .before .before in
-    let s = start k in
-    refused-list (asked s) (s .args .a .now) (s .args .b .now) (five-passed k (n .before .enum-told .given .1) .0)
+    let s = start (n .before .before .before) in
+    sym
+    (refused-list (asked s) (s .args .a .now) (s .args .b .now) (passed (n .before) .0)
     (⊎-elim
     (λ w. rw (sym (n .bad-list .ensures) ∙ w .taken))
     (λ w. rw (sym (w .1 .ensures) ∙ w .2 .taken) (or-true (badList (s .args .a .now))))
-    (c .if1 .came))
+    (c .if1 .came)))
 
 compare-ready-requires : tie.Need-compare-ready-requires
 compare-ready-requires c κs =
     let m = c .before .before in
     let n = m .before .before in
-    let k = n .before .before .before in
-    let f = five-passed k (n .before .enum-told .given .1) in
-    (rw (f .1) (passed-ready (asked (start k)) passes (f .0)), (sym (n .bad-list .ensures) ∙ m .before .if1 .left, sym (m .bad-list2 .ensures) ∙ c .before .if2 .left))
+    let f = passed (n .before) in
+    (rw (f .1) (passed-ready (asked (start (n .before .before .before))) passes (f .0)), (sym (n .bad-list .ensures) ∙ m .before .if1 .left, sym (m .bad-list2 .ensures) ∙ c .before .if2 .left))
 
 returns-3 : tie.Need-returns-3
 returns-3 c =
     let e = c .before .before in
     let m = e .before in
     let n = m .before .before in
-    let k = n .before .before .before in
-    let f = five-passed k (n .before .enum-told .given .1) in
-    let q = asked (start k) in
+    let f = passed (n .before) in
+    let q = asked (start (n .before .before .before)) in
     rw (f .1, rules-asked q) at (c .compare-ready .ensures)
-    ∙ compared q _ _ (f .0) (sym (n .bad-list .ensures) ∙ m .before .if1 .left) (sym (m .bad-list2 .ensures) ∙ e .if2 .left)
+    ∙ sym (compared q _ _ (f .0) (sym (n .bad-list .ensures) ∙ m .before .if1 .left) (sym (m .bad-list2 .ensures) ∙ e .if2 .left))
 
 pub compare-read-spec : {M : Type 1} → statement M
 compare-read-spec =
