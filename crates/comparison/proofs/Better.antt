@@ -19,7 +19,7 @@ use Rattle.comparison.specs.Better.{comparisonFor, Handed}
 
 -- The comparison by its three tests: `a` and `b`, the lists are legal; `c`, the second ranks before the first.
 
-abbrev chosen : Bool → Bool → Bool → Comparison
+abbrev pub chosen : Bool → Bool → Bool → Comparison
 chosen a b c = cond a (cond (b && c) Second First) (cond b Second (Refused Refusal.NoneLegal))
 
 chosen-first : (a b c : Bool) → (chosen a b c ≡ First) ↔ (T a × (T b → T c → ⊥))
@@ -72,6 +72,11 @@ module _ (R : Rules) (a b : Route) where
   unfolding comparisonFor
   better-none = chosen-none (legal R a) (legal R b) (ranksBefore b a)
 
+  -- the comparison where the three tests are known
+  pub known : (x y z : Bool) → legal R a ≡ x → legal R b ≡ y → ranksBefore b a ≡ z → chosen x y z ≡ comparisonFor R a b
+  unfolding comparisonFor
+  known x y z e f g = rw (e, f, g)
+
   better-view : Chosen (legal R a) (legal R b) (ranksBefore b a) (comparisonFor R a b)
   unfolding comparisonFor
   better-view = chosen-view (legal R a) (legal R b) (ranksBefore b a)
@@ -86,8 +91,9 @@ pub record BestOf (R : Rules) (a b r : Route) : Type 0 where
   pub firstAfter : T (legal R a) → T (ranksBefore a r) → ⊥
   pub secondAfter : T (legal R b) → T (ranksBefore b r) → ⊥
 
-pub better-ranks : (R : Rules) (a b r : RefT (List ℕ)) → Handed (comparisonFor R (routeIn (now a)) (routeIn (now b))) a b r → T (legal R (routeIn (now a))) ⊎ T (legal R (routeIn (now b))) → BestOf R (routeIn (now a)) (routeIn (now b)) (routeIn (now r))
-better-ranks R a b r handed some = go (comparisonFor R q s) handed (better-view R q s)
+-- the list handed back by the rules
+pub handed-best : (R : Rules) (a b r : RefT (List ℕ)) → Handed (comparisonFor R (routeIn (now a)) (routeIn (now b))) a b r → T (legal R (routeIn (now a))) ⊎ T (legal R (routeIn (now b))) → BestOf R (routeIn (now a)) (routeIn (now b)) (routeIn (now r))
+handed-best R a b r handed some = go (comparisonFor R q s) handed (better-view R q s)
   where
     q : Route
     q = routeIn (now a)

@@ -1,2 +1,4 @@
 pub mod Better
 pub mod Words
+pub mod Rest
+pub mod Calls

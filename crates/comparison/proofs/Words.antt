@@ -1,19 +1,17 @@
 -- The ranking of two lists by their words: registers, then lengths, then lexicographic order.
-use Prim.Native.Nat.{ℕ, suc, _+_, _*_, _-_, _%_, _≤_, _<_}
-use mathlib.Core.Bool.{false, _&&_, _||_, cond}
+use Prim.Native.Nat.{ℕ, _*_, _-_, _%_, _≤_, _<_}
+use mathlib.Core.Bool.{false, _&&_, _||_, or-false}
 use mathlib.Core.List.{List}
 use mathlib.Core.Path.{_≡_, sym, _∙_}
 use mathlib.Core.Logic.{_⊎_, inl, inr}
 use native.Mathlib.Omega.{arith}
 use borrow.Author.Tests.{lt-ltb, le-ltb, eq-eqb, ne-eqb}
 use lib.Dec.{eqb, ltb}
-use lib.ListN.{length, drop, getD, drop-of-length-le}
-use lib.Seq.{drop-cons}
+use lib.ListN.{length}
 use Rattle.plan.proofs.Truth.{split, equal}
-use Rattle.rules.specs.Rules.{registerCode}
-use Rattle.rules.specs.Ranking.{codeSevens, registers, steps, precedes, key, ranksBefore}
-use Rattle.verdict.specs.Verdict.{routeIn}
-use Rattle.verdict.proofs.Routes.{written-route, visits-even, visits-most, route-cons}
+use Rattle.rules.specs.Ranking.{registers, steps, precedes, key, ranksBefore}
+use Rattle.verdict.specs.Verdict.{routeIn, badList}
+use Rattle.verdict.proofs.Routes.{written-route, visits-even, good-even, good-length}
 
 -- two tests agree where the facts do
 
@@ -32,6 +30,9 @@ same-equal a b c d f g = go (equal a b)
     go : (a ≡ b) ⊎ (a ≡ b → ⊥) → eqb a b ≡ eqb c d
     go (inl e) = eq-eqb a b e ∙ sym (eq-eqb c d (f e))
     go (inr n) = ne-eqb a b n ∙ sym (ne-eqb c d (λ e. n (g e)))
+
+not-less : {m n : ℕ} → m ≡ n → ltb m n ≡ false
+not-less {m} {n} e = le-ltb m n (omega arith)
 
 module _ (a b : List ℕ) (evenA : length a % 2 ≡ 0) (evenB : length b % 2 ≡ 0) (longA : 4 ≤ length a) (longB : 4 ≤ length b) where
   fewer-steps-words : ltb (steps (routeIn b)) (steps (routeIn a)) ≡ ltb (length b) (length a)
@@ -52,20 +53,18 @@ module _ (a b : List ℕ) (evenA : length a % 2 ≡ 0) (evenB : length b % 2 ≡
   unfolding ranksBefore key precedes
   ranks-words = rw (fewer-steps-words, same-steps-words, written-route a evenA, written-route b evenB)
 
--- What loops over the words use: the registers' codes of one visit more, and the order one word further
+-- The ranking of two lists that are not refused, decided by the first of the three that differs
 
-pub sevens-next : (ws : List ℕ) (i : ℕ) → 2 * i + 1 < length ws → codeSevens (drop i (routeIn ws)) ≡ cond (eqb (getD ws (2 * i + 1) 0) registerCode) 1 0 + codeSevens (drop (suc i) (routeIn ws))
-unfolding codeSevens
-sevens-next ws i h = rw (route-cons ws i h, codeSevens)
+module _ (b a : List ℕ) (goodB : badList b ≡ false) (goodA : badList a ≡ false) where
+  ranks-good : ranksBefore (routeIn b) (routeIn a) ≡ (ltb (registers (routeIn b)) (registers (routeIn a)) || (eqb (registers (routeIn b)) (registers (routeIn a)) && (ltb (length b) (length a) || (eqb (length b) (length a) && precedes b a))))
+  ranks-good = ranks-words a b (good-even a goodA) (good-even b goodB) (good-length a goodA) (good-length b goodB)
 
-pub sevens-end : (ws : List ℕ) (i : ℕ) → length ws ≤ 2 * i → codeSevens (drop i (routeIn ws)) ≡ 0
-unfolding codeSevens
-sevens-end ws i h = rw (drop-of-length-le (routeIn ws) {i = i} (omega (arith, visits-most ws)))
+  pub ranks-by-registers : (registers (routeIn b) ≡ registers (routeIn a) → ⊥) → ranksBefore (routeIn b) (routeIn a) ≡ ltb (registers (routeIn b)) (registers (routeIn a))
+  ranks-by-registers n = rw (ranks-good, ne-eqb _ _ n) (or-false _)
 
-pub precedes-next : (a b : List ℕ) (i : ℕ) → i < length a → i < length b → precedes (drop i b) (drop i a) ≡ (ltb (getD b i 0) (getD a i 0) || (eqb (getD b i 0) (getD a i 0) && precedes (drop (suc i) b) (drop (suc i) a)))
-unfolding precedes
-precedes-next a b i h k = rw (drop-cons a i 0 h, drop-cons b i 0 k, precedes)
+  module _ (same : registers (routeIn b) ≡ registers (routeIn a)) where
+    pub ranks-by-lengths : (length b ≡ length a → ⊥) → ranksBefore (routeIn b) (routeIn a) ≡ ltb (length b) (length a)
+    ranks-by-lengths n = rw (ranks-good, not-less same, eq-eqb _ _ same, ne-eqb _ _ n) (or-false _)
 
-pub precedes-end : (a b : List ℕ) (i : ℕ) → length a ≤ i → length b ≤ i → precedes (drop i b) (drop i a) ≡ false
-unfolding precedes
-precedes-end a b i h k = rw (drop-of-length-le a {i = i} h, drop-of-length-le b {i = i} k)
+    pub ranks-by-words : length b ≡ length a → ranksBefore (routeIn b) (routeIn a) ≡ precedes b a
+    ranks-by-words e = rw (ranks-good, not-less same, eq-eqb _ _ same, not-less e, eq-eqb _ _ e)
