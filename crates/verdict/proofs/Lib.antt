@@ -9,3 +9,4 @@ pub mod Links
 pub mod Places
 pub mod Judged
 pub mod Refusing
+pub mod Exact
