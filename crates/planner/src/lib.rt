@@ -9,15 +9,22 @@ use session::set_marks_at;
 use session::undo_at;
 
 mod buffers;
+mod lists;
 
 pub use answers::Answer;
 pub use answers::BufferRecord;
+pub use answers::Comparison;
 pub use answers::Fault;
 pub use answers::Figures;
 pub use answers::Refusal;
 pub use answers::RegisterRecord;
 pub use answers::Tables;
+pub use answers::Verdict;
+pub use answers::VisitFault;
 pub use answers::WireRecord;
+pub use lists::better;
+pub use lists::compare;
+pub use lists::judge;
 pub use session::Session;
 pub use session::SessionAnswer;
 pub use session::SessionStep;
