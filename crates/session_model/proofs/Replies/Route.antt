@@ -1,6 +1,6 @@
 -- The route question: what the call hands back and fills is the reply that document 01's rules give, and they give one, the model's, from the lengths of what is lent alone.
-use Prim.Native.Nat.{ℕ, _+_, _*_, _<_}
-use mathlib.Core.List.{List, [], _∷_}
+use Prim.Native.Nat.{ℕ, _+_, _*_}
+use mathlib.Core.List.{List}
 use mathlib.Core.Path.{_≡_, refl}
 use native.Mathlib.Omega.{arith}
 use borrow.Author.Tests.{le-leb, lt-leb}
@@ -14,6 +14,7 @@ use Rattle.answers.specs.Numbers.{filledWords}
 use Rattle.answers.specs.declared.answer.Answer.{Answer}
 use Rattle.answers.specs.declared.answer.Refusal.{Refusal}
 use Rattle.emission.proofs.Visits.{written-length}
+use Rattle.verdict.proofs.Accepted.{legal-visits}
 use Rattle.router.specs.Route.{Question, rulesAsked, cellsAsked, cellWords, Check, passes, fails, checks, figuresOf, answerAfter, answerOf, visitsAfter, visitsOf, zeroed, scratchAfter, scratchOf}
 use Rattle.router.proofs.Passed.{asked-best, asked-none}
 use Rattle.router.proofs.Demand2.{Demand2, demand-2}
@@ -21,15 +22,9 @@ use Rattle.session_model.specs.Asks.Asking.{asked}
 use Rattle.session_model.specs.Asks.Route.{RouteAsk, RouteReply, AlikeRoutes, zeroedWords, routeGives, zeros, bestReply, checkedReply, routeReply, RouteAnswered, isRefused, noRoute, noRoom, isFound}
 
 -- a legal route has visits, so that its words are two for each step and two more
-
-some-visit : (R : Rules) (r : Route) → T (legal R r) → 0 < length r
-unfolding legal
-some-visit R [] h = absurd h
-some-visit R (v ∷ vs) h = omega arith
-
-written-words : (R : Rules) (r : Route) → T (legal R r) → length (written r) ≡ 2 * (steps r + 1)
+pub written-words : (R : Rules) (r : Route) → T (legal R r) → length (written r) ≡ 2 * (steps r + 1)
 unfolding steps
-written-words R r h = omega (arith, written-length r, some-visit R r h)
+written-words R r h = omega (arith, written-length r, legal-visits R r h)
 
 -- The rules give one reply, and it is the model's.
 module _ (q : Question) (scratch room : ℕ) where
