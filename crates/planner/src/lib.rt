@@ -9,7 +9,7 @@ use session::set_marks_at;
 use session::undo_at;
 
 mod buffers;
-mod lists;
+mod route_lists;
 
 pub use answers::Answer;
 pub use answers::BufferRecord;
@@ -22,9 +22,9 @@ pub use answers::Tables;
 pub use answers::Verdict;
 pub use answers::VisitFault;
 pub use answers::WireRecord;
-pub use lists::better;
-pub use lists::compare;
-pub use lists::judge;
+pub use route_lists::better;
+pub use route_lists::compare;
+pub use route_lists::judge;
 pub use session::Session;
 pub use session::SessionAnswer;
 pub use session::SessionStep;

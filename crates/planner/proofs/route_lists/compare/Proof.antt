@@ -60,10 +60,10 @@ use Rattle.comparison.proofs.compare_read as work
 use Rattle.comparison.proofs.compare_read.Symbol as work-def
 use Rattle.comparison.proofs.compare_read.Symbol.{name as #comparison·compare-read}
 use Rattle.comparison.proofs.compare_read.Met as work-thm
-use Rattle.planner.proofs.lists.compare.Key.{name as #planner·compare}
-use Rattle.planner.proofs.lists.compare as self
-use Rattle.planner.proofs.lists.compare.Statement as stated
-use Rattle.planner.proofs.lists.compare.Code as code
+use Rattle.planner.proofs.route_lists.compare.Key.{name as #planner·compare}
+use Rattle.planner.proofs.route_lists.compare as self
+use Rattle.planner.proofs.route_lists.compare.Statement as stated
+use Rattle.planner.proofs.route_lists.compare.Code as code
 
 abbrev stayed : Stays (self.ended .signature .params) (self.ended .kept)
 stayed = (stay-dropped (shrSliceOf (0 ∷ []) tt (plain (λ _. u8))) yes, (stay-dropped (plain (λ _. u16)) yes, (stay-dropped (plain (λ _. u16)) yes, (stay-dropped (plain (λ _. Tablesᵀ.the-row)) yes, (stay-dropped (shrSliceOf (1 ∷ []) tt (plain (λ _. BufferRecordᵀ.the-row))) yes, (stay-dropped (plain (λ _. u16)) yes, (stay-dropped (plain (λ _. u16)) yes, (stay-dropped (shrSliceOf (2 ∷ []) tt (plain (λ _. u16))) yes, (stay-dropped (shrSliceOf (3 ∷ []) tt (plain (λ _. u16))) yes, tt)))))))))

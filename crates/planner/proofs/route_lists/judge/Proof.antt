@@ -60,10 +60,10 @@ use Rattle.verdict.proofs.judge_read as work
 use Rattle.verdict.proofs.judge_read.Symbol as work-def
 use Rattle.verdict.proofs.judge_read.Symbol.{name as #verdict·judge-read}
 use Rattle.verdict.proofs.judge_read.Met as work-thm
-use Rattle.planner.proofs.lists.judge.Key.{name as #planner·judge}
-use Rattle.planner.proofs.lists.judge as self
-use Rattle.planner.proofs.lists.judge.Statement as stated
-use Rattle.planner.proofs.lists.judge.Code as code
+use Rattle.planner.proofs.route_lists.judge.Key.{name as #planner·judge}
+use Rattle.planner.proofs.route_lists.judge as self
+use Rattle.planner.proofs.route_lists.judge.Statement as stated
+use Rattle.planner.proofs.route_lists.judge.Code as code
 
 abbrev stayed : Stays (self.ended .signature .params) (self.ended .kept)
 stayed = (stay-dropped (shrSliceOf (0 ∷ []) tt (plain (λ _. u8))) yes, (stay-dropped (plain (λ _. u16)) yes, (stay-dropped (plain (λ _. u16)) yes, (stay-dropped (plain (λ _. Tablesᵀ.the-row)) yes, (stay-dropped (shrSliceOf (1 ∷ []) tt (plain (λ _. BufferRecordᵀ.the-row))) yes, (stay-dropped (plain (λ _. u16)) yes, (stay-dropped (plain (λ _. u16)) yes, (stay-dropped (shrSliceOf (2 ∷ []) tt (plain (λ _. u16))) yes, tt))))))))

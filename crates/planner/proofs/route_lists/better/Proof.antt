@@ -56,10 +56,10 @@ use Rattle.comparison.proofs.better_read as work
 use Rattle.comparison.proofs.better_read.Symbol as work-def
 use Rattle.comparison.proofs.better_read.Symbol.{name as #comparison·better-read}
 use Rattle.comparison.proofs.better_read.Met as work-thm
-use Rattle.planner.proofs.lists.better.Key.{name as #planner·better}
-use Rattle.planner.proofs.lists.better as self
-use Rattle.planner.proofs.lists.better.Statement as stated
-use Rattle.planner.proofs.lists.better.Code as code
+use Rattle.planner.proofs.route_lists.better.Key.{name as #planner·better}
+use Rattle.planner.proofs.route_lists.better as self
+use Rattle.planner.proofs.route_lists.better.Statement as stated
+use Rattle.planner.proofs.route_lists.better.Code as code
 
 abbrev stayed : Stays (self.ended .signature .params) (self.ended .kept)
 stayed = (stay-dropped (shrSliceOf (0 ∷ []) tt (plain (λ _. u8))) yes, (stay-dropped (plain (λ _. u16)) yes, (stay-dropped (plain (λ _. u16)) yes, (stay-dropped (plain (λ _. Tablesᵀ.the-row)) yes, (stay-dropped (shrSliceOf (1 ∷ []) tt (plain (λ _. BufferRecordᵀ.the-row))) yes, (stay-dropped (plain (λ _. u16)) yes, (stay-dropped (plain (λ _. u16)) yes, (stay-dropped (shrSliceOf (2 ∷ []) tt (plain (λ _. u16))) yes, (stay-dropped (shrSliceOf (2 ∷ []) tt (plain (λ _. u16))) yes, tt)))))))))
