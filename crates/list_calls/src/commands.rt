@@ -41,7 +41,7 @@ pub fn judge(src: &[u8], c: Cursor, p: Player, plan: &[u8], words: &mut [u16]) -
 }
 
 // Both calls on the two lists, and the line; whether it was written.
-fn compared(net: Net, p: Player, plan: &[u8], a: &[u16], b: &[u16]) -> bool {
+fn compared<'a>(net: Net, p: Player, plan: &[u8], a: &'a [u16], b: &'a [u16]) -> bool {
     let tables = p.tables;
     let list = p.list;
     let which = compare_with(
