@@ -109,9 +109,7 @@ pub fn play(
         if src.len() <= at {
             return true;
         }
-        let t = one_command(
-            src, at, p, plan, journal, scratch, visits, first, second,
-        );
+        let t = one_command(src, at, p, plan, journal, scratch, visits, first, second);
         let cursor = t.cursor;
         if cursor.bad != 0 {
             return stopped(src, cursor);

@@ -6,7 +6,6 @@ use borrow.Author.Needs.{needs}
 use Rattle.question.specs.Checked.{problemAsked}
 use Rattle.question.specs.Question.{Question, questionOf, passes, questionChecks}
 use Rattle.question.proofs.Checks.{told-fails, told-passes, passed-ready, rules-asked}
-use Rattle.verdict.specs.Verdict.{badList}
 use Rattle.comparison.proofs.Calls.{refused-five, refused-list, compared}
 use Rattle.comparison.proofs.compare.compare_read.Statement.{statement}
 use Rattle.comparison.proofs.compare.compare_read.Tie as tie
@@ -51,7 +50,7 @@ returns-2 c =
     (refused-list (asked s) (s .args .a .now) (s .args .b .now) (passed (n .before) .0)
     (⊎-elim
     (λ w. rw (sym (n .bad-list .ensures) ∙ w .taken))
-    (λ w. rw (sym (w .1 .ensures) ∙ w .2 .taken) (or-true (badList (s .args .a .now))))
+    (λ w. simp (sym (w .1 .ensures) ∙ w .2 .taken, or-true))
     (c .if1 .came)))
 
 compare-ready-requires : tie.Need-compare-ready-requires
