@@ -1,4 +1,5 @@
 // The planner's calls for outsiders. Nothing is required of what they lend; every answer is stated for every input.
+// The calls on route lists, `judge`, `compare` and `better`, are in route_lists.rt.
 ghost use Rattle.answers.specs.Lists.{listOf};
 ghost use Rattle.router.specs.Route.{questionOf, Routed};
 ghost use Rattle.session.specs.Steps.{stateOf, Opened, Moved, Undone};
