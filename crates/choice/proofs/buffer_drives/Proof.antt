@@ -42,7 +42,7 @@ unfolding bufferAt bufferOf driverOf
 after-requires c κs =
     let start = c .before .before .before .before .before .before .before in
     let driver : c .driver .result ≡ bufferDriver (bufferAt (start .args .t2) (start .args .i)) = c .driver .ensures in
-    (rw driver (buffer-driver-fits (start .pre .0 .valid) (start .args .i) (omega arith)), (start .pre .0 .light, start .pre .0 .early))
+    (rw driver (buffer-driver-fits (start .pre .0 .valid) (start .args .i) (omega arith)), (start .pre .0 .light, omega (arith, start .pre .0 .early)))
 
 budget-at-requires : tie.Need-budget-at-requires
 unfolding bufferAt bufferOf driverOf

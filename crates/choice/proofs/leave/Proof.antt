@@ -71,7 +71,7 @@ unfolding bufferAt bufferOf driverOf
 after-requires c κs =
     let start = c .before .before .before .before .before in
     let driver : c .driver .result ≡ bufferDriver (bufferAt (start .args .t1) (start .args .code - 1)) = c .driver .ensures in
-    (rw driver (buffer-driver-fits (start .pre .0) (start .args .code - 1) (omega (arith, c .before .before .before .if2 .left))), (start .pre .1 .0, start .pre .1 .1 .0))
+    (rw driver (buffer-driver-fits (start .pre .0) (start .args .code - 1) (omega (arith, c .before .before .before .if2 .left))), (start .pre .1 .0, omega (arith, start .pre .1 .1 .0)))
 
 returns-3 : tie.Need-returns-3
 unfolding leftLoad leftDelay bufferAt bufferOf driverOf
