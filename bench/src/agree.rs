@@ -1,6 +1,6 @@
 //! Small random plans on which both sides must agree.
 
-use crate::legal;
+use crate::judge::judge;
 use crate::ours::{self, Ours};
 use crate::peer::{Plain, Tuned};
 use crate::plans::Random;
@@ -78,7 +78,7 @@ pub fn run(count: u64, seed: u64) -> bool {
         let (got, peer, tuned) = (ours::registers(answer), b.route(&p), c.route(&p));
         let written = match got {
             None => Ok(0),
-            Some(_) => legal::registers(&p, a.written(answer)),
+            Some(_) => judge(&p, a.written(answer)),
         };
         if got != peer || got != tuned || written != Ok(got.unwrap_or(0)) {
             println!(

@@ -1,16 +1,18 @@
-//! Our route call against the published algorithm, on the same plans in the same run.
+//! Our route call against the published algorithm, on the same plans in the same run; the verdict against a plain judge.
 //!
 //!     route_bench                          the table, with the geometric means
 //!     route_bench growth                   how the times grow with cells, buffers and load limit
 //!     route_bench agree [N] [SEED]         N small random plans on which all must agree
+//!     route_bench verdict                  the verdict on lists of up to a million visits, and a plain judge on the same
 //!     route_bench stack                    bytes of stack that a call takes
 //!     route_bench names                    the names of the table's plans
 //!     route_bench once PLAN SIDE [N]       N calls of a side (ours, search, peer, tuned), for a profiler
+//!     route_bench judge LIST VISITS SIDE [N]    N verdicts of a side (ours, peer) on a list by its place, for a profiler
 //!
-//! The status is not 0 where the two differ in the number of registers.
+//! The status is not 0 where the two differ in the number of registers, or a verdict is not what it must be.
 
 mod agree;
-mod legal;
+mod judge;
 mod lists;
 mod ours;
 mod peer;
@@ -18,6 +20,8 @@ mod plans;
 mod problem;
 mod queues;
 mod stack;
+mod verdict;
+mod walks;
 
 use ours::{Answer, Ours};
 use peer::{Plain, Tuned};
@@ -98,7 +102,7 @@ impl Sides {
             return None;
         }
         if let Some(k) = got {
-            let written = legal::registers(p, self.ours.written(answer));
+            let written = judge::judge(p, self.ours.written(answer));
             if written != Ok(k) {
                 println!("MISMATCH: {k} registers, in the route written {written:?}");
                 return None;
@@ -259,14 +263,21 @@ fn main() {
         None => table(Duration::from_millis(150)),
         Some(&"growth") => growth(Duration::from_millis(30)),
         Some(&"agree") => agree::run(number(1, 20000), number(2, 1)),
+        Some(&"verdict") => verdict::run(Duration::from_millis(400)),
         Some(&"stack") => stack::run(vec![
             ("8 x 8", shapes_of(8)),
             ("32 x 32", table_plans().into_iter().map(|p| p.problem).collect()),
         ]),
         Some(&"names") => names(),
+        Some(&"judge") if words.len() > 3 => {
+            verdict::once(number(1, 0) as usize, number(2, 10_000) as usize, words[3], number(4, 1))
+        }
         Some(&"once") if words.len() > 2 => once(words[1], words[2], number(3, 1)),
         Some(_) => {
-            eprintln!("usage: route_bench [growth | agree [N] [SEED] | stack | names | once PLAN SIDE [N]]");
+            eprintln!(
+                "usage: route_bench [growth | agree [N] [SEED] | verdict | stack | names | once PLAN SIDE [N] | \
+                 judge LIST VISITS SIDE [N]]"
+            );
             false
         }
     };

@@ -1,4 +1,5 @@
-//! The proved route call: `bench_entry` of crates/bench_entry, linked from target/staticlib/libbench_entry.a.
+//! The proved route call and verdict: `bench_entry` and `bench_judge` of crates/bench_entry, linked from
+//! target/staticlib/libbench_entry.a.
 
 use crate::problem::Problem;
 
@@ -22,6 +23,23 @@ unsafe extern "C" {
         figures: *mut u32,
         figures_len: usize,
     ) -> u16;
+
+    fn bench_judge(
+        plan: *const u8,
+        plan_len: usize,
+        width: u16,
+        height: u16,
+        tables: *const u16,
+        tables_len: usize,
+        buffers: *const u16,
+        buffers_len: usize,
+        source: u16,
+        sink: u16,
+        list: *const u16,
+        list_len: usize,
+        found: *mut u64,
+        found_len: usize,
+    ) -> u16;
 }
 
 #[derive(Clone, Copy, PartialEq, Debug)]
@@ -30,6 +48,14 @@ pub struct Answer {
     pub registers: u32,
     pub steps: u32,
     pub latency: u32,
+}
+
+/// A verdict as the entry tells it.
+#[derive(Clone, Copy, PartialEq, Debug)]
+pub struct Found {
+    pub number: u16,
+    /// accepted, the visit at fault, the fault's place, the place of refusal 4
+    pub words: [u64; 4],
 }
 
 /// What is lent to the call, once for all calls.
@@ -64,6 +90,30 @@ impl Ours {
     /// The words of the route that an answer of 0 has written.
     pub fn written(&self, a: Answer) -> &[u16] {
         &self.visits[..2 * (a.steps as usize + 1)]
+    }
+
+    /// The verdict on a list.
+    pub fn judge(&self, p: &Problem, list: &[u16]) -> Found {
+        let mut words = [9u64; 4];
+        let number = unsafe {
+            bench_judge(
+                p.marks.as_ptr(),
+                p.marks.len(),
+                p.width as u16,
+                p.height as u16,
+                self.tables.as_ptr(),
+                self.tables.len(),
+                self.buffers.as_ptr(),
+                self.buffers.len(),
+                p.source as u16,
+                p.sink as u16,
+                list.as_ptr(),
+                list.len(),
+                words.as_mut_ptr(),
+                words.len(),
+            )
+        };
+        Found { number, words }
     }
 
     fn call(&mut self, p: &Problem, room: usize) -> Answer {

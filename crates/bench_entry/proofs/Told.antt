@@ -1,4 +1,4 @@
--- What the lengths say, and what the stores of the figures leave.
+-- What the lengths say, and what the stores of the results leave.
 use Prim.Native.Nat.{ℕ, _≤_, _%_}
 use mathlib.Core.Bool.{Bool, true, false, _&&_}
 use mathlib.Core.Path.{_≡_, refl}
@@ -11,7 +11,10 @@ use Rattle.answers.specs.declared.answer.Figures.{Figures}
 use Rattle.answers.specs.declared.answer.Answer.{Answer}
 use Rattle.answers.specs.Numbers.{answerFigures}
 use Rattle.job.specs.Fields.{tableNumbers}
-use Rattle.bench_entry.specs.Words.{figureNumbers, lengthsRight, answerFault, figureWords}
+use Rattle.bench_entry.specs.Words.{resultNumbers, lengthsRight}
+use Rattle.bench_entry.specs.Effect.{answerFault, figureWords}
+use Rattle.bench_entry.specs.Judged.{foundWords}
+use Rattle.bench_entry.specs.declared.found.Found.{Found}
 
 -- four stores from the start
 four-set : (xs : List ℕ) (a b c d : ℕ) → length xs ≡ 4 → set (set (set (set xs 0 a) 1 b) 2 c) 3 d ≡ a ∷ b ∷ c ∷ d ∷ []
@@ -26,13 +29,17 @@ pub stored : (a : Answer) (xs : List ℕ) (f : Figures) (k : ℕ) → f ≡ answ
 unfolding figureWords
 stored a xs f k e g h = rw (e, g) (four-set xs _ _ _ _ h)
 
+pub found-stored : (f : Found) (xs : List ℕ) → length xs ≡ 4 → set (set (set (set xs 0 (f .accepted)) 1 (f .visit)) 2 (f .fault)) 3 (f .element) ≡ foundWords f
+unfolding foundWords
+found-stored f xs h = four-set xs _ _ _ _ h
+
 -- right lengths, read off their test
-pub right-lengths : (t b f : ℕ) → lengthsRight t b f ≡ true → (tableNumbers ≤ t) × (f ≡ figureNumbers)
+pub right-lengths : (t b f : ℕ) → lengthsRight t b f ≡ true → (tableNumbers ≤ t) × (f ≡ resultNumbers)
 unfolding lengthsRight
-right-lengths t b f h = go (eqb t tableNumbers) (eqb (b % 3) 0) (eqb f figureNumbers) refl refl h
+right-lengths t b f h = go (eqb t tableNumbers) (eqb (b % 3) 0) (eqb f resultNumbers) refl refl h
   where
-    go : (x y z : Bool) → eqb t tableNumbers ≡ x → eqb f figureNumbers ≡ z → (x && y && z) ≡ true → (tableNumbers ≤ t) × (f ≡ figureNumbers)
-    go true true true e g k = let ten = eqb-true t tableNumbers e in (omega arith, eqb-true f figureNumbers g)
+    go : (x y z : Bool) → eqb t tableNumbers ≡ x → eqb f resultNumbers ≡ z → (x && y && z) ≡ true → (tableNumbers ≤ t) × (f ≡ resultNumbers)
+    go true true true e g k = let ten = eqb-true t tableNumbers e in (omega arith, eqb-true f resultNumbers g)
     go true true false e g k = let z : _≡_ {A = ℕ} 0 1 = cc in absurd (omega arith)
     go true false z e g k = let z : _≡_ {A = ℕ} 0 1 = cc in absurd (omega arith)
     go false y z e g k = let z : _≡_ {A = ℕ} 0 1 = cc in absurd (omega arith)

@@ -1,12 +1,24 @@
--- The whole effect of the entry: the number that it returns, and what it leaves in the words lent.
+-- The whole effect of the entry to the route call: the number that it returns, and what it leaves in the words lent.
 -- It rests on what no call can test: the areas lent are as long as the caller says, and lie apart from one another.
 use Prim.Native.Nat.{ℕ}
 use mathlib.Core.Bool.{Bool, true, false}
 use mathlib.Core.Path.{_≡_}
-use mathlib.Core.List.{List}
-use Rattle.answers.specs.Numbers.{answerNumber}
+use mathlib.Core.List.{List, [], _∷_}
+use Rattle.answers.specs.Numbers.{answerNumber, answerFigures}
+use Rattle.answers.specs.declared.answer.Answer.{Answer}
+use Rattle.answers.specs.declared.answer.Answer.the-variants.{Found, NoRoom, Refused}
 use Rattle.router.specs.Route.{Question, answerOf, scratchOf, visitsOf}
-use Rattle.bench_entry.specs.Words.{figureWords}
+use Rattle.bench_entry.specs.Words.{refusalFault}
+
+-- refusal 4's place; 0 for every other answer
+abbrev pub answerFault : Answer → ℕ
+answerFault (Found f) = 0
+answerFault (NoRoom f) = 0
+answerFault (Refused r) = refusalFault r
+
+-- registers, steps, latency, fault
+unfoldable pub figureWords : Answer → List ℕ
+figureWords a = answerFigures a .registers ∷ answerFigures a .steps ∷ answerFigures a .latency ∷ answerFault a ∷ []
 
 -- the route call's effect
 pub record BenchAnswered (q : Question) (scratch scratch′ visits visits′ figures′ : List ℕ) (r : ℕ) : Type 0 where

@@ -1,26 +1,23 @@
--- The question that numbers and words make, and the words that an answer makes. The tables' words are in the job's order.
+-- What both entries share: the lengths, the question that numbers and words make, and the place of refusal 4. The tables' words are in the job's order.
 use Prim.Native.Nat.{ℕ, _+_, _/_, _%_}
 use mathlib.Core.Bool.{Bool, _&&_}
-use mathlib.Core.List.{List, [], _∷_}
+use mathlib.Core.List.{List}
 use lib.Dec.{eqb}
 use lib.ListN.{length}
-use Rattle.answers.specs.Numbers.{answerFigures}
 use Rattle.answers.specs.declared.records.BufferList.{BufferList}
 use Rattle.answers.specs.declared.answer.Fault.{Fault}
 use Rattle.answers.specs.declared.answer.Fault.the-variants.{Period, Limit, Horizontal, Vertical, Register, Count, Buffer}
 use Rattle.answers.specs.declared.answer.Refusal.{Refusal}
 use Rattle.answers.specs.declared.answer.Refusal.the-variants.{Grid, Length, Mark, Element, Ends, Scratch, NoRoute, RouteList, NoneLegal}
-use Rattle.answers.specs.declared.answer.Answer.{Answer}
-use Rattle.answers.specs.declared.answer.Answer.the-variants.{Found, NoRoom, Refused}
 use Rattle.job.specs.Fields.{tablesOf, tableNumbers, bufferListOf}
-use Rattle.router.specs.Route.{Question, questionOf}
+use Rattle.question.specs.Question.{Question, questionOf}
 
--- ten words of tables, three words a buffer, four words for the figures
-abbrev pub figureNumbers : ℕ
-figureNumbers = 4
+-- ten words of tables, three words a buffer, four words for what is told
+abbrev pub resultNumbers : ℕ
+resultNumbers = 4
 
 unfoldable pub lengthsRight : ℕ → ℕ → ℕ → Bool
-lengthsRight tables buffers figures = eqb tables tableNumbers && eqb (buffers % 3) 0 && eqb figures figureNumbers
+lengthsRight tables buffers results = eqb tables tableNumbers && eqb (buffers % 3) 0 && eqb results resultNumbers
 
 -- the list of so many buffers
 unfoldable pub buffersIn : List ℕ → BufferList
@@ -50,12 +47,3 @@ refusalFault Scratch = 0
 refusalFault NoRoute = 0
 refusalFault RouteList = 0
 refusalFault NoneLegal = 0
-
-abbrev pub answerFault : Answer → ℕ
-answerFault (Found f) = 0
-answerFault (NoRoom f) = 0
-answerFault (Refused r) = refusalFault r
-
--- registers, steps, latency, fault
-unfoldable pub figureWords : Answer → List ℕ
-figureWords a = answerFigures a .registers ∷ answerFigures a .steps ∷ answerFigures a .latency ∷ answerFault a ∷ []

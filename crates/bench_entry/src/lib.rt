@@ -1,23 +1,26 @@
-// The benchmark's own entry to the route call, on numbers and lent words; not offered to anyone else. It has the whole
-// promise of the route call. That the areas lent are as long as said and lie apart is the caller's duty.
+// The benchmark's own entries to the route call and to the verdict, on numbers and lent words; not offered to anyone else.
+// Each has the whole promise of its call. That the areas lent are as long as said and lie apart is the caller's duty.
 ghost use Prim.Native.Nat.{_≤_};
 ghost use mathlib.Core.Path.{_≡_};
 ghost use lib.ListN.{length};
 ghost use Rattle.job.specs.Fields.{tableNumbers};
-ghost use Rattle.bench_entry.specs.Words.{lengthsRight, figureNumbers, benchQuestion};
+ghost use Rattle.bench_entry.specs.Words.{lengthsRight, resultNumbers, benchQuestion};
 ghost use Rattle.bench_entry.specs.Effect.{BenchAnswered, BenchEffect};
-use crate::figures::FIGURES;
 use crate::figures::write_figures;
+use crate::lengths::WRONG_LENGTH;
+use crate::lengths::lengths_right;
 use crate::words::read_buffers;
-use job::TABLE_NUMBERS;
 use job::tables_of;
 use router::route_with;
 
+mod faults;
 mod figures;
+mod found;
+mod judge;
+mod lengths;
 mod words;
 
-// What is returned where a lent list has a wrong length; the route call's numbers are 0 to 8.
-const WRONG_LENGTH: u16 = 15;
+pub use judge::bench_judge;
 
 // The best route. Returns document 01's number, 0 to 8. `tables` holds ten words: register R K C setup, horizontal R C,
 // vertical R C, T, L. `buffers` holds R K C of each. `figures` gets registers, steps, latency and the fault of refusal 4.
@@ -54,19 +57,6 @@ pub extern "C" fn bench_entry(
     WRONG_LENGTH
 }
 
-// Ten words of tables, three words a buffer, four words for the figures.
-fn lengths_right(tables: usize, buffers: usize, figures: usize) -> bool
-    ensures { λ r. ⌜ r ≡ lengthsRight tables buffers figures ⌝ }
-{
-    if tables != TABLE_NUMBERS {
-        return false;
-    }
-    if buffers % 3 != 0 {
-        return false;
-    }
-    figures == FIGURES
-}
-
 // The call, where the lengths are right.
 fn ask(
     plan: &[u8],
@@ -80,7 +70,7 @@ fn ask(
     visits: &mut [u16],
     figures: &mut [u32],
 ) -> u16
-    requires { ⌜ (tableNumbers ≤ length (now tables)) × (length (now figures) ≡ figureNumbers) ⌝ }
+    requires { ⌜ (tableNumbers ≤ length (now tables)) × (length (now figures) ≡ resultNumbers) ⌝ }
     ensures { λ r. ⌜ BenchAnswered (benchQuestion (now (plan .entry)) width height (now (tables .entry)) (now (buffers .entry)) source sink) (now (scratch .entry)) (now (scratch .exit)) (now (visits .entry)) (now (visits .exit)) (now (figures .exit)) r ⌝ }
 {
     let raw = tables_of(tables);

@@ -1,8 +1,8 @@
 -- The three tests, one after the other.
 use borrow.Author.Tests.{eq-eqb, ne-eqb}
 use Rattle.bench_entry.specs.Words.{lengthsRight}
-use Rattle.bench_entry.proofs.lengths_right.Statement.{statement}
-use Rattle.bench_entry.proofs.lengths_right.Tie as tie
+use Rattle.bench_entry.proofs.lengths.lengths_right.Statement.{statement}
+use Rattle.bench_entry.proofs.lengths.lengths_right.Tie as tie
 
 returns : tie.Need-returns
 unfolding lengthsRight

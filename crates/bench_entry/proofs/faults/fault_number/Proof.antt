@@ -2,8 +2,8 @@
 use mathlib.Core.Path.{sym, ap}
 use borrow.Author.Needs.{needs}
 use Rattle.bench_entry.specs.Words.{faultPlace}
-use Rattle.bench_entry.proofs.figures.fault_number.Statement.{statement}
-use Rattle.bench_entry.proofs.figures.fault_number.Tie as tie
+use Rattle.bench_entry.proofs.faults.fault_number.Statement.{statement}
+use Rattle.bench_entry.proofs.faults.fault_number.Tie as tie
 
 enum-told : tie.Need-enum-told
 enum-told c = search needs

@@ -1,0 +1,47 @@
+-- The whole effect of the entry to the verdict: the number that it returns, and what it leaves in the words lent.
+-- It rests on what no call can test: the areas lent are as long as the caller says, and lie apart from one another.
+use Prim.Native.Nat.{ℕ, _+_}
+use mathlib.Core.Bool.{Bool, true, false}
+use mathlib.Core.Path.{_≡_}
+use mathlib.Core.List.{List, [], _∷_}
+use Rattle.answers.specs.Numbers.{verdictNumber}
+use Rattle.answers.specs.declared.verdict.VisitFault.{VisitFault}
+use Rattle.answers.specs.declared.verdict.VisitFault.the-variants.{Cell, Wire, Site, Load, Period}
+use Rattle.answers.specs.declared.verdict.Verdict.{Verdict}
+use Rattle.answers.specs.declared.verdict.Verdict.the-variants.{Accepted, AtFault, Refused}
+use Rattle.question.specs.Question.{Question}
+use Rattle.verdict.specs.Verdict.{verdictOf}
+use Rattle.bench_entry.specs.Words.{refusalFault}
+use Rattle.bench_entry.specs.declared.found.Found.{Found}
+
+-- the place of a fault in the order of the tests, from 1
+abbrev pub visitFaultPlace : VisitFault → ℕ
+visitFaultPlace Cell = 1
+visitFaultPlace Wire = 2
+visitFaultPlace Site = 3
+visitFaultPlace Load = 4
+visitFaultPlace Period = 5
+
+-- what is told of a verdict
+abbrev pub foundOf : Verdict → Found
+foundOf Accepted = record { accepted = 1; visit = 0; fault = 0; element = 0 }
+foundOf (AtFault i f) = record { accepted = 0; visit = i; fault = visitFaultPlace f; element = 0 }
+foundOf (Refused r) = record { accepted = 0; visit = 0; fault = 0; element = refusalFault r }
+
+unfoldable pub foundWords : Found → List ℕ
+foundWords f = f .accepted ∷ f .visit ∷ f .fault ∷ f .element ∷ []
+
+-- the verdict's effect; plan and list are only read
+pub record Judged (q : Question) (list found′ : List ℕ) (r : ℕ) : Type 0 where
+  pub number : r ≡ verdictNumber (verdictOf q list)
+  pub told : found′ ≡ foundWords (foundOf (verdictOf q list))
+
+-- a list of a wrong length: 15, and everything stays
+pub record Unjudged (found found′ : List ℕ) (r : ℕ) : Type 0 where
+  pub number : r ≡ 15
+  pub told : found′ ≡ found
+
+-- by whether the lengths are right
+abbrev pub JudgeEffect : Bool → Question → List ℕ → List ℕ → List ℕ → ℕ → Type 0
+JudgeEffect true q list found found′ r = Judged q list found′ r
+JudgeEffect false q list found found′ r = Unjudged found found′ r
