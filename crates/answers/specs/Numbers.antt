@@ -5,8 +5,8 @@ use Rattle.answers.specs.declared.answer.Refusal.{Refusal}
 use Rattle.answers.specs.declared.answer.Refusal.the-variants.{Grid, Length, Mark, Element, Ends, Scratch, NoRoute, RouteList, NoneLegal}
 use Rattle.answers.specs.declared.answer.Answer.{Answer}
 use Rattle.answers.specs.declared.answer.Answer.the-variants.{Found, NoRoom, Refused}
-use Rattle.answers.specs.declared.verdict.Verdict.{Verdict}
-use Rattle.answers.specs.declared.verdict.Comparison.{Comparison}
+use Rattle.answers.specs.declared.verdicts.Verdict.{Verdict}
+use Rattle.answers.specs.declared.verdicts.Comparison.{Comparison}
 
 abbrev pub refusalNumber : Refusal → ℕ
 refusalNumber Grid = 1

@@ -4,7 +4,7 @@ mod answer;
 mod ends;
 mod records;
 mod tables;
-mod verdict;
+mod verdicts;
 
 pub use answer::Answer;
 pub use answer::Fault;
@@ -22,6 +22,6 @@ pub use tables::TablesCheck;
 pub use tables::check_tables;
 pub use tables::no_elements;
 pub use tables::read_list;
-pub use verdict::Comparison;
-pub use verdict::Verdict;
-pub use verdict::VisitFault;
+pub use verdicts::Comparison;
+pub use verdicts::Verdict;
+pub use verdicts::VisitFault;

@@ -5,10 +5,10 @@ use mathlib.Core.Bool.{Bool, true, false}
 use mathlib.Core.Path.{_≡_}
 use mathlib.Core.List.{List, [], _∷_}
 use Rattle.answers.specs.Numbers.{verdictNumber}
-use Rattle.answers.specs.declared.verdict.VisitFault.{VisitFault}
-use Rattle.answers.specs.declared.verdict.VisitFault.the-variants.{Cell, Wire, Site, Load, Period}
-use Rattle.answers.specs.declared.verdict.Verdict.{Verdict}
-use Rattle.answers.specs.declared.verdict.Verdict.the-variants.{Accepted, AtFault, Refused}
+use Rattle.answers.specs.declared.verdicts.VisitFault.{VisitFault}
+use Rattle.answers.specs.declared.verdicts.VisitFault.the-variants.{Cell, Wire, Site, Load, Period}
+use Rattle.answers.specs.declared.verdicts.Verdict.{Verdict}
+use Rattle.answers.specs.declared.verdicts.Verdict.the-variants.{Accepted, AtFault, Refused}
 use Rattle.question.specs.Question.{Question}
 use Rattle.verdict.specs.Verdict.{verdictOf}
 use Rattle.bench_entry.specs.Words.{refusalFault}

@@ -8,8 +8,8 @@ use native.Mathlib.Omega.{arith}
 use denote.Ref.{RefT, now}
 use lib.Dec.{T}
 use Rattle.answers.specs.declared.answer.Refusal.{Refusal}
-use Rattle.answers.specs.declared.verdict.Comparison.{Comparison}
-use Rattle.answers.specs.declared.verdict.Comparison.the-variants.{First, Second, Refused}
+use Rattle.answers.specs.declared.verdicts.Comparison.{Comparison}
+use Rattle.answers.specs.declared.verdicts.Comparison.the-variants.{First, Second, Refused}
 use Rattle.rules.specs.Rules.{Rules}
 use Rattle.rules.specs.Legal.{Route, legal}
 use Rattle.rules.specs.Ranking.{ranksBefore}

@@ -14,7 +14,7 @@ use Rattle.rules.specs.Ranking.{written}
 use Rattle.answers.specs.declared.answer.Answer.{Answer}
 use Rattle.answers.specs.declared.answer.Figures.{Figures}
 use Rattle.answers.specs.declared.answer.Refusal.{Refusal}
-use Rattle.answers.specs.declared.verdict.Verdict.{Verdict}
+use Rattle.answers.specs.declared.verdicts.Verdict.{Verdict}
 use Rattle.question.specs.Question.{Question, rulesAsked, Check, passes, fails, questionChecks}
 use Rattle.question.proofs.Checks.{passed, all-pass}
 use Rattle.verdict.specs.Verdict.{badList, verdictOf}

@@ -2,8 +2,8 @@
 use Prim.Native.Nat.{ℕ}
 use mathlib.Core.List.{List}
 use lib.ListN.{length}
-use Rattle.answers.specs.declared.verdict.Verdict.{Verdict}
-use Rattle.answers.specs.declared.verdict.Comparison.{Comparison}
+use Rattle.answers.specs.declared.verdicts.Verdict.{Verdict}
+use Rattle.answers.specs.declared.verdicts.Comparison.{Comparison}
 use Rattle.verdict.specs.Verdict.{verdictOf}
 use Rattle.comparison.specs.Better.{comparisonOf}
 use Rattle.session_model.specs.Asks.Asking.{asked}

@@ -13,7 +13,7 @@ use Rattle.timing.specs.declared.elements.Wire.{Wire}
 use Rattle.timing.specs.Ranges.{loadMax}
 use Rattle.timing.specs.Elements.{WireInRange}
 use Rattle.timing.specs.Formulas.{wireDelay, wireLoad, registerLoad, setupDelay}
-use Rattle.answers.specs.declared.verdict.VisitFault.{VisitFault}
+use Rattle.answers.specs.declared.verdicts.VisitFault.{VisitFault}
 use Rattle.rules.specs.Rules.{Rules, rulesOf, wireBetween, registerCode}
 use Rattle.rules.specs.Legal.{Visit, arrive, cellRight, wireRight, codeRight}
 use Rattle.rules.specs.Beginning.{Place, startPlace}

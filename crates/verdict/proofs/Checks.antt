@@ -5,8 +5,8 @@ use mathlib.Core.Path.{_≡_, refl}
 use native.Mathlib.Omega.{arith}
 use lib.Dec.{T}
 use Rattle.plan.proofs.Truth.{of-true}
-use Rattle.answers.specs.declared.verdict.VisitFault.{VisitFault}
-use Rattle.answers.specs.declared.verdict.VisitFault.the-variants.{Cell, Wire, Site, Load, Period}
+use Rattle.answers.specs.declared.verdicts.VisitFault.{VisitFault}
+use Rattle.answers.specs.declared.verdicts.VisitFault.the-variants.{Cell, Wire, Site, Load, Period}
 use Rattle.rules.specs.Rules.{Rules}
 use Rattle.rules.specs.Legal.{Visit}
 use Rattle.rules.specs.Beginning.{Place}

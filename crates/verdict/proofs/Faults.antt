@@ -10,10 +10,10 @@ use lib.Dec.{T}
 use lib.ListN.{length, take, drop}
 use Rattle.plan.proofs.Truth.{three-way}
 use Rattle.answers.specs.declared.answer.Refusal.{Refusal}
-use Rattle.answers.specs.declared.verdict.VisitFault.{VisitFault}
-use Rattle.answers.specs.declared.verdict.VisitFault.the-variants.{Cell, Wire, Site, Load, Period}
-use Rattle.answers.specs.declared.verdict.Verdict.{Verdict}
-use Rattle.answers.specs.declared.verdict.Verdict.the-variants.{Accepted, AtFault, Refused}
+use Rattle.answers.specs.declared.verdicts.VisitFault.{VisitFault}
+use Rattle.answers.specs.declared.verdicts.VisitFault.the-variants.{Cell, Wire, Site, Load, Period}
+use Rattle.answers.specs.declared.verdicts.Verdict.{Verdict}
+use Rattle.answers.specs.declared.verdicts.Verdict.the-variants.{Accepted, AtFault, Refused}
 use Rattle.rules.specs.Rules.{Rules}
 use Rattle.rules.specs.Legal.{Route, isLast}
 use Rattle.rules.specs.Beginning.{Place, nextPlace, placeFrom, startPlace, placeAfter}

@@ -8,8 +8,8 @@ use native.Mathlib.Numerals.{add-one}
 use borrow.Author.Tests.{ne-eqb, ltb-true}
 use lib.Dec.{eqb}
 use lib.ListN.{length}
-use Rattle.answers.specs.declared.verdict.VisitFault.{VisitFault}
-use Rattle.answers.specs.declared.verdict.Verdict.the-variants.{Accepted, AtFault}
+use Rattle.answers.specs.declared.verdicts.VisitFault.{VisitFault}
+use Rattle.answers.specs.declared.verdicts.Verdict.the-variants.{Accepted, AtFault}
 use Rattle.plan.specs.Plan.{cells}
 use Rattle.rules.specs.Rules.{Rules, rulesOf}
 use Rattle.rules.specs.Legal.{Visit, cellRight}

@@ -14,7 +14,7 @@ use Rattle.timing.specs.declared.elements.Buffer.{Buffer}
 use Rattle.timing.specs.Elements.{bufferOf}
 use Rattle.timing.specs.Formulas.{gateDelay, bufferDriver, bufferLoad, registerDriver, registerLoad, setupDelay}
 use Rattle.timing.specs.Valid.{Valid}
-use Rattle.answers.specs.declared.verdict.VisitFault.the-variants.{Load, Period}
+use Rattle.answers.specs.declared.verdicts.VisitFault.the-variants.{Load, Period}
 use Rattle.rules.specs.Rules.{Stage, Rules, rulesOf, noGate, registerCode}
 use Rattle.rules.specs.Legal.{Visit, leave, buffered, closing, inTime, loadRight, periodRight}
 use Rattle.rules.proofs.View.{leave-none, leave-buffer}

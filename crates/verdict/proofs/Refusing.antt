@@ -4,7 +4,7 @@ use mathlib.Core.Bool.{true, false}
 use mathlib.Core.List.{List}
 use mathlib.Core.Path.{_≡_, _∙_}
 use Rattle.answers.specs.declared.answer.Refusal.{Refusal}
-use Rattle.answers.specs.declared.verdict.Verdict.{Verdict}
+use Rattle.answers.specs.declared.verdicts.Verdict.{Verdict}
 use Rattle.problem.specs.Problem.{rulesFor}
 use Rattle.question.specs.Question.{Question, passes, fails, orElse, questionChecks}
 use Rattle.question.specs.Checked.{problemAsked}

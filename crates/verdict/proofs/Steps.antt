@@ -6,8 +6,8 @@ use mathlib.Core.Path.{_≡_}
 use native.Mathlib.Omega.{arith}
 use lib.Dec.{eqb}
 use lib.ListN.{length, drop, getD, drop-of-length-le}
-use Rattle.answers.specs.declared.verdict.VisitFault.{VisitFault}
-use Rattle.answers.specs.declared.verdict.Verdict.the-variants.{Accepted, AtFault}
+use Rattle.answers.specs.declared.verdicts.VisitFault.{VisitFault}
+use Rattle.answers.specs.declared.verdicts.Verdict.the-variants.{Accepted, AtFault}
 use Rattle.rules.specs.Rules.{Rules}
 use Rattle.rules.specs.Legal.{Visit, isLast}
 use Rattle.rules.specs.Beginning.{Place, nextPlace, startPlace}

@@ -8,7 +8,7 @@ use Rattle.plan.specs.Plan.{Plan}
 use Rattle.timing.specs.declared.elements.Elements.{Elements}
 use Rattle.timing.specs.Formulas.{registerLoad}
 use Rattle.timing.specs.Valid.{Valid}
-use Rattle.answers.specs.declared.verdict.VisitFault.the-variants.{Load, Period}
+use Rattle.answers.specs.declared.verdicts.VisitFault.the-variants.{Load, Period}
 use Rattle.rules.specs.Rules.{Stage, Rules, rulesOf, registerCode}
 use Rattle.rules.specs.Legal.{Visit, leave, loadRight, periodRight}
 use Rattle.verdict.specs.Verdict.{VisitCheck, right, wrong, orWrong}

@@ -5,10 +5,10 @@ use mathlib.Core.Bool.{Bool, _&&_, _||_, cond}
 use mathlib.Core.List.{List, [], _∷_}
 use lib.Dec.{eqb, leb, ltb}
 use lib.ListN.{length}
-use Rattle.answers.specs.declared.verdict.VisitFault.{VisitFault}
-use Rattle.answers.specs.declared.verdict.VisitFault.the-variants.{Cell, Wire, Site, Load, Period}
-use Rattle.answers.specs.declared.verdict.Verdict.{Verdict}
-use Rattle.answers.specs.declared.verdict.Verdict.the-variants.{Accepted, AtFault, Refused}
+use Rattle.answers.specs.declared.verdicts.VisitFault.{VisitFault}
+use Rattle.answers.specs.declared.verdicts.VisitFault.the-variants.{Cell, Wire, Site, Load, Period}
+use Rattle.answers.specs.declared.verdicts.Verdict.{Verdict}
+use Rattle.answers.specs.declared.verdicts.Verdict.the-variants.{Accepted, AtFault, Refused}
 use Rattle.answers.specs.declared.answer.Refusal.{Refusal}
 use Rattle.rules.specs.Rules.{Rules, registerCode}
 use Rattle.rules.specs.Legal.{Visit, Route, arrive, isLast, cellRight, wireRight, codeRight, loadRight, periodRight}

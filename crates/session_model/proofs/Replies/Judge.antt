@@ -2,8 +2,8 @@
 use Prim.Native.Nat.{ℕ}
 use mathlib.Core.List.{List}
 use mathlib.Core.Path.{_≡_, refl, sym}
-use Rattle.answers.specs.declared.verdict.Verdict.{Verdict}
-use Rattle.answers.specs.declared.verdict.Verdict.the-variants.{Accepted, AtFault, Refused}
+use Rattle.answers.specs.declared.verdicts.Verdict.{Verdict}
+use Rattle.answers.specs.declared.verdicts.Verdict.the-variants.{Accepted, AtFault, Refused}
 use Rattle.question.specs.Question.{Question, rulesAsked, Check, passes, fails}
 use Rattle.verdict.specs.Verdict.{routeIn, badList, judgeRoute, verdictAfter, verdictOf}
 use Rattle.verdict.proofs.Routes.{good-visits}

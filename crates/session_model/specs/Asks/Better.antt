@@ -9,8 +9,8 @@ use lib.Dec.{T}
 use Rattle.rules.specs.Legal.{legal}
 use Rattle.rules.specs.Ranking.{ranksBefore}
 use Rattle.answers.specs.declared.answer.Refusal.{Refusal}
-use Rattle.answers.specs.declared.verdict.Comparison.{Comparison}
-use Rattle.answers.specs.declared.verdict.Comparison.the-variants.{First, Second, Refused}
+use Rattle.answers.specs.declared.verdicts.Comparison.{Comparison}
+use Rattle.answers.specs.declared.verdicts.Comparison.the-variants.{First, Second, Refused}
 use Rattle.question.specs.Question.{Question, rulesAsked, passes, fails}
 use Rattle.verdict.specs.Verdict.{routeIn, badList}
 use Rattle.comparison.specs.Better.{comparisonOf}

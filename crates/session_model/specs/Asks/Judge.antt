@@ -6,8 +6,8 @@ use mathlib.Core.Path.{_≡_}
 use lib.Dec.{T}
 use Rattle.rules.specs.Legal.{legal}
 use Rattle.answers.specs.declared.answer.Refusal.{Refusal}
-use Rattle.answers.specs.declared.verdict.VisitFault.{VisitFault}
-use Rattle.answers.specs.declared.verdict.Verdict.{Verdict}
+use Rattle.answers.specs.declared.verdicts.VisitFault.{VisitFault}
+use Rattle.answers.specs.declared.verdicts.Verdict.{Verdict}
 use Rattle.question.specs.Question.{Question, rulesAsked, passes, fails}
 use Rattle.verdict.specs.Verdict.{routeIn, badList}
 use Rattle.verdict.specs.Fault.{FirstFault}

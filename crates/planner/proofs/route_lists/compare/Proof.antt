@@ -41,9 +41,9 @@ use Rattle.answers.proofs.records.BufferRecord as BufferRecordᵀ
 use Rattle.answers.specs.declared.tables.BuffersRead.{BuffersRead as BuffersReadᴰ}
 use Rattle.answers.proofs.tables.BuffersRead as BuffersReadᵀ
 use Rattle.answers.proofs.tables.BuffersRead.Laws as BuffersReadᴸ
-use Rattle.answers.specs.declared.verdict.Comparison.{Comparison as Comparisonᴰ}
-use Rattle.answers.proofs.verdict.Comparison as Comparisonᵀ
-use Rattle.answers.proofs.verdict.Comparison.Laws as Comparisonᴸ
+use Rattle.answers.specs.declared.verdicts.Comparison.{Comparison as Comparisonᴰ}
+use Rattle.answers.proofs.verdicts.Comparison as Comparisonᵀ
+use Rattle.answers.proofs.verdicts.Comparison.Laws as Comparisonᴸ
 use Rattle.answers.specs.declared.records.Tables.{Tables as Tablesᴰ}
 use Rattle.answers.proofs.records.Tables as Tablesᵀ
 use Rattle.answers.proofs.records.Tables.Laws as Tablesᴸ

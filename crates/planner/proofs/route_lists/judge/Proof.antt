@@ -44,9 +44,9 @@ use Rattle.answers.proofs.tables.BuffersRead.Laws as BuffersReadᴸ
 use Rattle.answers.specs.declared.records.Tables.{Tables as Tablesᴰ}
 use Rattle.answers.proofs.records.Tables as Tablesᵀ
 use Rattle.answers.proofs.records.Tables.Laws as Tablesᴸ
-use Rattle.answers.specs.declared.verdict.Verdict.{Verdict as Verdictᴰ}
-use Rattle.answers.proofs.verdict.Verdict as Verdictᵀ
-use Rattle.answers.proofs.verdict.Verdict.Laws as Verdictᴸ
+use Rattle.answers.specs.declared.verdicts.Verdict.{Verdict as Verdictᴰ}
+use Rattle.answers.proofs.verdicts.Verdict as Verdictᵀ
+use Rattle.answers.proofs.verdicts.Verdict.Laws as Verdictᴸ
 use Rattle.answers.specs.Lists.{listOf}
 use Rattle.answers.specs.Tables.{checkedList}
 use Rattle.answers.proofs.FirstFault.{read-own}

@@ -58,32 +58,32 @@ stopped-requires : tie.Need-stopped-requires Inv-loop μ-loop
 stopped-requires c κs = search needs
 
 same-length-7 : tie.Need-same-length-7 Inv-loop μ-loop
-same-length-7 c = 
+same-length-7 c =
     let m = command (c .before .before) in
     omega (arith, m .one-command .kept .1 .1 .1 .0, turn m .loop .inv .0)
 
 same-length-8 : tie.Need-same-length-8 Inv-loop μ-loop
-same-length-8 c = 
+same-length-8 c =
     let m = command (c .before .before) in
     omega (arith, m .one-command .kept .1 .1 .1 .1 .0, turn m .loop .inv .1 .0)
 
 same-length-9 : tie.Need-same-length-9 Inv-loop μ-loop
-same-length-9 c = 
+same-length-9 c =
     let m = command (c .before .before) in
     omega (arith, m .one-command .kept .1 .1 .1 .1 .1 .0, turn m .loop .inv .1 .1 .0)
 
 same-length-10 : tie.Need-same-length-10 Inv-loop μ-loop
-same-length-10 c = 
+same-length-10 c =
     let m = command (c .before .before) in
     omega (arith, m .one-command .kept .1 .1 .1 .1 .1 .1 .0, turn m .loop .inv .1 .1 .1 .0)
 
 same-length-11 : tie.Need-same-length-11 Inv-loop μ-loop
-same-length-11 c = 
+same-length-11 c =
     let m = command (c .before .before) in
     omega (arith, m .one-command .kept .1 .1 .1 .1 .1 .1 .1 .0, turn m .loop .inv .1 .1 .1 .1 .0)
 
 same-length-12 : tie.Need-same-length-12 Inv-loop μ-loop
-same-length-12 c = 
+same-length-12 c =
     let m = command (c .before .before) in
     omega (arith, m .one-command .kept .1 .1 .1 .1 .1 .1 .1 .1 .0, turn m .loop .inv .1 .1 .1 .1 .1 .0)
 
@@ -94,7 +94,7 @@ skip-requires-2 : tie.Need-skip-requires-2 Inv-loop μ-loop
 skip-requires-2 c κs = search needs
 
 add-turns : tie.Need-add-turns Inv-loop μ-loop
-add-turns c = 
+add-turns c =
     let m = command (c .before .before .before) in
     omega (arith, m .before .before .before .before .before .before .before .before .loop-test .taken, turn m .loop .inv .1 .1 .1 .1 .1 .1)
 
@@ -102,7 +102,7 @@ loop-less : tie.Need-loop-less Inv-loop μ-loop
 loop-less c = omega arith
 
 loop-again : tie.Need-loop-again Inv-loop μ-loop
-loop-again c = 
+loop-again c =
     let m = command (c .before .before .before) in
     (m .one-command .kept .1 .1 .1 .0 ∙ turn m .loop .inv .0, (m .one-command .kept .1 .1 .1 .1 .0 ∙ turn m .loop .inv .1 .0, (m .one-command .kept .1 .1 .1 .1 .1 .0 ∙ turn m .loop .inv .1 .1 .0, (m .one-command .kept .1 .1 .1 .1 .1 .1 .0 ∙ turn m .loop .inv .1 .1 .1 .0, (m .one-command .kept .1 .1 .1 .1 .1 .1 .1 .0 ∙ turn m .loop .inv .1 .1 .1 .1 .0, (m .one-command .kept .1 .1 .1 .1 .1 .1 .1 .1 .0 ∙ turn m .loop .inv .1 .1 .1 .1 .1 .0, (turn m .loop .inv .1 .1 .1 .1 .1 .1)))))))
 
