@@ -5,3 +5,4 @@ mod words;
 
 pub use commands::better;
 pub use commands::judge;
+pub use words::LIST_WORDS;

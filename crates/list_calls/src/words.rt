@@ -4,7 +4,7 @@ use script::Cursor;
 use script::read_number;
 
 // The most words of a list.
-const LIST: u16 = 8192;
+pub const LIST_WORDS: usize = 8192;
 
 // How many words a list has, and where to read on.
 pub struct ListRead {
@@ -14,7 +14,7 @@ pub struct ListRead {
 
 // N W1 .. WN: the first words become the list.
 pub fn read_words(src: &[u8], c: Cursor, words: &mut [u16]) -> ListRead {
-    let n = read_number(src, c, LIST);
+    let n = read_number(src, c, LIST_WORDS as u16);
     let stop = smaller(n.value as usize, words.len());
     let mut cursor = n.cursor;
     let mut i = 0;

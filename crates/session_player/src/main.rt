@@ -29,6 +29,7 @@ mod lines;
 mod play;
 
 use lines::write_too_long;
+use list_calls::LIST_WORDS;
 use play::play;
 use streams::read_input;
 
@@ -45,9 +46,6 @@ const SCRATCH: usize = 262144;
 
 const VISITS: usize = 2048;
 
-// The longest list of a script, in words.
-const LIST: usize = 8192;
-
 // What the words hold before a call: no cell, no code.
 const UNUSED: u16 = 65535;
 
@@ -57,8 +55,8 @@ fn played(text: &[u8]) -> bool {
     let mut journal = [FILL; JOURNAL];
     let mut scratch = [UNUSED; SCRATCH];
     let mut visits = [UNUSED; VISITS];
-    let mut first = [UNUSED; LIST];
-    let mut second = [UNUSED; LIST];
+    let mut first = [UNUSED; LIST_WORDS];
+    let mut second = [UNUSED; LIST_WORDS];
     play(
         text,
         &mut plan,

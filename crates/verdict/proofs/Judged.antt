@@ -5,12 +5,13 @@ use mathlib.Core.List.{List}
 use mathlib.Core.Path.{_≡_, refl, _∙_}
 use native.Mathlib.Omega.{arith}
 use native.Mathlib.Numerals.{add-one}
-use borrow.Author.Tests.{ne-eqb, ltb-true}
-use lib.Dec.{eqb}
+use borrow.Author.Tests.{ne-eqb}
+use lib.Dec.{eqb, ltb, ltb→lt}
 use lib.ListN.{length}
 use Rattle.answers.specs.declared.verdicts.VisitFault.{VisitFault}
 use Rattle.answers.specs.declared.verdicts.Verdict.the-variants.{Accepted, AtFault}
 use Rattle.plan.specs.Plan.{cells}
+use Rattle.plan.proofs.Truth.{of-true, snd}
 use Rattle.rules.specs.Rules.{Rules, rulesOf}
 use Rattle.rules.specs.Legal.{Visit, cellRight}
 use Rattle.rules.specs.Beginning.{Place, nextPlace, startPlace}
@@ -39,15 +40,13 @@ last-is ws i good =
     let e : length ws / 2 ≡ length (routeIn ws) = omega (arith, visits-even ws (good-even ws good), good-even ws good) in
     rw (e, add-one i)
 
-and-second : (a b : Bool) → (a && b) ≡ true → b ≡ true
-and-second true b h = h
-and-second false b h = absurd (let z : _≡_ {A = ℕ} 0 1 = cc in omega arith)
-
 -- the first visit's cell is in the plan
 passed-sink : (p : Problem) (marks : List ℕ) → Ready p marks → (v : Visit) → firstCheck (rulesFor p marks) v ≡ right → v .cell < length marks
 unfolding firstCheck rulesFor rulesOf
 passed-sink p marks ready v e =
-    let h = ltb-true (v .cell) (cells (planFor p marks)) (and-second (eqb (v .cell) (p .sink)) _ (passed-test _ _ _ e)) in
+    let sink = eqb (v .cell) (p .sink) in
+    let inside = ltb (v .cell) (cells (planFor p marks)) in
+    let h = ltb→lt (v .cell) (cells (planFor p marks)) (snd sink inside (of-true (sink && inside) (passed-test (sink && inside) _ _ e))) in
     omega (arith, h, cells-are p marks ready)
 
 module _ (p : Problem) (marks ws : List ℕ) (ready : Ready p marks) (good : badList ws ≡ false) where

@@ -8,7 +8,7 @@ use borrow.Author.Tests.{ne-eqb, leb-true, le-ltb}
 use lib.Dec.{leb, ltb}
 use lib.ListN.{getD}
 use Rattle.plan.specs.Plan.{Plan}
-use Rattle.plan.proofs.Truth.{split}
+use Rattle.plan.proofs.Truth.{is-true, or-right, split}
 use Rattle.timing.specs.declared.elements.Elements.{Elements}
 use Rattle.timing.specs.declared.elements.Buffer.{Buffer}
 use Rattle.timing.specs.Elements.{bufferOf}
@@ -46,14 +46,10 @@ module _ (P : Plan) (e : Elements) (from to : ℕ) (last : Bool) (span : ℕ) (s
   gate-heavy code h = rw h
 
   module _ (light : leb (s .load) (e .limit .0) ≡ true) where
-    or-same : (a b : Bool) → b ≡ true → (a || b) ≡ true
-    or-same true b h = refl
-    or-same false b h = h
-
     -- no gate
     pub gate-plain : gateCheck R last span s (visit noGate) ≡ right
     unfolding gateCheck loadRight periodRight leave rulesOf
-    gate-plain = rw (light, or-same last true refl)
+    gate-plain = rw (light, is-true (last || true) (or-right last true tt))
 
     -- a register or the source
     pub gate-own-heavy : (last || leb (registerLoad (e .register)) (e .limit .0)) ≡ false → gateCheck R last span s (visit registerCode) ≡ wrong Load

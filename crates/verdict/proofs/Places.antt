@@ -1,15 +1,15 @@
 -- The first and the third test of a visit under document 01's rules, case by case as the code tells them apart.
 use Prim.Native.Nat.{ℕ, _≤_, _<_}
-use mathlib.Core.Bool.{Bool, true, false, not, _&&_}
+use mathlib.Core.Bool.{Bool, true, false, not}
 use mathlib.Core.List.{List}
 use mathlib.Core.Path.{_≡_, refl}
 use mathlib.Core.Logic.{_⊎_, inl, inr}
 use native.Mathlib.Omega.{arith}
-use borrow.Author.Tests.{eq-eqb, ne-eqb, lt-ltb, le-ltb, eqb-true, eqb-false, ltb-true}
-use lib.Dec.{eqb}
+use borrow.Author.Tests.{eq-eqb, ne-eqb, lt-ltb, le-ltb, eqb-true, eqb-false}
+use lib.Dec.{eqb, ltb, ltb→lt}
 use lib.ListN.{length}
 use Rattle.plan.specs.Plan.{cells, marksAt, blocked, tap}
-use Rattle.plan.proofs.Truth.{is-true, of-true, split}
+use Rattle.plan.proofs.Truth.{is-true, of-true, fst, split}
 use Rattle.rules.specs.Rules.{Rules, rulesOf, noGate, registerCode}
 use Rattle.rules.specs.Legal.{isEnd, mayStand, cellRight, codeRight}
 use Rattle.rules.proofs.Document01.{site-buffer, site-register, site-refused, no-gate-stands, buffer-site}
@@ -90,8 +90,5 @@ module _ (p : Problem) (marks : List ℕ) (ready : Ready p marks) (cell : ℕ) w
 pub right-cell : (p : Problem) (marks : List ℕ) → Ready p marks → (cell : ℕ) (last : Bool) (code : ℕ) → cellRight (rulesFor p marks) last (record { cell = cell; code = code }) ≡ true → cell < length marks
 unfolding cellRight rulesFor rulesOf
 right-cell p marks ready cell last code e =
-    let h = ltb-true cell (cells (planFor p marks)) (and-first _ _ e) in omega (arith, h, cells-are p marks ready)
-  where
-    and-first : (a b : Bool) → (a && b) ≡ true → a ≡ true
-    and-first true b h = refl
-    and-first false b h = h
+    let h = ltb→lt cell (cells (planFor p marks)) (fst (ltb cell (cells (planFor p marks))) _ (of-true _ e)) in
+    omega (arith, h, cells-are p marks ready)

@@ -13,6 +13,9 @@ Inv-loop src words₀ stop cursor₀ i₀ words cursor i = (stop ≤ length word
 abbrev μ-loop : tie.MeasureT-loop
 μ-loop src words₀ stop cursor₀ i₀ words cursor i = stop - i
 
+cast-read-number : tie.Need-cast-read-number Inv-loop μ-loop
+cast-read-number c = omega arith
+
 read-number-requires : tie.Need-read-number-requires Inv-loop μ-loop
 read-number-requires c κs = search needs
 
@@ -55,6 +58,7 @@ read-words-spec =
     (tie.spec
     Inv-loop
     μ-loop
+    cast-read-number
     read-number-requires
     cast-smaller
     smaller-requires
