@@ -1,7 +1,7 @@
 //! Small random plans on which both sides must agree.
 
-use crate::judge::judge;
-use crate::ours::{self, Ours};
+use crate::judge::{Legal, judge};
+use crate::ours::{self, Answer, Ours};
 use crate::peer::{Plain, Tuned};
 use crate::plans::Random;
 use crate::problem::{BLOCKED, Buffer, CUT_BELOW, CUT_RIGHT, Problem, Register, TAP, Wire};
@@ -59,8 +59,14 @@ fn small(x: &mut Random) -> Problem {
     Problem { width, height, marks, register, horizontal, vertical, period, limit, buffers, source, sink }
 }
 
-/// Whether both agree on all of them. Of ours the written route is checked by document 01's rules as
-/// well, and that the scratch words used end as zeros.
+/// Whether the written route is legal and has the answer's registers and spare half-ticks.
+fn written_right(a: &Ours, p: &Problem, answer: Answer) -> bool {
+    let told = Legal { registers: answer.registers, slack: answer.slack as u64 };
+    answer.number == 7 || judge(p, a.written(answer)) == Ok(told)
+}
+
+/// Whether both agree on all of them. Of ours the written route is checked by the rules of documents 01 and 02 as well,
+/// that the same figures come with no visits lent, and that the scratch words used end as zeros.
 pub fn run(count: u64, seed: u64) -> bool {
     let (mut a, mut b, mut c) = (Ours::new(), Plain::new(), Tuned::new());
     let mut x = Random::new(seed);
@@ -76,14 +82,17 @@ pub fn run(count: u64, seed: u64) -> bool {
             return false;
         }
         let (got, peer, tuned) = (ours::registers(answer), b.route(&p), c.route(&p));
-        let written = match got {
-            None => Ok(0),
-            Some(_) => judge(&p, a.written(answer)),
-        };
-        if got != peer || got != tuned || written != Ok(got.unwrap_or(0)) {
-            println!(
-                "plan {i} of seed {seed}: ours {got:?}, peer {peer:?}, tuned {tuned:?}, route written {written:?}"
-            );
+        if got != peer || got != tuned {
+            println!("plan {i} of seed {seed}: ours {got:?}, peer {peer:?}, tuned {tuned:?}");
+            return false;
+        }
+        if !written_right(&a, &p, answer) {
+            println!("plan {i} of seed {seed}: {answer:?}, and the route written is another");
+            return false;
+        }
+        let no_room = a.no_room(&p);
+        if no_room != ours::without_room(answer) {
+            println!("plan {i} of seed {seed}: {answer:?}, with no visits lent {no_room:?}");
             return false;
         }
         match got {

@@ -6,10 +6,10 @@
 //!     route_bench verdict                  the verdict on lists of up to a million visits, and a plain judge on the same
 //!     route_bench stack                    bytes of stack that a call takes
 //!     route_bench names                    the names of the table's plans
-//!     route_bench once PLAN SIDE [N]       N calls of a side (ours, search, peer, tuned), for a profiler
+//!     route_bench once PLAN SIDE [N]       N calls of a side (ours, noroom, peer, tuned), for a profiler
 //!     route_bench judge LIST VISITS SIDE [N]    N verdicts of a side (ours, peer) on a list by its place, for a profiler
 //!
-//! The status is not 0 where the two differ in the number of registers, or a verdict is not what it must be.
+//! The status is not 0 where the two differ in the number of registers, or a figure or a verdict is not what it must be.
 
 mod agree;
 mod judge;
@@ -23,6 +23,7 @@ mod stack;
 mod verdict;
 mod walks;
 
+use judge::{Legal, judge};
 use ours::{Answer, Ours};
 use peer::{Plain, Tuned};
 use plans::{FULL, Size};
@@ -30,10 +31,10 @@ use problem::Problem;
 use std::hint::black_box;
 use std::time::{Duration, Instant};
 
-const LEGEND: &str = "Least times of the repetitions, in microseconds. search: ours without the route; peer: binary heap, \
-sorted lists; tuned: the peer with a bucket queue.";
+const LEGEND: &str = "Least times of the repetitions, in microseconds. no room: ours with no visits lent, answered by 8 \
+and the same figures; peer: binary heap, sorted lists; tuned: the peer with a bucket queue.";
 
-const COLUMNS: &str = "registers | steps | ours | search | peer | ours / peer | tuned | ours / tuned |";
+const COLUMNS: &str = "registers | steps | ours | no room | peer | ours / peer | tuned | ours / tuned |";
 
 /// The groups of the table.
 #[derive(Clone, Copy, PartialEq)]
@@ -78,11 +79,11 @@ struct Sides {
     tuned: Tuned,
 }
 
-/// Our answer on one plan, and what each took. `search` is ours with no visits lent: registers and steps, no route (8).
+/// Our answer on one plan, and what each took. `no_room` is ours with no visits lent: the same figures, no route (8).
 struct Measured {
     answer: Answer,
     ours: Duration,
-    search: Duration,
+    no_room: Duration,
     peer: Duration,
     tuned: Duration,
 }
@@ -92,7 +93,8 @@ impl Sides {
         Sides { ours: Ours::new(), peer: Plain::new(), tuned: Tuned::new() }
     }
 
-    /// Least times over several repetitions. None where the sides differ in the registers, or our route is not legal.
+    /// Least times over several repetitions. None where the sides differ in the registers, our route is not legal or a
+    /// figure is wrong.
     fn measure(&mut self, p: &Problem, budget: Duration) -> Option<Measured> {
         self.ours.load(p);
         let answer = self.ours.route(p);
@@ -102,16 +104,22 @@ impl Sides {
             return None;
         }
         if let Some(k) = got {
-            let written = judge::judge(p, self.ours.written(answer));
-            if written != Ok(k) {
-                println!("MISMATCH: {k} registers, in the route written {written:?}");
+            let told = Legal { registers: k, slack: answer.slack as u64 };
+            let written = judge(p, self.ours.written(answer));
+            if written != Ok(told) {
+                println!("MISMATCH: {told:?}, in the route written {written:?}");
                 return None;
             }
+        }
+        let no_room = self.ours.no_room(p);
+        if no_room != ours::without_room(answer) {
+            println!("MISMATCH: {answer:?}, with no visits lent {no_room:?}");
+            return None;
         }
         let m = Measured {
             answer,
             ours: least(budget, || self.ours.route(black_box(p))),
-            search: least(budget, || self.ours.search(black_box(p))),
+            no_room: least(budget, || self.ours.no_room(black_box(p))),
             peer: least(budget, || self.peer.route(black_box(p))),
             tuned: least(budget, || self.tuned.route(black_box(p))),
         };
@@ -146,13 +154,17 @@ impl Measured {
         us(self.ours) / us(self.tuned)
     }
 
+    fn ratio_no_room(&self) -> f64 {
+        us(self.no_room) / us(self.ours)
+    }
+
     fn columns(&self) -> String {
         let a = self.answer;
         let registers = if a.number == 7 { "none".into() } else { a.registers.to_string() };
-        let (ours, search, peer, tuned) = (us(self.ours), us(self.search), us(self.peer), us(self.tuned));
+        let (ours, no_room, peer, tuned) = (us(self.ours), us(self.no_room), us(self.peer), us(self.tuned));
         let (steps, by_peer, by_tuned) = (a.steps, self.ratio(), self.ratio_tuned());
         format!(
-            "{registers} | {steps} | {ours:.1} | {search:.1} | {peer:.1} | {by_peer:.2} | {tuned:.1} | {by_tuned:.2} |"
+            "{registers} | {steps} | {ours:.1} | {no_room:.1} | {peer:.1} | {by_peer:.2} | {tuned:.1} | {by_tuned:.2} |"
         )
     }
 }
@@ -191,6 +203,10 @@ fn table(budget: Duration) -> bool {
             "{name}: geometric mean {mean:.2}, largest {most:.2}; by the tuned peer {mean_tuned:.2}, {most_tuned:.2}"
         );
     }
+    let routed = measured.iter().filter(|(_, m)| m.answer.number == 0);
+    let ratios: Vec<f64> = routed.map(|(_, m)| m.ratio_no_room()).collect();
+    let (mean, most) = summary(&ratios);
+    println!("no room / ours, {} plans with a route: geometric mean {mean:.2}, largest {most:.2}", ratios.len());
     true
 }
 
@@ -243,7 +259,7 @@ fn once(name: &str, side: &str, count: u64) -> bool {
         match side {
             "peer" => drop(black_box(sides.peer.route(p))),
             "tuned" => drop(black_box(sides.tuned.route(p))),
-            "search" => drop(black_box(sides.ours.search(p))),
+            "noroom" => drop(black_box(sides.ours.no_room(p))),
             _ => drop(black_box(sides.ours.route(p))),
         }
     }

@@ -48,14 +48,16 @@ pub struct Answer {
     pub registers: u32,
     pub steps: u32,
     pub latency: u32,
+    /// spare half-ticks
+    pub slack: u32,
 }
 
 /// A verdict as the entry tells it.
 #[derive(Clone, Copy, PartialEq, Debug)]
 pub struct Found {
     pub number: u16,
-    /// accepted, the visit at fault, the fault's place, the place of refusal 4
-    pub words: [u64; 4],
+    /// accepted, the visit at fault, the fault's place, the place of refusal 4, the spare half-ticks or the miss
+    pub words: [u64; 5],
 }
 
 /// What is lent to the call, once for all calls.
@@ -83,7 +85,7 @@ impl Ours {
     }
 
     /// With no visits lent: the figures come with number 8, and no route is written.
-    pub fn search(&mut self, p: &Problem) -> Answer {
+    pub fn no_room(&mut self, p: &Problem) -> Answer {
         self.call(p, 0)
     }
 
@@ -94,7 +96,7 @@ impl Ours {
 
     /// The verdict on a list.
     pub fn judge(&self, p: &Problem, list: &[u16]) -> Found {
-        let mut words = [9u64; 4];
+        let mut words = [9u64; 5];
         let number = unsafe {
             bench_judge(
                 p.marks.as_ptr(),
@@ -117,7 +119,7 @@ impl Ours {
     }
 
     fn call(&mut self, p: &Problem, room: usize) -> Answer {
-        let mut figures = [0u32; 4];
+        let mut figures = [9u32; 5];
         let number = unsafe {
             bench_entry(
                 p.marks.as_ptr(),
@@ -138,7 +140,7 @@ impl Ours {
                 figures.len(),
             )
         };
-        Answer { number, registers: figures[0], steps: figures[1], latency: figures[2] }
+        Answer { number, registers: figures[0], steps: figures[1], latency: figures[2], slack: figures[4] }
     }
 }
 
@@ -149,4 +151,9 @@ pub fn registers(a: Answer) -> Option<u32> {
         7 => None,
         n => panic!("the route call refused with {n}"),
     }
+}
+
+/// The same answer where no visits are lent.
+pub fn without_room(a: Answer) -> Answer {
+    Answer { number: if a.number == 0 { 8 } else { a.number }, ..a }
 }

@@ -56,9 +56,9 @@ fn range(ours: &mut Ours, problems: &[Problem]) -> Option<(usize, usize)> {
     let mut range = (usize::MAX, 0);
     for p in problems {
         ours.load(p);
-        for search in [false, true] {
+        for room in [true, false] {
             let bytes = stack_of(&mut || {
-                black_box(if search { ours.search(black_box(p)) } else { ours.route(black_box(p)) });
+                black_box(if room { ours.route(black_box(p)) } else { ours.no_room(black_box(p)) });
             })?;
             range = (range.0.min(bytes), range.1.max(bytes));
         }

@@ -1,6 +1,6 @@
 //! The verdict on long lists, against the plain judge on the same lists.
 
-use crate::judge::{Fault, judge};
+use crate::judge::{AtFault, Legal, judge};
 use crate::ours::{Found, Ours};
 use crate::walks::{self, Walk};
 use std::hint::black_box;
@@ -22,10 +22,10 @@ const SHAPES: [Shape; 5] = [
 const MOST: Duration = Duration::from_millis(100);
 
 /// What the entry tells of such a verdict.
-fn told(expected: Option<(usize, Fault)>) -> Found {
-    let words = match expected {
-        None => [1, 0, 0, 0],
-        Some((visit, fault)) => [0, visit as u64, fault as u64, 0],
+fn told(judged: Result<Legal, AtFault>) -> Found {
+    let words = match judged {
+        Ok(legal) => [1, 0, 0, 0, legal.slack],
+        Err(at) => [0, at.visit as u64, at.fault as u64, 0, at.miss],
     };
     Found { number: 0, words }
 }
@@ -56,9 +56,9 @@ fn ms(d: Duration) -> f64 {
 fn line(name: &str, count: usize, walk: &Walk, ours: &mut Ours, budget: Duration) -> Option<f64> {
     let (p, list) = (&walk.problem, &walk.list);
     ours.load(p);
-    let (got, peer) = (ours.judge(p, list), judge(p, list).err());
-    if got != told(walk.expected) || peer != walk.expected {
-        println!("MISMATCH: {name}, {count} visits: must be {:?}, ours {got:?}, peer {peer:?}", walk.expected);
+    let (got, judged) = (ours.judge(p, list), judge(p, list));
+    if got != told(judged) || judged.err().map(|at| (at.visit, at.fault)) != walk.expected {
+        println!("MISMATCH: {name}, {count} visits: must be {:?}, ours {got:?}, peer {judged:?}", walk.expected);
         return None;
     }
     let judged = walk.expected.map_or(count, |(visit, _)| visit + 1);

@@ -1,7 +1,7 @@
 // The whole text that the route printer prints for a job's bytes.
 
 use crate::job;
-use crate::rules::{registers, Fault, Problem, Visit};
+use crate::rules::{legal, registers, Fault, Problem, Visit};
 use crate::search::{self, TooLarge};
 
 const VISITS: usize = 1_024; // 2,048 words, two a visit
@@ -46,7 +46,8 @@ impl Answer {
             Answer::Route(p, route) => {
                 let k = registers(route);
                 let latency = p.period * (k + 1);
-                let mut text = format!("route {} {} {}\n", k, route.len() - 1, latency);
+                let slack = legal(p, route).expect("the search's route is legal").slack(p);
+                let mut text = format!("route {} {} {} {}\n", k, route.len() - 1, latency, slack);
                 for (cell, code) in route {
                     text += &format!("{cell} {code}\n");
                 }

@@ -169,7 +169,7 @@ fn ranges(out: &mut Vec<Case>) {
 // 16 rows of 8, one path through all cells, back and forth; free wires.
 fn winding() -> (Problem, String) {
     let mut p = Problem { width: 8, height: 16, period: 30_000, limit: 63, source: 120, sink: 0, ..Problem::default() };
-    let mut text = "route 0 127 30000\n".to_string();
+    let mut text = "route 0 127 30000 60000\n".to_string();
     for row in 0..16 {
         for i in 0..8 {
             let column = if row % 2 == 0 { i } else { 7 - i };

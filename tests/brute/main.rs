@@ -1,5 +1,5 @@
-// A brute-force search beside the planner, written from document 01 alone: random jobs through the built route printer,
-// the whole text compared.
+// A brute-force search beside the planner, written from documents 01 and 02 alone: random jobs through the built route
+// printer, the whole text compared.
 //   brute PRINTER JOBS SEED [STATES]    STATES: the most states that one search may follow
 //   brute text < JOB                    the text that the brute force gives for one job
 //   brute sample JOBS SEED              random jobs, one a line, in hexadecimal

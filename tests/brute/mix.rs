@@ -1,6 +1,6 @@
 // What a run's jobs were: counted by answer, so that a poor mix shows.
 
-use crate::rules::{legal, registers, Fault, Problem, Visit};
+use crate::rules::{legal, registers, Fault, Problem, Visit, TIGHTEST};
 use crate::answer::Answer;
 use std::collections::BTreeMap;
 
@@ -17,6 +17,8 @@ pub struct Mix {
     refusals: BTreeMap<u32, u64>,
     faults: BTreeMap<&'static str, u64>,
     routes: BTreeMap<&'static str, u64>,
+    slacks: BTreeMap<&'static str, u64>,
+    tightest: BTreeMap<&'static str, u64>, // of the routes with registers
     most_cells: u32,
     most_steps: usize,
     most_registers: u32,
@@ -37,6 +39,13 @@ const KINDS: [&str; 13] = [
     "a wire with R or C zero",
     "T above 1,000",
 ];
+
+// Spare half-ticks of a route.
+const SLACKS: [&str; 6] = ["0", "1", "2 to 9", "10 to 99", "100 to 999", "1,000 and more"];
+
+fn slack_name(slack: u64) -> &'static str {
+    SLACKS[[1, 2, 10, 100, 1_000].iter().filter(|&&from| from <= slack).count()]
+}
 
 // The faults behind refusal 4; the count's is found while reading and is counted apart.
 const FAULTS: [&str; 6] = ["T", "L", "horizontal", "vertical", "register", "buffer"];
@@ -73,7 +82,11 @@ impl Mix {
         let measured = legal(p, route).expect("the search's route is legal");
         let times = |sorted: &[u32], n: usize| sorted.windows(n).any(|same| same[0] == same[n - 1]);
         let turns_back = |at: usize| route[at].1 != 0 && route[at - 1].0 == route[at + 1].0;
-        let least_spare = measured.closings.iter().map(|&c| 2 * p.period as u64 - c).min().unwrap();
+        let slack = measured.slack(p);
+        *self.slacks.entry(slack_name(slack)).or_default() += 1;
+        if k > 0 {
+            *self.tightest.entry(measured.tightest()).or_default() += 1;
+        }
         let wires = [p.horizontal, p.vertical];
         let holds = [
             steps as u32 > apart,
@@ -85,7 +98,7 @@ impl Mix {
             kinds.len() > 1,
             !kinds.is_empty() && k > 0,
             times(&gates, 2),
-            least_spare < 2,
+            slack < 2,
             measured.greatest_load == p.limit,
             wires.iter().any(|wire| wire.r == 0 || wire.c == 0),
             p.period > 1_000,
@@ -126,6 +139,8 @@ impl Mix {
         println!("registers   {}", list(counts.map(|(k, &n)| (name(k), n)).collect()));
         println!("routes      {}", by(&self.routes, &KINDS[..7]));
         println!("            {}", by(&self.routes, &KINDS[7..]));
+        println!("spare       {}", by(&self.slacks, &SLACKS));
+        println!("tightest    {}", by(&self.tightest, &TIGHTEST));
         println!("largest     {} cells, {} steps, {} registers", self.most_cells, self.most_steps, self.most_registers);
         println!("refused     {}", list(self.refusals.iter().map(|(n, c)| (n.to_string(), *c)).collect()));
         println!("refused 4   {}, count: {}", by(&self.faults, &FAULTS), self.count_faults());
@@ -152,6 +167,12 @@ impl Mix {
         need(self.registers[8..].iter().sum(), 3, "8 and more registers".to_string());
         for kind in KINDS {
             need(*self.routes.get(kind).unwrap_or(&0), 3, kind.to_string());
+        }
+        for slack in SLACKS {
+            need(*self.slacks.get(slack).unwrap_or(&0), 3, format!("spare half-ticks {slack}"));
+        }
+        for span in TIGHTEST {
+            need(*self.tightest.get(span).unwrap_or(&0), 3, format!("tightest span {span}"));
         }
         need(self.none, (routes + self.none) / 8, "none".to_string());
         need(routes, (routes + self.none) / 2, "routes".to_string());

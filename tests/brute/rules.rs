@@ -1,4 +1,5 @@
-// Document 01's rules, read position by position: the problem, what a legal route is, and the checks before a route.
+// The rules of documents 01 and 02, read position by position: the problem, what a legal route is, and the checks before
+// a route.
 
 pub const REGISTER: u32 = 7; // gate code
 
@@ -150,6 +151,28 @@ pub fn registers(route: &[Visit]) -> u32 {
 pub struct Measured {
     pub closings: Vec<u64>,
     pub greatest_load: u32,
+}
+
+// Which of a route's spans has the smallest spare figure.
+pub const TIGHTEST: [&str; 4] = ["first", "between", "last", "not only one"];
+
+impl Measured {
+    // The spare half-ticks: the smallest over the spans of 2T less the closing delay.
+    pub fn slack(&self, p: &Problem) -> u64 {
+        self.closings.iter().map(|&closing| 2 * p.period as u64 - closing).min().expect("the source closes a span")
+    }
+
+    // By its name in TIGHTEST.
+    pub fn tightest(&self) -> &'static str {
+        let slowest = self.closings.iter().max().unwrap();
+        let mut spans = (0..self.closings.len()).filter(|&at| self.closings[at] == *slowest);
+        TIGHTEST[match (spans.next().unwrap(), spans.next()) {
+            (_, Some(_)) => 3,
+            (0, _) => 0,
+            (at, _) if at + 1 == self.closings.len() => 2,
+            _ => 1,
+        }]
+    }
 }
 
 // The definition of a legal route, on a whole list of visits. None: not legal.

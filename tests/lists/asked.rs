@@ -6,6 +6,9 @@ use crate::mix::Mix;
 use crate::plan::{self, Fault};
 use crate::question;
 use crate::rules::{legal, Measured, Problem, Visit};
+use crate::tuning::NO_PERIOD;
+
+const FLOOR: u128 = 1_000_000_000; // half-ticks; no larger miss is told
 
 pub enum Asked {
     Judge(Vec<u32>),
@@ -91,11 +94,31 @@ impl Asked {
     }
 }
 
-// The judge's verdict, which must agree with the brute force's definition of a legal route.
+// The delay at which the visit closes its span, by the brute force: of a list at fault in nothing but the period.
+fn closing(p: &Problem, route: &[Visit], at: usize) -> Option<u64> {
+    let unbounded = Problem { period: NO_PERIOD, ..p.clone() };
+    let closed_before = route[1..at].iter().filter(|visit| visit.1 == 7).count();
+    legal(&unbounded, route).map(|measured| measured.closings[closed_before])
+}
+
+// The judge's verdict, which must agree with the brute force's definition of a legal route and its figures.
 fn agreed(p: &Problem, route: &[Visit]) -> Result<Measured, (usize, Cause)> {
     let (verdict, legal) = (judge(p, route), legal(p, route));
-    assert_eq!(verdict.is_ok(), legal.is_some(), "the judge and the brute force differ: {p:?} {route:?} {verdict:?}");
-    verdict.map(|()| legal.unwrap())
+    let slack = legal.as_ref().map(|measured| measured.slack(p).into());
+    assert_eq!(verdict.ok(), slack, "the judge and the brute force differ: {p:?} {route:?} {verdict:?}");
+    if let Err((at, Cause::Period(miss))) = verdict {
+        let by_rules = closing(p, route, at).map(|closing| closing as u128 - 2 * p.period as u128);
+        assert!(by_rules.is_none_or(|by_rules| by_rules == miss), "the misses differ: {p:?} {route:?} {verdict:?}");
+    }
+    verdict.map(|_| legal.unwrap())
+}
+
+// The signed figure of a period fault.
+fn told(cause: Cause) -> String {
+    match cause {
+        Cause::Period(miss) => format!(" -{}", miss.min(FLOOR)),
+        _ => String::new(),
+    }
 }
 
 // What is printed after the depth.
@@ -103,11 +126,11 @@ fn verdict(p: &Problem, route: &[Visit], mix: &mut Mix) -> String {
     match agreed(p, route) {
         Ok(measured) => {
             mix.accepted(p, route, &measured);
-            " accepted".to_string()
+            format!(" accepted {}", measured.slack(p))
         }
         Err((at, cause)) => {
             mix.at_fault(p, route, at, cause);
-            format!(" visit {at} {}", cause.fault())
+            format!(" visit {at} {}{}", cause.fault(), told(cause))
         }
     }
 }

@@ -7,7 +7,7 @@ use crate::random::Random;
 use crate::rules::{Problem, Visit};
 use crate::search;
 use crate::tuning::{spoil, tune};
-use crate::{endless, make};
+use crate::{endless, make, misses};
 
 const STATES: usize = 4_000; // the most that one search may follow
 const LISTS: u32 = 16; // of a block
@@ -201,6 +201,9 @@ pub fn draw(r: &mut Random) -> Vec<Block> {
     }
     if r.chance(15) {
         out.push(endless::block(r));
+    }
+    if r.chance(30) {
+        out.push(misses::block(r));
     }
     out
 }

@@ -7,7 +7,7 @@ use crate::random::Random;
 use crate::rules::{Buffer, Problem, Register, Wire};
 use crate::tuning::tune;
 
-const VISITS: usize = 4_096; // the most that a script's list has
+const VISITS: usize = 4_096; // the most of such a list; a script's may have four times as many
 
 fn problem(r: &mut Random) -> Problem {
     let (width, height) = r.pick(&[(2, 1), (1, 2), (3, 1), (2, 2), (3, 2)]);
@@ -31,7 +31,7 @@ fn problem(r: &mut Random) -> Problem {
     }
 }
 
-// A list that may lack two visits to the longest.
+// A list that may lack two visits to the longest such one.
 pub fn block(r: &mut Random) -> Block {
     let mut p = problem(r);
     let visits = r.pick(&[VISITS, VISITS, VISITS - 1, 3_000, 1_500]);

@@ -1,5 +1,5 @@
-// The verdict on a list of visits, from document 01's "Legal routes" and document 02's C-11: visit by visit, test by test.
-// It has no rule from tests/brute/rules.rs, whose `legal` it is compared with.
+// The verdict on a list of visits, from document 01's "Legal routes" and document 02's C-11 and C-12: visit by visit,
+// test by test. It has no rule from tests/brute/rules.rs, whose `legal` it is compared with.
 
 use crate::rules::{Problem, Visit, Wire};
 
@@ -21,7 +21,7 @@ pub enum Cause {
     Blocked,
     LoadBefore, // its gate
     LoadAfter,
-    Period,
+    Period(u128), // missed by so many half-ticks
 }
 
 impl Cause {
@@ -30,7 +30,7 @@ impl Cause {
             Cause::Outside | Cause::NotTheSink | Cause::NotTheSource => "cell",
             Cause::SameCell | Cause::NoNeighbour | Cause::CutWire => "wire",
             Cause::LoadBefore | Cause::LoadAfter => "load",
-            Cause::Period => "period",
+            Cause::Period(_) => "period",
             _ => "site",
         }
     }
@@ -75,15 +75,16 @@ fn site(p: &Problem, cell: u32, code: u32, last: bool) -> Tested<()> {
     }
 }
 
-// Load and delay (half-ticks) of the span so far.
+// Load and delay (half-ticks) of the span so far, and the smallest spare figure of those before it.
 #[derive(Clone, Copy)]
 struct Span {
     load: u128,
     delay: u128,
+    slack: u128,
 }
 
-fn fresh(p: &Problem) -> Span {
-    Span { load: p.register.c.into(), delay: 2 * p.register.setup as u128 }
+fn fresh(p: &Problem, slack: u128) -> Span {
+    Span { load: p.register.c.into(), delay: 2 * p.register.setup as u128, slack }
 }
 
 fn first(p: &Problem, (cell, code): Visit) -> Tested<Span> {
@@ -91,7 +92,7 @@ fn first(p: &Problem, (cell, code): Visit) -> Tested<Span> {
     test(cell == p.sink, Cause::NotTheSink)?;
     test(code == 7, Cause::EndCode)?;
     test(p.register.c <= p.limit, Cause::LoadAfter)?;
-    Ok(fresh(p))
+    Ok(fresh(p, u128::MAX))
 }
 
 fn next(p: &Problem, span: Span, from: u32, (cell, code): Visit, last: bool) -> Tested<Span> {
@@ -105,25 +106,27 @@ fn next(p: &Problem, span: Span, from: u32, (cell, code): Visit, last: bool) -> 
     test(load <= limit, Cause::LoadBefore)?;
     let through = |r: u32, k: u32| delay + 2 * (r as u128 * load + k as u128);
     match code {
-        0 => Ok(Span { load, delay }),
+        0 => Ok(Span { load, delay, ..span }),
         7 => {
-            test(through(p.register.r, p.register.k) <= 2 * p.period as u128, Cause::Period)?;
-            Ok(fresh(p))
+            let (closing, allowed) = (through(p.register.r, p.register.k), 2 * p.period as u128);
+            test(closing <= allowed, Cause::Period(closing.saturating_sub(allowed)))?;
+            Ok(fresh(p, span.slack.min(allowed - closing)))
         }
         _ => {
             let b = p.buffers[code as usize - 1];
             test(b.c as u128 <= limit, Cause::LoadAfter)?;
-            Ok(Span { load: b.c.into(), delay: through(b.r, b.k) })
+            Ok(Span { load: b.c.into(), delay: through(b.r, b.k), ..span })
         }
     }
 }
 
-// The first visit at fault, and why. The question has passed refusals 1 to 5, the list has two visits or more.
-pub fn judge(p: &Problem, visits: &[Visit]) -> Result<(), (usize, Cause)> {
+// The spare half-ticks, or the first visit at fault, and why. The question has passed refusals 1 to 5, the list has two
+// visits or more.
+pub fn judge(p: &Problem, visits: &[Visit]) -> Result<u128, (usize, Cause)> {
     let last = visits.len() - 1;
     let mut span = first(p, visits[0]).map_err(|cause| (0, cause))?;
     for at in 1..=last {
         span = next(p, span, visits[at - 1].0, visits[at], at == last).map_err(|cause| (at, cause))?;
     }
-    Ok(())
+    Ok(span.slack)
 }

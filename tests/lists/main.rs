@@ -33,6 +33,7 @@ mod comparison;
 mod endless;
 mod judge;
 mod lists;
+mod misses;
 mod mix;
 mod script;
 mod tuning;

@@ -3,7 +3,7 @@
 use crate::comparison::{registers, Choice, Why};
 use crate::judge::{judge, Cause};
 use crate::plan::Fault;
-use crate::rules::{Measured, Problem, Visit};
+use crate::rules::{Measured, Problem, Visit, TIGHTEST};
 use std::collections::BTreeMap;
 
 const LONG: usize = 1_000; // visits
@@ -48,16 +48,38 @@ const ORDER: [&str; 6] = ["grid", "length", "plan", "element", "ends", "list"];
 const ELEMENTS: [&str; 12] = ["1", "2", "3", "4", "5", "6", "7 1", "7 2", "7 3", "7 4", "7 5", "7 6"];
 const NUMBERS: [&str; 6] = ["1", "2", "3", "4", "5", "17"];
 
+// Spare half-ticks of an accepted list.
+const SLACKS: [&str; 5] = ["0", "1", "2 to 99", "100 to 9,999", "10,000 and more"];
+
+// Half-ticks by which a period is missed: these, and about the largest miss that is told.
+const MISSES: [&str; 5] = ["1", "2", "3 to 99", "100 to 9,999", "10,000 to 999,999"];
+const FAR_MISSES: [&str; 5] =
+    ["1,000,000 to 999,999,998", "999,999,999", "1,000,000,000", "1,000,000,001", "1,000,000,002 and more"];
+
+fn slack_name(slack: u64) -> &'static str {
+    SLACKS[[1, 2, 100, 10_000].iter().filter(|&&from| from <= slack).count()]
+}
+
+fn miss_name(miss: u128) -> String {
+    let near = [2, 3, 100, 10_000].iter().filter(|&&from| from <= miss).count();
+    let far = [999_999_999, 1_000_000_000, 1_000_000_001, 1_000_000_002].iter().filter(|&&from| from <= miss).count();
+    if miss < 1_000_000 {
+        format!("missed by {}", MISSES[near])
+    } else {
+        format!("far missed by {}", FAR_MISSES[far])
+    }
+}
+
 const LISTS: [&str; 14] = [
     "accepted with a register on a blocked tap",
     "accepted over an end's cell",
     "accepted with two gates on one cell",
-    "accepted with the period just met",
     "accepted with the load limit just met",
     "accepted of over 1,000 visits",
     "accepted over a cell above 255",
     "at fault over a cell above 255",
-    "period just missed",
+    "period missed at the first close",
+    "period missed at a later close",
     "load limit just missed",
     "at fault past visit 1,000",
     "a buffer on a blocked tap",
@@ -104,6 +126,10 @@ fn kinds() -> Vec<(&'static str, u64, Vec<String>)> {
         ("fault", 30, at("fault ", &FAULTS)),
         ("cause", 5, at("cause ", &CAUSES)),
         ("list", 5, after("", &LISTS)),
+        ("spare", 20, after("spare ", &SLACKS)),
+        ("tightest span", 20, after("tightest span ", &TIGHTEST)),
+        ("missed by", 10, after("missed by ", &MISSES)),
+        ("far missed by", 3, after("far missed by ", &FAR_MISSES)),
         ("judge refused", 10, after("judge ", &NUMBERS)),
         ("judge 4: fault", 1, after("judge 4: ", &ELEMENTS)),
         ("judge, two reasons", 3, orders("judge")),
@@ -153,15 +179,15 @@ impl Mix {
         let inner = &route[1..route.len() - 1];
         let mut gates: Vec<u32> = inner.iter().filter(|v| v.1 != 0).map(|v| v.0).collect();
         gates.sort();
-        let slowest = measured.closings.iter().max().unwrap();
         self.add("accepted");
+        self.add(&format!("spare {}", slack_name(measured.slack(p))));
+        self.add_if(measured.closings.len() > 1, &format!("tightest span {}", measured.tightest()));
         self.add_if(
             inner.iter().any(|v| v.1 == 7 && p.marks[v.0 as usize] & 3 == 3),
             "accepted with a register on a blocked tap",
         );
         self.add_if(inner.iter().any(|v| v.0 == p.source || v.0 == p.sink), "accepted over an end's cell");
         self.add_if(gates.windows(2).any(|two| two[0] == two[1]), "accepted with two gates on one cell");
-        self.add_if(*slowest + 1 >= 2 * p.period as u64, "accepted with the period just met");
         self.add_if(measured.greatest_load == p.limit, "accepted with the load limit just met");
         self.add_if(route.len() > LONG, "accepted of over 1,000 visits");
         self.add_if(route.iter().any(|visit| visit.0 > 255), "accepted over a cell above 255");
@@ -174,11 +200,16 @@ impl Mix {
             _ => "middle",
         };
         self.add(&format!("fault {} {place}", cause.fault()));
-        self.add(&format!("cause {cause:?} {place}"));
+        if let Cause::Period(miss) = cause {
+            let first = route[1..at].iter().all(|visit| visit.1 != 7);
+            self.add(&format!("cause Period {place}"));
+            self.add(&miss_name(miss));
+            self.add(if first { "period missed at the first close" } else { "period missed at a later close" });
+        } else {
+            self.add(&format!("cause {cause:?} {place}"));
+        }
         self.add_if(at > LONG, "at fault past visit 1,000");
         self.add_if((256..p.cells()).contains(&route[at].0), "at fault over a cell above 255");
-        let looser = Problem { period: p.period + 1, ..p.clone() };
-        self.add_if(cause == Cause::Period && judge(&looser, route) != Err((at, cause)), "period just missed");
         let looser = Problem { limit: p.limit + 1, ..p.clone() };
         self.add_if(cause.fault() == "load" && judge(&looser, route) != Err((at, cause)), "load limit just missed");
         let (cell, before) = (route[at].0, route[at.max(1) - 1].0);

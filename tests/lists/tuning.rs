@@ -1,26 +1,55 @@
 // Plans and tables changed under a list, so that it just keeps the rules or just breaks one; and questions to be refused.
 
 use crate::random::Random;
-use crate::rules::{legal, Buffer, Problem, Visit};
+use crate::rules::{legal, Buffer, Measured, Problem, Visit, Wire};
 
 // Longer than any list's delay.
-const NO_PERIOD: u32 = 1 << 30;
+pub const NO_PERIOD: u32 = 1 << 30;
 
-// The period or the limit that the list just meets, or one less; or a wire cut, or a site taken away.
+// What the list comes to with the longest period and the highest limit.
+fn unbounded(p: &Problem, list: &[Visit]) -> Option<Measured> {
+    legal(&Problem { period: NO_PERIOD, limit: 63, ..p.clone() }, list)
+}
+
+fn slowest(measured: &Measured) -> u64 {
+    *measured.closings.iter().max().unwrap()
+}
+
+// The period or the limit that the list just meets, or one less, or any period that it misses; or a wire cut, or a site
+// taken away.
 pub fn tune(r: &mut Random, p: &mut Problem, list: &[Visit]) {
-    let unbounded = Problem { period: NO_PERIOD, limit: 63, ..p.clone() };
-    let Some(measured) = legal(&unbounded, list) else { return };
-    let least = (*measured.closings.iter().max().unwrap()).div_ceil(2).max(1) as u32;
+    if r.chance(40) {
+        make_odd(p, list);
+    }
+    let Some(measured) = unbounded(p, list) else { return };
+    let least = slowest(&measured).div_ceil(2).max(1) as u32;
     let heaviest = list.iter().map(|visit| driven(p, visit.1)).max().unwrap();
-    match r.below(13) {
+    match r.below(15) {
         0 | 1 if least <= 30_000 => p.period = least,
-        2 if 1 < least && least <= 30_001 => p.period = least - 1,
-        3 => p.limit = measured.greatest_load,
-        4 | 5 => p.limit = measured.greatest_load.saturating_sub(1),
-        6 => p.limit = p.register.c.saturating_sub(r.below(2)),
-        7 | 8 if heaviest > p.register.c => p.limit = heaviest - 1,
-        9 | 10 => cut(r, p, list),
+        2 | 3 if 1 < least && least <= 30_001 => p.period = least - 1,
+        4 if 1 < least => p.period = r.within(1, (least - 1).min(30_000)),
+        5 => p.limit = measured.greatest_load,
+        6 | 7 => p.limit = measured.greatest_load.saturating_sub(1),
+        8 => p.limit = p.register.c.saturating_sub(r.below(2)),
+        9 | 10 if heaviest > p.register.c => p.limit = heaviest - 1,
+        11 | 12 => cut(r, p, list),
         _ => resite(r, p, list),
+    }
+}
+
+// Another wire, with which the slowest span closes at an odd number of half-ticks, if one of four does that.
+fn make_odd(p: &mut Problem, list: &[Visit]) {
+    let (h, v) = (p.horizontal, p.vertical);
+    let wires = [
+        (Wire { r: h.r ^ 1, ..h }, v),
+        (Wire { r: h.r | 1, c: h.c | 1 }, v),
+        (h, Wire { r: v.r ^ 1, ..v }),
+        (h, Wire { r: v.r | 1, c: v.c | 1 }),
+    ];
+    let with = |(horizontal, vertical)| Problem { horizontal, vertical, ..p.clone() };
+    let odd = |other: &Problem| unbounded(other, list).is_some_and(|measured| slowest(&measured) % 2 == 1);
+    if let Some(other) = wires.map(with).into_iter().find(odd) {
+        *p = other;
     }
 }
 

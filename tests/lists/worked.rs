@@ -85,24 +85,26 @@ const OVER_SINK: &[u32] = &[2, 7, 1, 0, 2, 0, 1, 0, 0, 7];
 const BACK: &[u32] = &[2, 7, 1, 7, 2, 0, 1, 7, 0, 7];
 const TWICE: &[u32] = &[2, 7, 1, 0, 4, 7, 1, 0, 0, 7];
 
-const ACCEPTED: &str = "judge 0 depth 0 accepted";
+fn accepted(list: &[u32], slack: u32) -> (Asked, String) {
+    judge(list, &format!("judge 0 depth 0 accepted {slack}"))
+}
+
+fn late(list: &[u32], visit: u32, miss: u32) -> (Asked, String) {
+    judge(list, &format!("judge 0 depth 0 visit {visit} period -{miss}"))
+}
 
 // R1 to R13: what the router answers is accepted, and the next best list fails where the case says.
 fn routes() -> Vec<Case> {
     vec![
-        case("R1: closes at 52", strip(26), vec![judge(PLAIN, ACCEPTED), judge(REGISTERED, ACCEPTED)]),
-        case(
-            "R2: 52 is over 50",
-            strip(25),
-            vec![judge(PLAIN, "judge 0 depth 0 visit 2 period"), judge(REGISTERED, ACCEPTED)],
-        ),
-        case("R3: each span closes at 24", strip(12), vec![judge(REGISTERED, ACCEPTED)]),
-        case("R4: 24 is over 22", strip(11), vec![judge(REGISTERED, "judge 0 depth 0 visit 1 period")]),
-        case("R5: load 7 at the source", limited(7), vec![judge(PLAIN, ACCEPTED)]),
+        case("R1: closes at 52", strip(26), vec![accepted(PLAIN, 0), accepted(REGISTERED, 28)]),
+        case("R2: 52 is over 50", strip(25), vec![late(PLAIN, 2, 2), accepted(REGISTERED, 26)]),
+        case("R3: each span closes at 24", strip(12), vec![accepted(REGISTERED, 0)]),
+        case("R4: 24 is over 22", strip(11), vec![late(REGISTERED, 1, 2)]),
+        case("R5: load 7 at the source", limited(7), vec![accepted(PLAIN, 0)]),
         case(
             "R6: load 7 is over 6",
             limited(6),
-            vec![judge(PLAIN, "judge 0 depth 0 visit 2 load"), judge(REGISTERED, ACCEPTED)],
+            vec![judge(PLAIN, "judge 0 depth 0 visit 2 load"), accepted(REGISTERED, 28)],
         ),
         case(
             "R7: load 4 is over 3, before the gate",
@@ -117,17 +119,19 @@ fn routes() -> Vec<Case> {
             "R8: the buffer's span closes at 44",
             buffered(22),
             vec![
-                judge(BUFFERED, ACCEPTED),
-                judge(PLAIN, "judge 0 depth 0 visit 2 period"),
+                accepted(BUFFERED, 0),
+                late(PLAIN, 2, 8),
                 better(REGISTERED, BUFFERED, "better 0 depth 0 second words 2 7 1 1 0 7"),
                 better(PLAIN, REGISTERED, "better 0 depth 0 second words 2 7 1 7 0 7"),
             ],
         ),
-        case("R9: 44 is over 42", buffered(21), vec![judge(BUFFERED, "judge 0 depth 0 visit 2 period")]),
+        case("R9: 44 is over 42", buffered(21), vec![late(BUFFERED, 2, 2), accepted(REGISTERED, 18)]),
         case(
             "R10: three legal lists",
             buffered(26),
             vec![
+                accepted(PLAIN, 0),
+                accepted(BUFFERED, 8),
                 better(PLAIN, BUFFERED, "better 0 depth 0 first words 2 7 1 0 0 7"),
                 better(BUFFERED, PLAIN, "better 0 depth 0 second words 2 7 1 0 0 7"),
                 better(REGISTERED, BUFFERED, "better 0 depth 0 second words 2 7 1 1 0 7"),
@@ -137,21 +141,21 @@ fn routes() -> Vec<Case> {
         case(
             "R11: no tap",
             marked(&[0, 1, 0], strip(25)),
-            vec![judge(REGISTERED, "judge 0 depth 0 visit 1 site"), judge(PLAIN, "judge 0 depth 0 visit 2 period")],
+            vec![judge(REGISTERED, "judge 0 depth 0 visit 1 site"), late(PLAIN, 2, 2)],
         ),
         case(
             "R12: a blocked cell with a tap",
             marked(&[0, 3, 0], buffered(22)),
-            vec![judge(REGISTERED, ACCEPTED), judge(BUFFERED, "judge 0 depth 0 visit 1 site")],
+            vec![accepted(REGISTERED, 20), judge(BUFFERED, "judge 0 depth 0 visit 1 site")],
         ),
         case(
             "R13: a cell passed twice",
             two_rows(12),
             vec![
-                judge(TWICE, ACCEPTED),
-                judge(PLAIN, "judge 0 depth 0 visit 2 period"),
+                accepted(TWICE, 0),
+                late(PLAIN, 2, 28),
                 judge(REGISTERED, "judge 0 depth 0 visit 1 site"),
-                judge(&[2, 7, 5, 0, 4, 7, 3, 0, 0, 7], ACCEPTED),
+                accepted(&[2, 7, 5, 0, 4, 7, 3, 0, 0, 7], 0),
                 better(&[2, 7, 5, 0, 4, 7, 3, 0, 0, 7], TWICE, "better 0 depth 0 second words 2 7 1 0 4 7 1 0 0 7"),
                 better(&[2, 7, 1, 0, 4, 7, 4, 0, 0, 7], &[2, 7, 3, 0], "better 18 depth 0 words"),
             ],
@@ -203,7 +207,7 @@ fn faults() -> Vec<Case> {
                 judge(&[2, 7, 1, 65_535, 0, 7], "judge 0 depth 0 visit 1 site"),
                 judge(&[2, 7, 1, 7, 2, 7, 1, 7, 0, 7], "judge 0 depth 0 visit 2 site"),
                 judge(&[2, 7, 1, 7, 0, 1, 1, 7, 0, 7], "judge 0 depth 0 visit 2 site"),
-                judge(BACK, ACCEPTED), // its second span is R1's
+                accepted(BACK, 0), // its second span is R1's
             ],
         ),
         // 2 + 10 + 22 + 34 + 46 = 114 with load 13 at the source, which adds 2 (13 + 2)
@@ -211,12 +215,12 @@ fn faults() -> Vec<Case> {
             "closes at 144, over the sink",
             strip(72),
             vec![
-                judge(OVER_SINK, ACCEPTED),
+                accepted(OVER_SINK, 0),
                 better(REGISTERED, OVER_SINK, "better 0 depth 0 second words 2 7 1 0 2 0 1 0 0 7"),
                 better(OVER_SINK, PLAIN, "better 0 depth 0 second words 2 7 1 0 0 7"),
             ],
         ),
-        case("144 is over 142", strip(71), vec![judge(OVER_SINK, "judge 0 depth 0 visit 4 period")]),
+        case("144 is over 142", strip(71), vec![late(OVER_SINK, 4, 2)]),
         case(
             "fewer steps, later in written order",
             Problem { source: 2, sink: 0, ..strip(72) },
@@ -232,8 +236,8 @@ fn faults() -> Vec<Case> {
             vec![judge(PLAIN, "judge 0 depth 0 visit 2 load")],
         ),
         // setup 2: the first span closes at 26, the second at 4 + 10 + 22 + 18
-        case("a span closes at 54", slow(27), vec![judge(BACK, ACCEPTED)]),
-        case("54 is over 52", slow(26), vec![judge(BACK, "judge 0 depth 0 visit 3 period")]),
+        case("a span closes at 54", slow(27), vec![accepted(BACK, 0)]),
+        case("54 is over 52", slow(26), vec![late(BACK, 3, 2)]),
         case(
             "cut wires, and the next row's first cell",
             marked(&[8, 5, 0, 0, 2, 0], Problem { height: 2, ..strip(100) }),
@@ -241,13 +245,105 @@ fn faults() -> Vec<Case> {
                 judge(PLAIN, "judge 0 depth 0 visit 1 wire"),
                 judge(&[2, 7, 3, 0, 0, 7], "judge 0 depth 0 visit 1 wire"),
                 judge(&[2, 7, 5, 0, 4, 7, 3, 0, 0, 7], "judge 0 depth 0 visit 4 wire"),
-                judge(&[2, 7, 5, 0, 4, 7, 1, 0, 0, 7], ACCEPTED),
+                accepted(&[2, 7, 5, 0, 4, 7, 1, 0, 0, 7], 148), // each span is R1's
             ],
         ),
         case(
             "a buffer of load 9 is over 8",
             Problem { buffers: vec![Buffer { r: 0, k: 0, c: 9 }], limit: 8, ..strip(26) },
-            vec![judge(BUFFERED, "judge 0 depth 0 visit 1 load"), judge(PLAIN, ACCEPTED)],
+            vec![judge(BUFFERED, "judge 0 depth 0 visit 1 load"), accepted(PLAIN, 0)],
+        ),
+    ]
+}
+
+// The smallest figure of several spans; figures above and below zero by one half-tick.
+fn figures() -> Vec<Case> {
+    let odd = |period: u32| Problem { horizontal: Wire { r: 1, c: 3 }, ..strip(period) };
+    let first: &[u32] = &[2, 7, 1, 0, 2, 0, 1, 7, 0, 7];
+    let last: &[u32] = &[2, 7, 1, 7, 2, 0, 1, 0, 0, 7];
+    vec![
+        // three steps: 2 + 10 + 22 + 34 = 68 with load 10 at the register, which adds 2 (10 + 2)
+        case("spans close at 92 and 24", strip(50), vec![accepted(first, 8), accepted(last, 8)]),
+        case("92 is over 90", strip(45), vec![late(first, 3, 2), late(last, 4, 2)]),
+        case("spans close at 24, 52 and 24", strip(30), vec![accepted(BACK, 8)]),
+        case("24 is just met, 52 is over 24", strip(12), vec![late(BACK, 3, 28)]),
+        // an odd wire: 2 + 5 = 7 with load 4 at the register, which adds 12
+        case("each span closes at 19", odd(10), vec![accepted(REGISTERED, 1)]),
+        case("19 is over 18", odd(9), vec![late(REGISTERED, 1, 1)]),
+        case("19 is over 16", odd(8), vec![late(REGISTERED, 1, 3)]),
+        // and 2 + 5 + 11 = 18 with load 7 at the source, which adds 18
+        case("36 is over 34", odd(17), vec![late(PLAIN, 2, 2)]),
+    ]
+}
+
+// Tables for one span that closes after n buffers at 66,260 n + 2 setup + 2 R C + 2 K half-ticks, C being 63, and what
+// the first step adds to it: 125 by a wire with R 1, 250 with R 2.
+fn heavy(first: u32, (r, k, setup): (u32, u32, u32), period: u32) -> Problem {
+    Problem {
+        width: 3,
+        height: 2,
+        marks: vec![0; 6],
+        register: Register { r, k, c: 62, setup },
+        horizontal: Wire { r: 255, c: 0 },
+        vertical: Wire { r: first, c: 1 },
+        period,
+        limit: 63,
+        source: 2,
+        sink: 3,
+        buffers: vec![Buffer { r: 255, k: 1_000, c: 63 }],
+    }
+}
+
+// Up from the sink, then buffers on cells 0 and 1 by turns, then the source; an even number of buffers.
+fn driven(buffers: u32) -> Vec<u32> {
+    let between = (0..buffers).flat_map(|at| [at % 2, 1]);
+    [3, 7].into_iter().chain(between).chain([2, 7]).collect()
+}
+
+// About the largest miss that is told. 15,092 buffers take 999,995,920 half-ticks.
+fn floor() -> Vec<Case> {
+    let about = |name: &'static str, p: Problem, buffers: u32, told: u32| {
+        case(name, p, vec![late(&driven(buffers), buffers + 1, told)])
+    };
+    let largest = (15, 970, 30_000); // adds 63,830
+    vec![
+        about("missed by 999,999,998", heavy(2, (0, 0, 1_915), 1), 15_092, 999_999_998),
+        about("missed by 999,999,999", heavy(1, (0, 0, 1_978), 1), 15_092, 999_999_999),
+        about("missed by 1,000,000,000", heavy(2, (0, 0, 1_916), 1), 15_092, 1_000_000_000),
+        about("missed by 1,000,000,001", heavy(1, (0, 0, 1_979), 1), 15_092, 1_000_000_000),
+        about("missed by 1,000,000,002", heavy(2, (0, 0, 1_917), 1), 15_092, 1_000_000_000),
+        about("the longest period, missed by 999,999,875", heavy(1, largest, 30_000), 15_092, 999_999_875),
+        about("the longest period, missed by 1,000,000,000", heavy(2, largest, 30_000), 15_092, 1_000_000_000),
+        about("one tick less", heavy(2, largest, 29_999), 15_092, 1_000_000_000),
+        about("past 2^29", heavy(2, (0, 0, 0), 30_000), 8_104, 8_104 * 66_260 + 250 - 60_000),
+        about("past 2^30", heavy(2, (0, 0, 0), 30_000), 16_206, 1_000_000_000),
+    ]
+}
+
+// So many visits to cells 1 and 0 by turns, an even number of them.
+fn to_and_fro(visits: u32) -> Vec<u32> {
+    let mut list: Vec<u32> = (0..visits).flat_map(|at| [(at + 1) % 2, 0]).collect();
+    (list[1], list[2 * visits as usize - 1]) = (7, 7);
+    list
+}
+
+// Lists about as long as a script can have them, over a wire that costs nothing: they close at 2 + 2 (1 + 2) = 8.
+fn long() -> Vec<Case> {
+    let free = Wire { r: 0, c: 0 };
+    let problem = || Problem { width: 2, marks: vec![0, 0], sink: 1, horizontal: free, ..strip(26) };
+    let (more, fewer) = (to_and_fro(8_002), to_and_fro(8_000));
+    let words: String = fewer.iter().map(|word| format!(" {word}")).collect();
+    vec![
+        case("16,200 visits", problem(), vec![accepted(&to_and_fro(16_200), 44)]),
+        case(
+            "8,002 and 8,000",
+            problem(),
+            vec![better(&more, &fewer, &format!("better 0 depth 0 second words{words}"))],
+        ),
+        case(
+            "8,000 and 8,002",
+            problem(),
+            vec![better(&fewer, &more, &format!("better 0 depth 0 first words{words}"))],
         ),
     ]
 }
@@ -264,9 +360,7 @@ fn past_powers() -> Case {
     };
     let asked = [16, 17, 18, 19, 20, 22, 24, 25, 26].map(|power| {
         let steps = (1u32 << power).div_ceil(255 * 2 * 63); // an odd number: the last one leads to cell 0
-        let mut list: Vec<u32> = (0..=steps).flat_map(|at| [(at + 1) % 2, 0]).collect();
-        (list[1], list[2 * steps as usize + 1]) = (7, 7);
-        judge(&list, &format!("judge 0 depth 0 visit {steps} period"))
+        late(&to_and_fro(steps + 1), steps, steps * 255 * 2 * 63 - 60_000)
     });
     case("delays past a power of two", problem, asked.into())
 }
@@ -314,7 +408,7 @@ fn refusals() -> Vec<Case> {
 }
 
 pub fn cases() -> Vec<Case> {
-    [routes(), faults(), vec![past_powers()], refusals()].into_iter().flatten().collect()
+    [routes(), faults(), figures(), floor(), long(), vec![past_powers()], refusals()].into_iter().flatten().collect()
 }
 
 const NO_NUMBER: &str = "a number is missing";
@@ -324,10 +418,10 @@ const TOO_LARGE: &str = "a number is too large";
 pub const BAD: [(&str, &str); 8] = [
     ("judge 3 1 0 show", NO_NUMBER),
     ("judge 65536", TOO_LARGE),
-    ("judge 3 1 0 2 8193", TOO_LARGE),
+    ("judge 3 1 0 2 32769", TOO_LARGE),
     ("judge 3 1 0 2 6 2 7 1 7 0 show", NO_NUMBER),
     ("judge 3 1 0 2 6 2 65536", TOO_LARGE),
-    ("better 3 1 0 2 8193", TOO_LARGE),
-    ("better 3 1 0 2 4 2 7 0 7 8193", TOO_LARGE),
+    ("better 3 1 0 2 32769", TOO_LARGE),
+    ("better 3 1 0 2 4 2 7 0 7 32769", TOO_LARGE),
     ("better 3 1 0 2 4 2 7 0 7 4 2 7 0 show", NO_NUMBER),
 ];

@@ -19,7 +19,13 @@ drawing() { # STATUS NAME TEXT VISITS
     told "the drawing $2" "$1" "$(tools/route "$3")" "" tools/route --svg "$work/drawing.svg" "$3"
     same "the drawing $2" "$4" "$(python3 $here/drawing.py "$work/drawing.svg" 2>&1)"
 }
+title() { # WORDS, of the last drawing
+    same "the title of a drawing" "$1" "$(sed -n 's|^<title>\(.*\)</title>$|\1|p' "$work/drawing.svg")"
+}
 drawing 0 crossing examples/crossing.txt "22 visits, 22 points, 8 taps, 49 blocked, 20 cuts"
+title "examples/crossing.txt: registers 2, steps 21, latency 375 ticks, spare 0 half-ticks"
+drawing 0 wide $here/wide.txt "38 visits, 38 points, 9 taps, 16 blocked, 4 cuts"
+title "$here/wide.txt: registers 4, steps 37, latency 300 ticks, spare 1 half-tick"
 drawing 0 twice examples/twice.txt "5 visits, 5 points, 1 taps, 1 blocked, 0 cuts"
 drawing 0 fits $here/fits.txt "1024 visits, 1024 points, 11 taps, 58 blocked, 106 cuts"
 edited 's/^period .*/period 20/'

@@ -12,8 +12,8 @@ edited 's/^period .*/period 20/'
 told "none on a full disk" 4 "" "standard output: $full (os error 28)" onto_full tools/route "$work/bad.txt"
 edited 's/^limit .*/limit 64/'
 told "a refusal on a full disk" 4 "" "standard output: $full (os error 28)" onto_full tools/route "$work/bad.txt"
-told "a drawing on a full disk" 4 "$(cat examples/crossing.sheet)" "/dev/full: $full (os error 28)" tools/route --svg /dev/full examples/crossing.txt
-told "a drawing into no folder" 4 "$(cat examples/crossing.sheet)" "missing/a.svg: No such file or directory (os error 2)" \
+told "a drawing on a full disk" 4 "$(tools/route examples/crossing.txt)" "/dev/full: $full (os error 28)" tools/route --svg /dev/full examples/crossing.txt
+told "a drawing into no folder" 4 "$(tools/route examples/crossing.txt)" "missing/a.svg: No such file or directory (os error 2)" \
     tools/route --svg "$work/missing/a.svg" examples/crossing.txt
 onto_full tools/route --help 2>"$work/err"
 same "status of tools/route --help on a full disk" 4 $?

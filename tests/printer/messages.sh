@@ -107,6 +107,6 @@ told "job write on a missing file" 4 "" "examples/missing.txt: No such file or d
 told "job read on a folder" 4 "" "examples: Is a directory (os error 21)" $job read examples
 told "a file's name with an escape" 4 "" "no\\u{1b}.txt: No such file or directory (os error 2)" $job write $'no\e.txt'
 cp examples/strip.txt "$work/"$'caf\xe9.txt'
-told "a file's name that is no UTF-8" 0 "route 0 2 26" "" sh -c "$job route $printer $work/caf*.txt | head -n 1"
+told "a file's name that is no UTF-8" 0 "route 0 2 26 0" "" sh -c "$job route $printer $work/caf*.txt | head -n 1"
 $job --help >"$work/out"
 same_file "the tool's help" examples/README.md "$work/out"

@@ -8,16 +8,13 @@ $usage" tools/route --pictures examples/crossing.txt
 told "--svg without a file" 2 "" "tools/route: --svg needs the name of a file
 $usage" tools/route examples/crossing.txt --svg
 told "a missing file" 4 "" "examples/missing.txt: No such file or directory (os error 2)" tools/route examples/missing.txt
-told "the example" 0 "$(cat examples/crossing.sheet)" "" tools/route examples/crossing.txt
+example=$(tools/route examples/crossing.txt)
 from_there() { (cd examples && ../tools/route crossing.txt); }
-told "the example, from another folder" 0 "$(cat examples/crossing.sheet)" "" from_there
+told "the example, from another folder" 0 "$example" "" from_there
 from_pipe() { tools/route <(cat examples/crossing.txt); }
-told "the example, from a pipe" 0 "$(cat examples/crossing.sheet)" "" from_pipe
+told "the example, from a pipe" 0 "$example" "" from_pipe
 same "the help's first line" "$usage" "$(tools/route --help | head -n 1)"
 same "the version" "tools/route $(cat tools/VERSION)" "$(tools/route --version | cut -d, -f1)"
-
-# ---- the guide's worked span
-told "the guide's strip" 0 "$(sed -n '/^    route 0 2 26/,/^    0 7/s/^    //p' docs/GUIDE.md)" "" tools/route examples/strip.txt
 
 # ---- a repository of two crates, a prover that proves nothing, and few other commands
 fake=$work/repository
@@ -101,18 +98,27 @@ fit="its route does not fit the plan:"
 as_program "a program that cannot write" "it says: route_printer: standard output: No space left on device" "exec $PWD/$printer >/dev/full"
 as_program "a program that cannot read" "it says: route_printer: standard input: Bad file descriptor" "exec $PWD/$printer <&-"
 as_program "a program that prints nothing" "it printed no answer, but ''" ""
-as_program "half an answer" "its route does not fit the plan: it says 4 steps and has 2 visits" "printf 'route 1 4 24\n2 7\n1 0\n'"
+as_program "half an answer" "its route does not fit the plan: it says 4 steps and has 2 visits" "printf 'route 1 4 24 0\n2 7\n1 0\n'"
 as_program "an answer without its last line's end" "it printed no answer, but 'none'" "printf none"
 as_program "a program that fails" "it ended with exit status: 7" "exit 7"
 as_program "a program that is ended" "it ended with signal: 9 (SIGKILL)" 'kill -9 $$'
 as_program "words" "it printed no answer, but 'none\\n\\u{1b}'" "printf 'none\n\33\n'"
 as_program "a refusal that the text cannot meet" "it refused the job of the text with 15, and did not get it whole" "echo refused 15"
-as_program "a cell outside the plan" "$fit it visits cell 6, which is not in the plan" "printf 'route 0 1 12\n2 7\n6 7\n'"
-as_program "a code that there is not" "$fit it has the gate code 1" "printf 'route 0 2 12\n2 7\n1 1\n0 7\n'"
-as_program "cells that are not joined" "$fit no wire joins its cells 2 and 0" "printf 'route 0 1 12\n2 7\n0 7\n'"
-as_program "another sink" "$fit it does not lead from the sink to the source" "printf 'route 0 1 12\n1 7\n0 7\n'"
-as_program "invented registers" "$fit its first line says registers 1, latency 24" "printf 'route 1 2 24\n2 7\n1 0\n0 7\n'"
-as_program "an invented latency" "$fit its first line says registers 0, latency 24" "printf 'route 0 2 24\n2 7\n1 0\n0 7\n'"
+as_program "a cell outside the plan" "$fit it visits cell 6, which is not in the plan" "printf 'route 0 1 12 0\n2 7\n6 7\n'"
+as_program "a code that there is not" "$fit it has the gate code 1" "printf 'route 0 2 12 0\n2 7\n1 1\n0 7\n'"
+as_program "cells that are not joined" "$fit no wire joins its cells 2 and 0" "printf 'route 0 1 12 0\n2 7\n0 7\n'"
+as_program "another sink" "$fit it does not lead from the sink to the source" "printf 'route 0 1 12 0\n1 7\n0 7\n'"
+as_program "invented registers" "$fit its first line says registers 1, latency 24" "printf 'route 1 2 24 0\n2 7\n1 0\n0 7\n'"
+as_program "an invented latency" "$fit its first line says registers 0, latency 24" "printf 'route 0 2 24 0\n2 7\n1 0\n0 7\n'"
+instead() { # NAME MESSAGE LINE: the program's answer with another first line
+    as_program "$1" "$2" "$PWD/$printer | sed '1s/.*/$3/'"
+}
+instead "another spare figure" "$fit its first line says spare 1, and its spans have 0" "route 1 4 24 1"
+as_program "a span that is too long" "$fit its first line says spare 0, and its spans have -28" "printf 'route 0 2 12 0\n2 7\n1 0\n0 7\n'"
+instead "a spare figure below zero" "it printed no answer, but 'route 1 4 24 -1\\n2 7\\n1 0\\n4 7\\n1 0\\n0 7'" "route 1 4 24 -1"
+instead "a spare figure that is no number" "it printed no answer, but 'route 1 4 24 00\\n2 7\\n1 0\\n4 7\\n1 0\\n0 7'" "route 1 4 24 00"
+instead "three figures" "it printed no answer, but 'route 1 4 24\\n2 7\\n1 0\\n4 7\\n1 0\\n0 7'" "route 1 4 24"
+instead "five figures" "it printed no answer, but 'route 1 4 24 0 0\\n2 7\\n1 0\\n4 7\\n1 0\\n0 7'" "route 1 4 24 0 0"
 told "a missing program" 4 "" "missing: No such file or directory (os error 2)" $job route "$work/missing" examples/twice.txt
 printf '#!/bin/sh\necho refused 4\n' >"$work/program"
 told "a refusal for which the text shows no reason" 3 "refused 4" "examples/twice.txt: a number is outside its range (refusal 4)" \

@@ -1,4 +1,4 @@
-# Text to job and back.
+# Text to job and back. It uses what spans.sh has set up.
 
 round() { # NAME JOB
     checks=$((checks + 1))
@@ -24,7 +24,8 @@ while read -r hex; do
         esac
         $job route $printer "$work/text" >"$work/out" 2>"$work/err"
         same "status on $hex" $status $?
-        same "answer on $hex" "$answer" "$(cat "$work/out")"
+        same "answer on $hex" "$answer" "$(grep -v '^#' "$work/out")"
+        [ $status != 0 ] || same "the spans on $hex" "" "$(table_sums "$work/out")"
         said=$(sed "s|$work/||g" "$work/err")
         [[ $said =~ ^$message$ ]] || fail "message on $hex: '$said'"
         case $statuses in *$status*) ;; *) statuses=$statuses$status ;; esac
@@ -43,7 +44,7 @@ sed 's/^source.*/source 0 0/; s/^sink.*/sink 2 5/; /^row/d; $ a row . . . . . .\
 $job write "$work/open.txt" >"$work/again"
 $job write "$work/drawn.txt" >"$work/job2"
 same_file "a size without rows" "$work/job2" "$work/again"
-told "a size without rows" 0 "route 0 7 125" "" sh -c "tools/route $work/open.txt | head -n 1"
+told "a size without rows" 0 "route 0 7 125 10" "" sh -c "tools/route $work/open.txt | head -n 1"
 sed 's/^source.*/size 16 8\n&/' examples/crossing.txt | $job write >"$work/again"
 same_file "a size with its rows" examples/crossing.job "$work/again"
 sed 's/$/\r/' examples/crossing.txt | $job write - >"$work/again"

@@ -18,32 +18,43 @@ own() { # WORDS PLAN
     tools/route "$2" >"$work/own.sheet"
     accepts "the planner's own sheet of $2" "$1" "$2" "$work/own.sheet"
 }
-accepts "the guide's sheet" "$(sed -n 's/^    accepted: //p' docs/GUIDE.md)" examples/crossing.txt examples/crossing.sheet
-own "22 visits, 2 registers" examples/crossing.txt
-own "3 visits, 0 registers" examples/strip.txt
-own "5 visits, 1 register" examples/twice.txt
-own "1024 visits, 11 registers" $here/fits.txt
+told "the guide's sheet" 0 "$(guide accepted:)" "" tools/verdict examples/crossing.txt examples/crossing.sheet
+own "22 visits, 2 registers, 0 half-ticks spare" examples/crossing.txt
+own "3 visits, 0 registers, 0 half-ticks spare" examples/strip.txt
+own "5 visits, 1 register, 0 half-ticks spare" examples/twice.txt
+own "38 visits, 4 registers, 1 half-tick spare" $here/wide.txt
+own "1024 visits, 11 registers, 0 half-ticks spare" $here/fits.txt
 sheet_piped() { tools/verdict examples/crossing.txt - <examples/crossing.sheet; }
-told "a sheet on standard input" 0 "accepted: 22 visits, 2 registers" "" sheet_piped
+told "a sheet on standard input" 0 "accepted: 22 visits, 2 registers, 0 half-ticks spare" "" sheet_piped
 plan_piped() { tools/verdict - examples/crossing.sheet <examples/crossing.txt; }
-told "a plan on standard input" 0 "accepted: 22 visits, 2 registers" "" plan_piped
+told "a plan on standard input" 0 "accepted: 22 visits, 2 registers, 0 half-ticks spare" "" plan_piped
 from_there() { (cd examples && ../tools/verdict crossing.txt <(cat crossing.sheet)); }
-told "a sheet from a pipe, in another folder" 0 "accepted: 22 visits, 2 registers" "" from_there
-sed '1s/.*/route 0 99 4000000000/; s/$/\r/' examples/crossing.sheet >"$work/bad.sheet"
-accepts "other figures, lines that end with both characters" "22 visits, 2 registers" examples/crossing.txt "$work/bad.sheet"
+told "a sheet from a pipe, in another folder" 0 "accepted: 22 visits, 2 registers, 0 half-ticks spare" "" from_there
+also() { # NAME SED: the sheet of the example with a change, accepted
+    sed "$2" examples/crossing.sheet >"$work/bad.sheet"
+    accepts "$1" "22 visits, 2 registers, 0 half-ticks spare" examples/crossing.txt "$work/bad.sheet"
+}
+also "other figures, lines that end with both characters" '1s/.*/route 0 99 4000000000 60000/; s/$/\r/'
+also "a sheet of before, without the spare figure" '1s/.*/route 2 21 375/'
+also "a spare figure below zero" '1s/.*/route 2 21 375 -1000000000/'
+also "comments before the first line" '1s/^/# drawn by hand\n#\n/'
+also "comments between the visits" 's/$/\n# 9 9/'
+also "a comment without the last line's end, characters of other alphabets" '$s/$/\n# \xc2\xb5m/'
 printf 'route 0 1 125\n1 7\n0 7' >"$work/short.sheet"
 sed 's/^row.*//; s/^source.*/size 32 32\nsource 0/; s/^sink.*/sink 1/' examples/crossing.txt >"$work/large.txt"
-accepts "a plan of 32 by 32, no end of the last line" "2 visits, 0 registers" "$work/large.txt" "$work/short.sheet"
+accepts "a plan of 32 by 32, no end of the last line" "2 visits, 0 registers, 184 half-ticks spare" "$work/large.txt" "$work/short.sheet"
 sed 's/^row.*/row . ./; s/^sink.*/sink 1/; s/^horizontal.*/horizontal R 0 C 0/' examples/strip.txt >"$work/free.txt"
 back_and_forth() { # PAIRS
-    echo "route 0 0 0"
+    echo "route 0 0 0 0"
     echo "1 7"
     yes "0 0
 1 0" | head -n $((2 * $1))
     echo "0 7"
 }
 back_and_forth 2047 >"$work/full.sheet"
-accepts "4,096 visits" "4096 visits, 0 registers" "$work/free.txt" "$work/full.sheet"
+accepts "4,096 visits" "4096 visits, 0 registers, 44 half-ticks spare" "$work/free.txt" "$work/full.sheet"
+sed 's/^[1-9].*/&\n# half of all/' "$work/full.sheet" >"$work/bad.sheet"
+accepts "4,096 visits, and comments" "4096 visits, 0 registers, 44 half-ticks spare" "$work/free.txt" "$work/bad.sheet"
 
 # ---- faults
 strip() { # SED: the strip with a change
@@ -68,15 +79,43 @@ fault "visit 2 (cell 63, code 7): no gate may stand on an end's cell in between"
 fault "visit 21 (cell 48, code 9): no gate may stand on an end's cell in between" $plan 's/^32 1/32 0\n48 9\n&/'
 fault "visit 5 (cell 13, code 8): no such code; the largest is 7, a register" $plan 's/^13 2/13 8/'
 fault "visit 5 (cell 13, code 3): no such buffer in the tables, which have 2" $plan 's/^13 2/13 3/'
-fault "$(sed -n 's/^    visit/visit/p' docs/GUIDE.md)" $plan 's/^14 0/14 7/'
+fault "$(guide 'visit 4')" $plan 's/^14 0/14 7/'
 fault "visit 12 (cell 6, code 0): the load is more than the limit, 24" $plan 's/^13 2/13 0/; s/^11 7/11 0/; s/^8 1/8 0/'
-printf 'route 0 2 26\n2 7\n1 0\n0 7\n' >"$work/strip.sheet"
+printf 'route 0 2 26 0\n2 7\n1 0\n0 7\n' >"$work/strip.sheet"
 sheet=$work/strip.sheet
 plan=$work/bad.txt
 strip 's/^period.*/period 25/'
-fault "visit 2 (cell 0, code 7): the span that closes here is too long for the period, 25" "$plan" ''
+fault "$(guide 'visit 2')" "$plan" ''
 strip 's/^period.*/period 11/'
-fault "visit 1 (cell 1, code 7): the span that closes here is too long for the period, 11" "$plan" 's/^1 0/1 7/'
+fault "visit 1 (cell 1, code 7): the span that closes here is 2 half-ticks too long for the period, 11 ticks" "$plan" 's/^1 0/1 7/'
+strip 's/^period.*/period 1/'
+fault "visit 2 (cell 0, code 7): the span that closes here is 50 half-ticks too long for the period, 1 tick" "$plan" ''
+sed 's/^1 0/1 7/' "$work/strip.sheet" >"$work/two.sheet"
+strip 's/^period.*/period 6/; s/^horizontal.*/horizontal R 1 C 1/'
+told "a miss of 1 half-tick" 1 "visit 1 (cell 1, code 7): the span that closes here is 1 half-tick too long for the period, 6 ticks" "" \
+    tools/verdict "$plan" "$work/two.sheet"
+strip 's/^period.*/period 7/; s/^horizontal.*/horizontal R 1 C 1/'
+accepts "1 half-tick to spare" "3 visits, 1 register, 1 half-tick spare" "$plan" "$work/two.sheet"
+strip 's/^period.*/period 25/'
+accepts "the guide's strip with a register" "3 visits, 1 register, 26 half-ticks spare" "$plan" "$work/two.sheet"
+strip 's/^period.*/period 26/; s/^register.*/register R 2 K 4 C 1 setup 1/'
+fault "visit 2 (cell 0, code 7): the span that closes here is 18 half-ticks too long for the period, 26 ticks" "$plan" ''
+# the largest figures that 4,096 visits can have: each step 32,130 half-ticks, each buffer and the close 34,130
+cat >"$work/slow.txt" <<'TEXT'
+row . . . .
+source 0
+sink 3
+period 1
+limit 63
+register R 255 K 1000 C 63 setup 30000
+horizontal R 255 C 0
+vertical R 0 C 0
+buffer R 255 K 1000 C 63
+TEXT
+{ printf 'route 0 0 0\n3 7\n'; yes "2 1
+1 1" | head -n 4094; echo "0 7"; } >"$work/slow.sheet"
+told "the largest miss of a sheet" 1 "visit 4095 (cell 0, code 7): the span that closes here is 271394698 half-ticks too long for the period, 1 tick" "" \
+    tools/verdict "$work/slow.txt" "$work/slow.sheet"
 strip 's/^limit.*/limit 0/'
 fault "visit 0 (cell 2, code 7): the load is more than the limit, 0" "$plan" ''
 strip 's/^row.*/row . xt .\nbuffer R 1 K 1 C 1/'
@@ -119,13 +158,25 @@ no_sheet() { # MESSAGE SED
     sed "$2" examples/crossing.sheet >"$work/bad.sheet"
     told "the sheet with '$2'" 2 "" "bad.sheet:$1" tools/verdict examples/crossing.txt "$work/bad.sheet"
 }
-head_form="is not the first line of a sheet; the form is: route REGISTERS STEPS LATENCY"
+head_form="is not the first line of a sheet; the form is: route REGISTERS STEPS LATENCY SPARE"
 no_sheet "1: 'none' $head_form" '1s/.*/none/'
 no_sheet "1: 'refused 5' $head_form" '1s/.*/refused 5/'
 no_sheet "1: 'route 2 21' $head_form" '1s/.*/route 2 21/'
 no_sheet "1: 'route 2 21 -375' $head_form" '1s/.*/route 2 21 -375/'
+no_sheet "1: 'route 2 21 -375 0' $head_form" '1s/.*/route 2 21 -375 0/'
+no_sheet "1: 'route 2 21 375 -' $head_form" '1s/.*/route 2 21 375 -/'
+no_sheet "1: 'route 2 21 375 --1' $head_form" '1s/.*/route 2 21 375 --1/'
+no_sheet "1: 'route 2 21 375 +1' $head_form" '1s/.*/route 2 21 375 +1/'
+no_sheet "1: 'route 2 21 375 0 0' $head_form" '1s/.*/route 2 21 375 0 0/'
+no_sheet "1: 'route 2 21 375 0 # spare' $head_form" '1s/$/ # spare/'
 no_sheet "1: '63 7' $head_form" 1d
 no_sheet "1: '' $head_form" d
+no_sheet "3: '63 7' $head_form" '1s/.*/# one\n# two/'
+no_sheet "23: '' $head_form" 's/^/# /'
+no_sheet "6: a visit is two numbers, a cell and a gate code, not 0" '1s/^/# one\n# two\n/; s/^31 0//'
+no_sheet "5: 'x' is not a whole number" 's/^47 0/&\n# three/; s/^31 0/31 x/'
+no_sheet "4: a visit is two numbers, a cell and a gate code, not 4" 's/^31 0/31 0 # up/'
+no_sheet "4: '#' is not a whole number" 's/^31 0/ # up/'
 no_sheet "4: a visit is two numbers, a cell and a gate code, not 3" 's/^31 0/31 0 0/'
 no_sheet "4: a visit is two numbers, a cell and a gate code, not 0" 's/^31 0//'
 no_sheet "4: 'x' is not a whole number" 's/^31 0/31 x/'
@@ -151,6 +202,21 @@ same "the script of the strip" "plan 3 0 2 0
 tables 1 2 1 1 2 3 2 3 26 63
 buffers 0
 judge 3 1 0 2 6 2 7 1 0 0 7" "$(cat "$work/text")"
+# the longest script: the largest numbers, 4,096 visits, more marks and buffers than it takes
+{
+    echo "row$(printf ' 65535%.0s' {1..1200})"
+    printf '%s 65535\n' source sink period limit
+    printf '%s R 65535 C 65535\n' horizontal vertical
+    echo "register R 65535 K 65535 C 65535 setup 65535"
+    yes "buffer R 65535 K 65535 C 65535" | head -n 30
+} >"$work/long.txt"
+{ echo "route 0 0 0 0"; yes "65535 65535" | head -n 4096; } >"$work/long.sheet"
+told "the longest script" 3 "refused 1" "long.txt:1: the plan's width is 1200 and its height 1; $sides (refusal 1)" \
+    tools/verdict "$work/long.txt" "$work/long.sheet"
+same "the longest script's bytes" 54030 "$($job script "$work/long.txt" "$work/long.sheet" | wc -c)"
+counted() { # NUMBER WORD
+    [ "$1" = 1 ] && echo "$1 $2" || echo "$1 $2s"
+}
 faults=
 turn=1
 while read -r hex; do
@@ -159,8 +225,9 @@ while read -r hex; do
     [[ $(head -n 1 "$work/sample.sheet") == route* ]] || continue
     $job read "$work/sample" >"$work/text"
     visits=$(($(wc -l <"$work/sample.sheet") - 1))
-    said=$($job verdict $player "$work/text" "$work/sample.sheet" 2>&1)
-    same "the verdict on the route of $hex" "accepted: $visits visits" "${said%,*}"
+    read -r _ registers _ _ slack <"$work/sample.sheet"
+    same "the verdict on the route of $hex" "accepted: $visits visits, $(counted "$registers" register), $(counted "$slack" half-tick) spare" \
+        "$($job verdict $player "$work/text" "$work/sample.sheet" 2>&1)"
     for change in 's/ .*/ 7/' 's/ .*/ 3/' 's/^/1/' 's/^./0/' d p; do
         sed "$((2 + turn % visits))$change" "$work/sample.sheet" >"$work/bad.sheet"
         turn=$((turn + 7))
@@ -197,10 +264,10 @@ same "proofs before a good sheet" 0 "$(calls)"
 tools/route examples/twice.txt >"$work/own.sheet"
 log=target/log/tools_verdict.log
 wait="proving the planner, 2 parts; this takes several minutes the first time ($log has the prover's lines)"
-told "the first verdict" 0 "accepted: 5 visits, 1 register" "$wait
+told "the first verdict" 0 "accepted: 5 visits, 1 register, 0 half-ticks spare" "$wait
 [2 of 2] session_player, 7 s" in_fake "$work/twice.txt" "$work/own.sheet"
 same "the prover's words for a verdict" "rt check session_player" "$(cat "$work/calls")"
-told "the second verdict" 0 "accepted: 5 visits, 1 register" "" in_fake "$work/twice.txt" "$work/own.sheet"
+told "the second verdict" 0 "accepted: 5 visits, 1 register, 0 half-ticks spare" "" in_fake "$work/twice.txt" "$work/own.sheet"
 same "proofs for two verdicts" 1 "$(calls)"
 
 # ---- a program that fails, or says what plan and sheet do not show
@@ -215,9 +282,14 @@ says() { # NAME MESSAGE LINE
 as_player "a program that prints nothing" "it printed no verdict, but ''" ""
 as_player "a program that fails" "it ended with exit status: 7" "exit 7"
 as_player "a program that cannot write" "it says: session_player: standard output: No space left on device" "exec $PWD/$player >/dev/full"
-as_player "a line without its end" "it printed no verdict, but 'judge 0 depth 0 accepted'" "printf 'judge 0 depth 0 accepted'"
+as_player "a line without its end" "it printed no verdict, but 'judge 0 depth 0 accepted 0'" "printf 'judge 0 depth 0 accepted 0'"
 says "a script that is not played" "it printed no verdict, but" "bad script: line 4: a number is missing"
-says "a depth" "it printed no verdict, but" "judge 0 depth 1 accepted"
+says "a depth" "it printed no verdict, but" "judge 0 depth 1 accepted 0"
+says "a verdict without its figure" "it printed no verdict, but" "judge 0 depth 0 accepted"
+says "an accepted list that is late" "it printed no verdict, but" "judge 0 depth 0 accepted -1"
+says "a period without its figure" "it printed no verdict, but" "judge 0 depth 0 visit 2 period"
+says "a period with a word" "it printed no verdict, but" "judge 0 depth 0 visit 2 period -x"
+says "a load with a figure" "it printed no verdict, but" "judge 0 depth 0 visit 2 load -1"
 says "a fault that there is not" "it printed no verdict, but" "judge 0 depth 0 visit 1 gate"
 says "a visit without number" "it printed no verdict, but" "judge 0 depth 0 visit x cell"
 refused="the plan and the sheet cannot be refused with"
@@ -234,12 +306,29 @@ says "a wire to the first visit" "$shown" "judge 0 depth 0 visit 0 wire"
 says "a wire that there is" "$shown" "judge 0 depth 0 visit 1 wire"
 says "an end with its code" "$shown" "judge 0 depth 0 visit 2 site"
 says "a visit without gate" "$shown" "judge 0 depth 0 visit 1 site"
-says "a period at the sink" "$shown" "judge 0 depth 0 visit 0 period"
-says "a period without register" "$shown" "judge 0 depth 0 visit 1 period"
-printf '#!/bin/sh\necho judge 0 depth 0 accepted\n' >"$work/program"
+says "a period at the sink" "$shown" "judge 0 depth 0 visit 0 period -1"
+says "a period without register" "$shown" "judge 0 depth 0 visit 1 period -1"
+says "a period that is kept" "$shown" "judge 0 depth 0 visit 2 period 0"
+says "a period that is missed, it says" "$shown" "judge 0 depth 0 visit 2 period -1"
+spare="plan and sheet do not show the spare figure of its line"
+says "another spare figure" "$spare" "judge 0 depth 0 accepted 1"
+on_program() { # NAME STATUS OUTPUT MESSAGE LINE PLAN SHEET: the verdict where the program prints this line
+    printf '#!/bin/sh\necho %s\n' "$5" >"$work/program"
+    told "$1" "$2" "$3" "$4" $job verdict "$work/program" "$6" "$7"
+}
+strip 's/^period.*/period 25/'
+on_program "another miss" 4 "" "program: $shown 'judge 0 depth 0 visit 2 period -3'" "judge 0 depth 0 visit 2 period -3" "$plan" "$work/strip.sheet"
+strip 's/^period.*/period 11/'
+printf 'route 0 0 0\n2 7\n1 7\n2 0\n1 0\n0 7\n' >"$work/bad.sheet"
+on_program "the miss of a close before" 4 "" "program: $shown 'judge 0 depth 0 visit 2 period -2'" "judge 0 depth 0 visit 2 period -2" "$plan" "$work/bad.sheet"
+accepted="judge 0 depth 0 accepted 52"
 head -n 2 "$work/strip.sheet" >"$work/bad.sheet"
-told "one visit accepted" 4 "" "program: a sheet without two ends is not 'judge 0 depth 0 accepted'" \
-    $job verdict "$work/program" examples/strip.txt "$work/bad.sheet"
-printf '#!/bin/sh\necho judge 4 depth 0 fault 7 1\n' >"$work/program"
-told "an element for which the text shows no reason" 3 "refused 4" "examples/strip.txt: a number is outside its range (refusal 4)" \
-    $job verdict "$work/program" examples/strip.txt "$work/strip.sheet"
+on_program "one visit accepted" 4 "" "program: $spare '$accepted'" "$accepted" examples/strip.txt "$work/bad.sheet"
+sed '/^1 /d' "$work/strip.sheet" >"$work/bad.sheet"
+on_program "a step over two cells accepted" 4 "" "program: $spare '$accepted'" "$accepted" examples/strip.txt "$work/bad.sheet"
+strip 's/^horizontal.*/horizontal R 65535 C 65535/' # what the real program refuses
+lowest="judge 0 depth 0 visit 2 period -1000000000"
+on_program "the lowest figure" 1 "visit 2 (cell 0, code 7): the span that closes here is 1000000000 half-ticks or more too long for the period, 26 ticks" "" \
+    "$lowest" "$plan" "$work/strip.sheet"
+on_program "an element for which the text shows no reason" 3 "refused 4" "examples/strip.txt: a number is outside its range (refusal 4)" \
+    "judge 4 depth 0 fault 7 1" examples/strip.txt "$work/strip.sheet"

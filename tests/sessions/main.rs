@@ -1,5 +1,5 @@
-// A model of a session beside the planner, written from document 01 alone: random scripts of calls through the built
-// session player, every line compared.
+// A model of a session beside the planner, written from documents 01 and 02 alone: random scripts of calls through the
+// built session player, every line compared.
 //   sessions PLAYER SCRIPTS SEED    compares
 //   sessions script NUMBER SEED     prints one script of a run
 //   sessions text < SCRIPT          what the model gives for a script of good commands

@@ -104,8 +104,8 @@ impl Maker<'_> {
         }
         let ample = Question { room: 2_048, ..*q };
         q.room = match self.player.answer(&ample) {
-            Ok(Answer::Found(route)) => {
-                let need = 2 * route.len() as u32;
+            Ok(Answer::Found(best)) => {
+                let need = 2 * best.route.len() as u32;
                 self.r.pick(&[need, need, need - 1, need - 2, need + 1, 0, need / 2])
             }
             _ => self.r.below(2_049),
@@ -117,7 +117,7 @@ impl Maker<'_> {
         self.asked = Some(*q);
         self.path.clear();
         match self.player.answer(q) {
-            Ok(Answer::Found(route) | Answer::NoRoom(route)) => self.path = route.iter().map(|v| v.0).collect(),
+            Ok(Answer::Found(best) | Answer::NoRoom(best)) => self.path = best.route.iter().map(|v| v.0).collect(),
             _ if self.r.chance(percent) => {}
             _ => self.asked = None,
         }

@@ -33,7 +33,9 @@ const ORDERS: [(&str, &[&str]); 4] = [
 // Two that cannot hold at once: depths that differ.
 const APART: [(&str, &str); 4] = [("depth", "full"), ("depth", "empty"), ("depth", "corrupt"), ("empty", "corrupt")];
 
-const KINDS: [(&str, &[&str]); 8] = [
+const SLACKS: [&str; 4] = ["spare 0", "spare 1", "spare 2 to 9", "spare 10 and more"];
+
+const KINDS: [(&str, &[&str]); 11] = [
     (
         "move",
         &[
@@ -60,6 +62,9 @@ const KINDS: [(&str, &[&str]); 8] = [
     ),
     ("route 4: fault", &["1", "2", "3", "4", "5", "6", "7 1", "7 2", "7 3", "7 4", "7 5", "7 6"]),
     ("route", &["with registers", "with buffers", "that passes a cell twice", "on sides not the session's"]),
+    ("route 0:", &SLACKS),
+    ("route 8:", &SLACKS),
+    ("route 8:", &["no words lent", "one word too few", "two words or more too few"]),
     ("asked again,", &["the same answer", "another answer"]),
     ("scratch words:", &["one too few", "just enough", "more than enough", "none"]),
     ("show of", &["more than 1,024 journal bytes", "zeroed scratch words", "filled visits"]),
@@ -153,6 +158,18 @@ impl Mix {
         self.add_if(route.iter().any(|visit| (1..7).contains(&visit.1)), "route with buffers");
         self.add_if(cells.windows(2).any(|two| two[0] == two[1]), "route that passes a cell twice");
         self.add_if((q.width, q.height) != (record.width, record.height), "route on sides not the session's");
+    }
+
+    // A best route's spare half-ticks, and what it lacks in room.
+    pub fn slack(&mut self, q: &Question, answer: &Answer, slack: u64) {
+        let name = SLACKS[[1, 2, 10].iter().filter(|&&from| from <= slack).count()];
+        self.add(&format!("route {}: {name}", answer.number()));
+        if let Answer::NoRoom(best) = answer {
+            let lacks = 2 * best.route.len() as u32 - q.room;
+            self.add_if(q.room == 0, "route 8: no words lent");
+            self.add_if(q.room > 0 && lacks == 1, "route 8: one word too few");
+            self.add_if(q.room > 0 && lacks > 1, "route 8: two words or more too few");
+        }
     }
 
     // A route call that is lent so many scratch words.

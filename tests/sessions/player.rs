@@ -155,8 +155,9 @@ impl Player {
         if let Some(place) = answer.fault() {
             mix.add(&format!("route 4: fault {place}"));
         }
-        if let Answer::Found(route) | Answer::NoRoom(route) = &answer {
-            mix.route(q, self.session.record, route);
+        if let Answer::Found(best) | Answer::NoRoom(best) = &answer {
+            mix.route(q, self.session.record, &best.route);
+            mix.slack(q, &answer, best.slack);
         }
         self.zeroed = answer.zeroed(q) as usize;
         self.filled = answer.filled().iter().map(|&word| word as u16).collect();

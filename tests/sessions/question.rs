@@ -27,8 +27,14 @@ pub struct Question {
 pub enum Answer {
     Refused(Vec<Fault>, Option<rules::Fault>),
     None,
-    NoRoom(Vec<Visit>),
-    Found(Vec<Visit>),
+    NoRoom(Best),
+    Found(Best),
+}
+
+// The best route, and its spare half-ticks.
+pub struct Best {
+    pub route: Vec<Visit>,
+    pub slack: u64,
 }
 
 fn problem(plan: &[u8], t: &Tables, q: &Question) -> Problem {
@@ -65,18 +71,17 @@ pub fn answer(plan: &[u8], t: &Tables, scratch: u32, q: &Question) -> Result<Ans
     if !faults.is_empty() {
         return Ok(Answer::Refused(faults, element));
     }
-    Ok(match search::best(&p, STATES)? {
-        None => Answer::None,
-        Some(route) if 2 * route.len() > q.room as usize => Answer::NoRoom(route),
-        Some(route) => Answer::Found(route),
-    })
+    let Some(route) = search::best(&p, STATES)? else { return Ok(Answer::None) };
+    let slack = legal(&p, &route).expect("the search's route is legal").slack(&p);
+    let fits = 2 * route.len() <= q.room as usize;
+    let best = Best { route, slack };
+    Ok(if fits { Answer::Found(best) } else { Answer::NoRoom(best) })
 }
 
 // The least period with which the best route of now stays legal, where there is one.
 pub fn needed_period(plan: &[u8], t: &Tables, q: &Question) -> Option<u32> {
-    let Ok(Answer::Found(route) | Answer::NoRoom(route)) = answer(plan, t, SCRATCH, q) else { return None };
-    let closings = legal(&problem(plan, t, q), &route).expect("the search's route is legal").closings;
-    closings.iter().max().map(|&most| most.div_ceil(2) as u32)
+    let Ok(Answer::Found(best) | Answer::NoRoom(best)) = answer(plan, t, SCRATCH, q) else { return None };
+    Some(t.numbers[8] - best.slack as u32 / 2)
 }
 
 // The fault's place in document 01's order, and a buffer's place.
@@ -121,7 +126,7 @@ impl Answer {
     // The visit words that are filled.
     pub fn filled(&self) -> Vec<u32> {
         match self {
-            Answer::Found(route) => route.iter().flat_map(|visit| [visit.0, visit.1]).collect(),
+            Answer::Found(best) => best.route.iter().flat_map(|visit| [visit.0, visit.1]).collect(),
             _ => Vec::new(),
         }
     }
@@ -130,11 +135,11 @@ impl Answer {
     pub fn text(&self, t: &Tables, q: &Question) -> String {
         let mut text = self.fault().map_or(String::new(), |place| format!("fault {place} "));
         text += &match self {
-            Answer::Found(route) | Answer::NoRoom(route) => {
+            Answer::Found(Best { route, slack }) | Answer::NoRoom(Best { route, slack }) => {
                 let k = registers(route);
-                format!("figures {k} {} {}", route.len() - 1, t.numbers[8] * (k + 1))
+                format!("figures {k} {} {} {slack}", route.len() - 1, t.numbers[8] * (k + 1))
             }
-            _ => "figures 0 0 0".to_string(),
+            _ => "figures 0 0 0 0".to_string(),
         };
         text += " visits";
         for word in self.filled() {

@@ -36,21 +36,21 @@ fn routes() -> Case {
         + "buffers 0 plan 6 0 1 0 0 2 0 tables 1 2 1 1 2 3 0 0 12 63 open 3 2 "
         + "route 3 2 0 2 10 move 4 0 route 3 2 0 2 10";
     let lines = "open 0 depth 0\n\
-        route 0 depth 0 figures 1 2 50 visits 2 7 1 7 0 7 zeroed 768\n\
-        route 8 depth 0 figures 1 2 50 visits zeroed 768\n\
+        route 0 depth 0 figures 1 2 50 26 visits 2 7 1 7 0 7 zeroed 768\n\
+        route 8 depth 0 figures 1 2 50 26 visits zeroed 768\n\
         move 0 depth 1\n\
-        route 7 depth 1 figures 0 0 0 visits zeroed 768\n\
+        route 7 depth 1 figures 0 0 0 0 visits zeroed 768\n\
         undo 0 depth 0\n\
-        route 0 depth 0 figures 1 2 50 visits 2 7 1 7 0 7 zeroed 768\n\
-        route 0 depth 0 figures 0 2 26 visits 2 7 1 0 0 7 zeroed 768\n\
-        route 7 depth 0 figures 0 0 0 visits zeroed 768\n\
-        route 0 depth 0 figures 0 2 22 visits 2 7 1 1 0 7 zeroed 768\n\
+        route 0 depth 0 figures 1 2 50 26 visits 2 7 1 7 0 7 zeroed 768\n\
+        route 0 depth 0 figures 0 2 26 0 visits 2 7 1 0 0 7 zeroed 768\n\
+        route 7 depth 0 figures 0 0 0 0 visits zeroed 768\n\
+        route 0 depth 0 figures 0 2 22 0 visits 2 7 1 1 0 7 zeroed 768\n\
         move 0 depth 1\n\
-        route 0 depth 1 figures 1 2 44 visits 2 7 1 7 0 7 zeroed 768\n\
+        route 0 depth 1 figures 1 2 44 20 visits 2 7 1 7 0 7 zeroed 768\n\
         open 0 depth 0\n\
-        route 0 depth 0 figures 1 4 24 visits 2 7 1 0 4 7 1 0 0 7 zeroed 1536\n\
+        route 0 depth 0 figures 1 4 24 0 visits 2 7 1 0 4 7 1 0 0 7 zeroed 1536\n\
         move 0 depth 1\n\
-        route 7 depth 1 figures 0 0 0 visits zeroed 1536\n";
+        route 7 depth 1 figures 0 0 0 0 visits zeroed 1536\n";
     case("document 01's routes, by moves", &script, lines)
 }
 
@@ -89,11 +89,11 @@ fn words() -> Case {
     let zeroed = "scratch 0 * 768 65535 * 261376\n";
     let lines = format!(
         "open 0 depth 0\n\
-         route 6 depth 0 figures 0 0 0 visits zeroed 0\n{plan}{UNTOUCHED}\
-         route 0 depth 0 figures 1 2 50 visits 2 7 1 7 0 7 zeroed 768\n\
+         route 6 depth 0 figures 0 0 0 0 visits zeroed 0\n{plan}{UNTOUCHED}\
+         route 0 depth 0 figures 1 2 50 26 visits 2 7 1 7 0 7 zeroed 768\n\
          {plan}{zeroed}visits 2 7 1 7 0 7 65535 * 2042\n\
-         route 8 depth 0 figures 1 2 50 visits zeroed 768\n{plan}{zeroed}visits 65535 * 2048\n\
-         route 5 depth 0 figures 0 0 0 visits zeroed 0\n{plan}{UNTOUCHED}"
+         route 8 depth 0 figures 1 2 50 26 visits zeroed 768\n{plan}{zeroed}visits 65535 * 2048\n\
+         route 5 depth 0 figures 0 0 0 0 visits zeroed 0\n{plan}{UNTOUCHED}"
     );
     case("scratch and visit words", &script, &lines)
 }
@@ -106,9 +106,9 @@ fn buffers() -> Case {
         + "buffers 6 256 1 1 1 1 1 1 1 1 1 1 1 1 1 1 1 1 64 route 3 1 0 2 6 "
         + "buffers 6 255 1 1 1 1 1 1 1 1 1 1 1 1 1 1 1 1 64 route 3 1 0 2 6 # the end";
     let lines = "open 0 depth 0\n\
-        route 4 depth 0 fault 6 figures 0 0 0 visits zeroed 0\n\
-        route 4 depth 0 fault 7 1 figures 0 0 0 visits zeroed 0\n\
-        route 4 depth 0 fault 7 6 figures 0 0 0 visits zeroed 0\n";
+        route 4 depth 0 fault 6 figures 0 0 0 0 visits zeroed 0\n\
+        route 4 depth 0 fault 7 1 figures 0 0 0 0 visits zeroed 0\n\
+        route 4 depth 0 fault 7 6 figures 0 0 0 0 visits zeroed 0\n";
     case("seven buffers, comments", &script, lines)
 }
 

@@ -1,7 +1,9 @@
 // A fault in words. The session player gives the visit and the fault; the plan and the visit show what it is about.
 
-use crate::answer::{joined, Visit};
+use crate::answer::{joined, number, Visit};
 use crate::job::{Job, BLOCKED, CODE_REGISTER, TAP};
+use crate::spans::{self, LOWEST};
+use crate::words::counted;
 
 #[derive(Clone, Copy)]
 pub enum Fault {
@@ -9,16 +11,16 @@ pub enum Fault {
     Wire,
     Site,
     Load,
-    Period,
+    Period(i64), // the spare figure of the close
 }
 
-pub fn fault(word: &str) -> Option<Fault> {
-    match word {
-        "cell" => Some(Fault::Cell),
-        "wire" => Some(Fault::Wire),
-        "site" => Some(Fault::Site),
-        "load" => Some(Fault::Load),
-        "period" => Some(Fault::Period),
+pub fn fault(words: &[&str]) -> Option<Fault> {
+    match words {
+        ["cell"] => Some(Fault::Cell),
+        ["wire"] => Some(Fault::Wire),
+        ["site"] => Some(Fault::Site),
+        ["load"] => Some(Fault::Load),
+        ["period", slack] => Some(Fault::Period(number(slack)?)),
         _ => None,
     }
 }
@@ -61,8 +63,19 @@ fn site(job: &Job, visit: &Visit, end: bool) -> Option<String> {
     job.has_mark(visit.cell, BLOCKED).then(|| "blocked, no buffer may stand here".to_string())
 }
 
-// Why the visit at this place is at fault; None where neither plan nor sheet shows such a fault. Loads and delays are the
-// planner's part.
+// The last visit closes a span whose spare figure is below zero, and is this one.
+fn period(job: &Job, visits: &[Visit], slack: i64) -> Option<String> {
+    let span = spans::closed(job, visits).ok()?.pop()?;
+    if span.from + 1 != visits.len() || span.slack != slack || slack >= 0 {
+        return None;
+    }
+    let or_more = if slack == LOWEST { " or more" } else { "" };
+    let (miss, period) = (counted(-slack as usize, "half-tick"), counted(job.period as usize, "tick"));
+    Some(format!("the span that closes here is {miss}{or_more} too long for the period, {period}"))
+}
+
+// Why the visit at this place is at fault; None where neither plan nor sheet shows such a fault. Loads are the planner's
+// part.
 pub fn cause(job: &Job, visits: &[Visit], at: usize, fault: Fault) -> Option<String> {
     let visit = visits.get(at)?;
     let (first, last) = (at == 0, at + 1 == visits.len());
@@ -71,7 +84,6 @@ pub fn cause(job: &Job, visits: &[Visit], at: usize, fault: Fault) -> Option<Str
         Fault::Wire => wire(job, &visits[at.checked_sub(1)?], visit),
         Fault::Site => site(job, visit, first || last),
         Fault::Load => Some(format!("the load is more than the limit, {}", job.limit)),
-        Fault::Period => (!first && visit.code == CODE_REGISTER)
-            .then(|| format!("the span that closes here is too long for the period, {}", job.period)),
+        Fault::Period(slack) => period(job, &visits[..=at], slack),
     }
 }

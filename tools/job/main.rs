@@ -16,6 +16,7 @@ mod route;
 mod script;
 mod sheet;
 mod show;
+mod spans;
 mod svg;
 mod text;
 mod verdict;

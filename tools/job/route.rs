@@ -1,9 +1,10 @@
 // Asks the proved program for the route of a plan text, and shows what it printed.
 
-use crate::answer::{self, Answer};
+use crate::answer::{self, Answer, Route};
 use crate::files::{self, failure, Failure, Source, DONE, FAILED, NONE};
-use crate::job::Job;
+use crate::job::{Job, CODE_REGISTER};
 use crate::program::printed;
+use crate::spans::{self, Span};
 use crate::words::{shown, shown_name};
 use crate::{bytes, picture, read_text, refusals, svg};
 use std::ffi::{OsStr, OsString};
@@ -23,7 +24,7 @@ pub fn drawings(options: &[OsString]) -> Option<Drawings<'_>> {
     }
 }
 
-fn draw(name: &str, text: &str, job: &Job, route: Option<&answer::Route>, drawings: &Drawings) -> Result<(), Failure> {
+fn draw(name: &str, text: &str, job: &Job, route: Option<&Route>, drawings: &Drawings) -> Result<(), Failure> {
     let mut out = text.to_string();
     if drawings.picture {
         out += "\n";
@@ -36,16 +37,40 @@ fn draw(name: &str, text: &str, job: &Job, route: Option<&answer::Route>, drawin
     }
 }
 
+// The spans of a route that fits its job, or what does not fit. Loads and sites are the planner's part.
+fn fitting(route: &Route, job: &Job) -> Result<Vec<Span>, String> {
+    let visits = &route.visits;
+    let (Some(first), Some(last)) = (visits.first(), visits.last()) else { return Err("it has no visit".to_string()) };
+    if visits.len() as u64 != route.steps + 1 {
+        return Err(format!("it says {} steps and has {} visits", route.steps, visits.len()));
+    }
+    let spans = spans::closed(job, visits)?;
+    if (first.cell, first.code, last.cell, last.code) != (job.sink, CODE_REGISTER, job.source, CODE_REGISTER) {
+        return Err("it does not lead from the sink to the source".to_string());
+    }
+    let count = spans.len() as u64;
+    if count != route.registers + 1 || route.latency != job.period as u64 * count {
+        return Err(format!("its first line says registers {}, latency {}", route.registers, route.latency));
+    }
+    let least = spans::least_slack(job, &spans);
+    if least != route.slack {
+        return Err(format!("its first line says spare {}, and its spans have {least}", route.slack));
+    }
+    Ok(spans)
+}
+
 pub fn run(printer: &OsStr, from: &Source, drawings: &Drawings) -> Result<u8, Failure> {
     let (job, lines) = read_text(from)?;
     let text = printed(printer, &bytes::encode(&job))?;
     let no_answer = |what: String| failure(FAILED, format!("{}: {what}", shown_name(printer)));
     match answer::read(&text) {
         Some(Answer::Route(route)) => {
-            if let Some(what) = answer::misfit(&route, &job) {
-                return no_answer(format!("its route does not fit the plan: {what}"));
-            }
-            draw(&from.name(), &text, &job, Some(&route), drawings)?;
+            let spans = match fitting(&route, &job) {
+                Ok(spans) => spans,
+                Err(what) => return no_answer(format!("its route does not fit the plan: {what}")),
+            };
+            let sheet = text + &spans::table(&job, &route.visits, &spans);
+            draw(&from.name(), &sheet, &job, Some(&route), drawings)?;
             Ok(DONE)
         }
         Some(Answer::None) => {

@@ -3,6 +3,7 @@
 
 use crate::answer::{Route, Visit};
 use crate::job::{Job, BLOCKED, CODE_REGISTER, CUT_BELOW, CUT_RIGHT, TAP};
+use crate::words::counted;
 use std::collections::BTreeMap;
 use std::f64::consts::PI;
 
@@ -188,7 +189,10 @@ pub fn draw(name: &str, job: &Job, route: Option<&Route>) -> String {
     let below = TOP + CELL * job.height as f64;
     let height = below + LEGEND;
     let title = match route {
-        Some(r) => format!("{name}: registers {}, steps {}, latency {} ticks", r.registers, r.steps, r.latency),
+        Some(r) => {
+            let spare = counted(r.slack as usize, "half-tick");
+            format!("{name}: registers {}, steps {}, latency {} ticks, spare {spare}", r.registers, r.steps, r.latency)
+        }
         None => format!("{name}: no legal route"),
     };
     let size = format!("width=\"{width}\" height=\"{height}\" viewBox=\"0 0 {width} {height}\"");

@@ -1,35 +1,33 @@
 // Asks the proved program for the verdict on a sheet, and says it in words.
 
-use crate::answer::{numbers, Visit};
+use crate::answer::{number, Visit};
 use crate::causes::{self, Fault};
 use crate::files::{self, failure, Failure, Source, AT_FAULT, DONE, FAILED, TEXT};
-use crate::job::{Job, CODE_REGISTER};
+use crate::job::Job;
 use crate::program::printed;
 use crate::text::Lines;
 use crate::words::{counted, shown, shown_name};
-use crate::{read_sheet, read_text, refusals, script};
+use crate::{read_sheet, read_text, refusals, script, spans};
 use std::ffi::OsStr;
 
 enum Verdict {
-    Accepted,
+    Accepted(u32), // the smallest spare figure
     AtFault(usize, Fault),
     Refused(u32, usize), // the number, and for 4 the place of the element at fault
-}
-
-fn number(word: &str) -> Option<usize> {
-    numbers(word)?.first().map(|&n| n as usize)
 }
 
 // The line that the session player prints; no session is open, so the depth is 0.
 fn read(text: &str) -> Option<Verdict> {
     let words: Vec<&str> = text.strip_suffix('\n')?.split(' ').collect();
     match words[..] {
-        ["judge", "0", "depth", "0", "accepted"] => Some(Verdict::Accepted),
-        ["judge", "0", "depth", "0", "visit", at, fault] => Some(Verdict::AtFault(number(at)?, causes::fault(fault)?)),
+        ["judge", "0", "depth", "0", "accepted", slack] => Some(Verdict::Accepted(number(slack)?)),
+        ["judge", "0", "depth", "0", "visit", at, ref fault @ ..] => {
+            Some(Verdict::AtFault(number(at)?, causes::fault(fault)?))
+        }
         ["judge", "4", "depth", "0", "fault", place] | ["judge", "4", "depth", "0", "fault", place @ "7", _] => {
             Some(Verdict::Refused(4, number(place)?))
         }
-        ["judge", refusal, "depth", "0"] => Some(Verdict::Refused(number(refusal)? as u32, 0)),
+        ["judge", refusal, "depth", "0"] => Some(Verdict::Refused(number(refusal)?, 0)),
         _ => None,
     }
 }
@@ -54,11 +52,14 @@ pub fn run(player: &OsStr, plan: &Source, sheet: &Source) -> Result<u8, Failure>
     let line = text.trim_end();
     let no_answer = |what: &str| failure(FAILED, format!("{}: {what} '{}'", shown_name(player), shown(line)));
     match read(&text) {
-        Some(Verdict::Accepted) => {
-            let [_, inner @ .., _] = &visits[..] else { return no_answer("a sheet without two ends is not") };
-            let registers = inner.iter().filter(|visit| visit.code == CODE_REGISTER).count();
-            let (visits, registers) = (counted(visits.len(), "visit"), counted(registers, "register"));
-            files::print(format!("accepted: {visits}, {registers}\n").as_bytes())?;
+        Some(Verdict::Accepted(slack)) => {
+            let spans = spans::closed(&job, &visits).unwrap_or_default();
+            if spans.is_empty() || spans::least_slack(&job, &spans) != slack as i64 {
+                return no_answer("plan and sheet do not show the spare figure of its line");
+            }
+            let (visits, registers) = (counted(visits.len(), "visit"), counted(spans.len() - 1, "register"));
+            let spare = counted(slack as usize, "half-tick");
+            files::print(format!("accepted: {visits}, {registers}, {spare} spare\n").as_bytes())?;
             Ok(DONE)
         }
         Some(Verdict::AtFault(at, fault)) => {

@@ -1,5 +1,6 @@
 -- The number and the figures that document 01 gives for each case of a route's answer, and the words it fills; the numbers of a verdict and of a comparison (document 02, C-11).
 use Prim.Native.Nat.{ℕ, _+_, _*_}
+use lib.IntN.{pos}
 use Rattle.answers.specs.declared.answer.Figures.{Figures}
 use Rattle.answers.specs.declared.answer.Refusal.{Refusal}
 use Rattle.answers.specs.declared.answer.Refusal.the-variants.{Grid, Length, Mark, Element, Ends, Scratch, NoRoute, RouteList, NoneLegal}
@@ -25,7 +26,7 @@ answerNumber (NoRoom f) = 8
 answerNumber (Refused r) = refusalNumber r
 
 abbrev pub noFigures : Figures
-noFigures = record { registers = 0; steps = 0; latency = 0 }
+noFigures = record { registers = 0; steps = 0; latency = 0; slack = pos 0 }
 
 -- 7 is among the refusals, and has no figures
 abbrev pub answerFigures : Answer → Figures
@@ -41,7 +42,7 @@ filledWords (Refused r) = 0
 
 -- an illegal list is answered, not refused
 abbrev pub verdictNumber : Verdict → ℕ
-verdictNumber Verdict.Accepted = 0
+verdictNumber (Verdict.Accepted z) = 0
 verdictNumber (Verdict.AtFault i f) = 0
 verdictNumber (Verdict.Refused r) = refusalNumber r
 

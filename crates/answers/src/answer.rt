@@ -37,6 +37,8 @@ pub struct Figures {
     pub registers: u16,
     pub steps: u32,
     pub latency: u32,
+    // the smallest spare figure over the spans, in half-ticks (document 02, C-12)
+    pub slack: i32,
 }
 
 pub enum Answer {
@@ -88,6 +90,7 @@ impl Answer {
                 registers: 0,
                 steps: 0,
                 latency: 0,
+                slack: 0,
             },
         }
     }

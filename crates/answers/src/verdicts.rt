@@ -14,12 +14,13 @@ pub enum VisitFault {
     Site,
     // load before or after the gate is above L
     Load,
-    // the span that closes here is too slow
-    Period,
+    // the span that closes here is too slow: its spare half-ticks, below zero by the miss
+    Period(i32),
 }
 
 pub enum Verdict {
-    Accepted,
+    // the smallest spare figure over the spans
+    Accepted(i32),
     // the first visit at fault, from 0, and the fault there
     AtFault(usize, VisitFault),
     Refused(Refusal),
@@ -38,7 +39,7 @@ impl Verdict {
         ensures { λ r. ⌜ r ≡ verdictNumber self ⌝ }
     {
         match self {
-            Verdict::Accepted => 0,
+            Verdict::Accepted(_) => 0,
             Verdict::AtFault(_, _) => 0,
             Verdict::Refused(r) => r.number(),
         }

@@ -10,28 +10,30 @@ use borrow.Author.Tests.{eqb-true}
 use Rattle.answers.specs.declared.answer.Figures.{Figures}
 use Rattle.answers.specs.declared.answer.Answer.{Answer}
 use Rattle.answers.specs.Numbers.{answerFigures}
+use Rattle.timing.specs.Slack.{magnitude}
 use Rattle.job.specs.Fields.{tableNumbers}
 use Rattle.bench_entry.specs.Words.{resultNumbers, lengthsRight}
 use Rattle.bench_entry.specs.Effect.{answerFault, figureWords}
 use Rattle.bench_entry.specs.Judged.{foundWords}
 use Rattle.bench_entry.specs.declared.found.Found.{Found}
 
--- four stores from the start
-four-set : (xs : List ℕ) (a b c d : ℕ) → length xs ≡ 4 → set (set (set (set xs 0 a) 1 b) 2 c) 3 d ≡ a ∷ b ∷ c ∷ d ∷ []
-four-set [] a b c d h = absurd (omega arith)
-four-set (x ∷ []) a b c d h = absurd (omega arith)
-four-set (x ∷ y ∷ []) a b c d h = absurd (omega arith)
-four-set (x ∷ y ∷ z ∷ []) a b c d h = absurd (omega arith)
-four-set (x ∷ y ∷ z ∷ w ∷ []) a b c d h = refl
-four-set (x ∷ y ∷ z ∷ w ∷ v ∷ rest) a b c d h = absurd (omega arith)
+-- five stores from the start
+five-set : (xs : List ℕ) (a b c d e : ℕ) → length xs ≡ 5 → set (set (set (set (set xs 0 a) 1 b) 2 c) 3 d) 4 e ≡ a ∷ b ∷ c ∷ d ∷ e ∷ []
+five-set [] a b c d e h = absurd (omega arith)
+five-set (x ∷ []) a b c d e h = absurd (omega arith)
+five-set (x ∷ y ∷ []) a b c d e h = absurd (omega arith)
+five-set (x ∷ y ∷ z ∷ []) a b c d e h = absurd (omega arith)
+five-set (x ∷ y ∷ z ∷ w ∷ []) a b c d e h = absurd (omega arith)
+five-set (x ∷ y ∷ z ∷ w ∷ v ∷ []) a b c d e h = refl
+five-set (x ∷ y ∷ z ∷ w ∷ v ∷ u ∷ rest) a b c d e h = absurd (omega arith)
 
-pub stored : (a : Answer) (xs : List ℕ) (f : Figures) (k : ℕ) → f ≡ answerFigures a → k ≡ answerFault a → length xs ≡ 4 → set (set (set (set xs 0 (f .registers)) 1 (f .steps)) 2 (f .latency)) 3 k ≡ figureWords a
+pub stored : (a : Answer) (xs : List ℕ) (f : Figures) (k m : ℕ) → f ≡ answerFigures a → k ≡ answerFault a → m ≡ magnitude (f .slack) → length xs ≡ 5 → set (set (set (set (set xs 0 (f .registers)) 1 (f .steps)) 2 (f .latency)) 3 k) 4 m ≡ figureWords a
 unfolding figureWords
-stored a xs f k e g h = rw (e, g) (four-set xs _ _ _ _ h)
+stored a xs f k m e g n h = rw (n, e, g) (five-set xs _ _ _ _ _ h)
 
-pub found-stored : (f : Found) (xs : List ℕ) → length xs ≡ 4 → set (set (set (set xs 0 (f .accepted)) 1 (f .visit)) 2 (f .fault)) 3 (f .element) ≡ foundWords f
+pub found-stored : (f : Found) (xs : List ℕ) → length xs ≡ 5 → set (set (set (set (set xs 0 (f .accepted)) 1 (f .visit)) 2 (f .fault)) 3 (f .element)) 4 (f .slack) ≡ foundWords f
 unfolding foundWords
-found-stored f xs h = four-set xs _ _ _ _ h
+found-stored f xs h = five-set xs _ _ _ _ _ h
 
 -- right lengths, read off their test
 pub right-lengths : (t b f : ℕ) → lengthsRight t b f ≡ true → (tableNumbers ≤ t) × (f ≡ resultNumbers)

@@ -7,6 +7,7 @@ use mathlib.Core.List.{List, [], _∷_}
 use Rattle.answers.specs.Numbers.{answerNumber, answerFigures}
 use Rattle.answers.specs.declared.answer.Answer.{Answer}
 use Rattle.answers.specs.declared.answer.Answer.the-variants.{Found, NoRoom, Refused}
+use Rattle.timing.specs.Slack.{magnitude}
 use Rattle.router.specs.Route.{Question, answerOf, scratchOf, visitsOf}
 use Rattle.bench_entry.specs.Words.{refusalFault}
 
@@ -16,9 +17,9 @@ answerFault (Found f) = 0
 answerFault (NoRoom f) = 0
 answerFault (Refused r) = refusalFault r
 
--- registers, steps, latency, fault
+-- registers, steps, latency, fault, spare half-ticks
 unfoldable pub figureWords : Answer → List ℕ
-figureWords a = answerFigures a .registers ∷ answerFigures a .steps ∷ answerFigures a .latency ∷ answerFault a ∷ []
+figureWords a = answerFigures a .registers ∷ answerFigures a .steps ∷ answerFigures a .latency ∷ answerFault a ∷ magnitude (answerFigures a .slack) ∷ []
 
 -- the route call's effect
 pub record BenchAnswered (q : Question) (scratch scratch′ visits visits′ figures′ : List ℕ) (r : ℕ) : Type 0 where

@@ -9,6 +9,7 @@ use Rattle.answers.specs.declared.verdicts.VisitFault.{VisitFault}
 use Rattle.answers.specs.declared.verdicts.VisitFault.the-variants.{Cell, Wire, Site, Load, Period}
 use Rattle.answers.specs.declared.verdicts.Verdict.{Verdict}
 use Rattle.answers.specs.declared.verdicts.Verdict.the-variants.{Accepted, AtFault, Refused}
+use Rattle.timing.specs.Slack.{magnitude}
 use Rattle.question.specs.Question.{Question}
 use Rattle.verdict.specs.Verdict.{verdictOf}
 use Rattle.bench_entry.specs.Words.{refusalFault}
@@ -20,16 +21,24 @@ visitFaultPlace Cell = 1
 visitFaultPlace Wire = 2
 visitFaultPlace Site = 3
 visitFaultPlace Load = 4
-visitFaultPlace Period = 5
+visitFaultPlace (Period z) = 5
+
+-- by how much a period fault misses; 0 for any other
+abbrev pub missOf : VisitFault → ℕ
+missOf Cell = 0
+missOf Wire = 0
+missOf Site = 0
+missOf Load = 0
+missOf (Period z) = magnitude z
 
 -- what is told of a verdict
 abbrev pub foundOf : Verdict → Found
-foundOf Accepted = record { accepted = 1; visit = 0; fault = 0; element = 0 }
-foundOf (AtFault i f) = record { accepted = 0; visit = i; fault = visitFaultPlace f; element = 0 }
-foundOf (Refused r) = record { accepted = 0; visit = 0; fault = 0; element = refusalFault r }
+foundOf (Accepted z) = record { accepted = 1; visit = 0; fault = 0; element = 0; slack = magnitude z }
+foundOf (AtFault i f) = record { accepted = 0; visit = i; fault = visitFaultPlace f; element = 0; slack = missOf f }
+foundOf (Refused r) = record { accepted = 0; visit = 0; fault = 0; element = refusalFault r; slack = 0 }
 
 unfoldable pub foundWords : Found → List ℕ
-foundWords f = f .accepted ∷ f .visit ∷ f .fault ∷ f .element ∷ []
+foundWords f = f .accepted ∷ f .visit ∷ f .fault ∷ f .element ∷ f .slack ∷ []
 
 -- the verdict's effect; plan and list are only read
 pub record Judged (q : Question) (list found′ : List ℕ) (r : ℕ) : Type 0 where

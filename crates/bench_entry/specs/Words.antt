@@ -12,9 +12,9 @@ use Rattle.answers.specs.declared.answer.Refusal.the-variants.{Grid, Length, Ma
 use Rattle.job.specs.Fields.{tablesOf, tableNumbers, bufferListOf}
 use Rattle.question.specs.Question.{Question, questionOf}
 
--- ten words of tables, three words a buffer, four words for what is told
+-- ten words of tables, three words a buffer, five words for what is told
 abbrev pub resultNumbers : ℕ
-resultNumbers = 4
+resultNumbers = 5
 
 unfoldable pub lengthsRight : ℕ → ℕ → ℕ → Bool
 lengthsRight tables buffers results = eqb tables tableNumbers && eqb (buffers % 3) 0 && eqb results resultNumbers

@@ -5,6 +5,7 @@ ghost use Rattle.bench_entry.specs.Words.{resultNumbers};
 ghost use Rattle.bench_entry.specs.Effect.{answerFault, figureWords};
 use crate::faults::refusal_fault;
 use answers::Answer;
+use timing::slack_magnitude;
 
 fn answer_fault(answer: Answer) -> u32
     ensures { λ r. ⌜ r ≡ answerFault answer ⌝ }
@@ -16,7 +17,7 @@ fn answer_fault(answer: Answer) -> u32
     }
 }
 
-// Registers, steps, latency and fault.
+// Registers, steps, latency, fault and spare half-ticks, which no answer has below zero.
 pub fn write_figures(answer: Answer, figures: &mut [u32])
     requires { ⌜ length (now figures) ≡ resultNumbers ⌝ }
     ensures { λ _. ⌜ now (figures .exit) ≡ figureWords answer ⌝ }
@@ -26,4 +27,5 @@ pub fn write_figures(answer: Answer, figures: &mut [u32])
     figures[1] = f.steps;
     figures[2] = f.latency;
     figures[3] = answer_fault(answer);
+    figures[4] = slack_magnitude(f.slack);
 }

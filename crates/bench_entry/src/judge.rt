@@ -14,7 +14,7 @@ use job::tables_of;
 use verdict::judge_with;
 
 // The verdict on a list. Returns document 02's number: 0, 1 to 5 or 17. `tables` and `buffers` are those of `bench_entry`.
-// `found` gets whether the list is accepted, the first visit at fault, its fault's place from 1, and the fault of refusal 4.
+// `found` gets whether the list is accepted, the first visit at fault, its fault's place from 1, the fault of refusal 4, and the spare half-ticks of an accepted list or the miss of a period fault.
 // Other lengths of these three are refused with 15, and nothing is touched.
 #[no_mangle]
 pub extern "C" fn bench_judge(

@@ -7,9 +7,9 @@ use job::TABLE_NUMBERS;
 pub const WRONG_LENGTH: u16 = 15;
 
 // How many words tell an answer or a verdict.
-const RESULTS: usize = 4;
+const RESULTS: usize = 5;
 
-// Ten words of tables, three words a buffer, four words for what is told.
+// Ten words of tables, three words a buffer, five words for what is told.
 pub fn lengths_right(tables: usize, buffers: usize, results: usize) -> bool
     ensures { λ r. ⌜ r ≡ lengthsRight tables buffers results ⌝ }
 {

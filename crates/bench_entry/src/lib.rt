@@ -23,7 +23,7 @@ mod words;
 pub use judge::bench_judge;
 
 // The best route. Returns document 01's number, 0 to 8. `tables` holds ten words: register R K C setup, horizontal R C,
-// vertical R C, T, L. `buffers` holds R K C of each. `figures` gets registers, steps, latency and the fault of refusal 4.
+// vertical R C, T, L. `buffers` holds R K C of each. `figures` gets registers, steps, latency, the fault of refusal 4 and the spare half-ticks.
 // Other lengths of these three are refused with 15, and nothing is touched.
 #[no_mangle]
 pub extern "C" fn bench_entry(

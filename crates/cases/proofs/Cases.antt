@@ -7,10 +7,12 @@ use Rattle.plan.specs.Joined.{joinsRight, joinsBelow, bothIn, horizontal, verti
 use Rattle.timing.specs.Formulas.{wireDelay, gateDelay, wireLoad, bufferDriver, bufferLoad, registerDriver, registerLoad, setupDelay}
 use Rattle.timing.specs.Elements.{wireOf, driverOf, bufferOf, registerOf}
 use Rattle.timing.specs.Valid.{Valid}
-use Rattle.rules.specs.Rules.{rulesOf, siteOf, wireBetween}
-use Rattle.rules.specs.Legal.{mayStand, isEnd, arrive, leave, closing}
+use Rattle.timing.specs.Slack.{slackOf, smaller}
+use Rattle.rules.specs.Rules.{Rules, rulesOf, siteOf, wireBetween}
+use Rattle.rules.specs.Legal.{mayStand, isEnd, arrive, buffered, leave, closing, spanAfter}
 use Rattle.rules.specs.Ranking.{codeSevens, registers, steps, latency}
 use Rattle.rules.specs.Beginning.{nextPlace, placeFrom, startPlace, placeAfter}
+use Rattle.rules.specs.Slack.{slackAt, slacksFrom, slacks, leastFrom, leastSlack}
 use Rattle.budget.specs.Table.{loadAt, delayAt, bufferCost, loadOf, closeCost, only, maxBelow, viaBuffer, arrival, given}
 use Rattle.budget.specs.Done.{seedAt}
 use Rattle.budget.specs.Emission.{exactSeed, goesOn, afterLoad, afterDelay, afterRegisters, visit, firstFrom, nextCode, nextCell, emit}
@@ -18,45 +20,45 @@ use Rattle.lists.specs.Lists.{sumBelow}
 use Rattle.best.specs.Rows.{listFrom, tableOf, rowsOf, layerRows, budgetSum}
 use Rattle.best.specs.Labels.{isKnown, labelRegisters, labelSteps, labelsListed, relabelAt, relabel, least, leastBelow, isPending, isOfWave, nextPending, firstOfWave}
 use Rattle.best.specs.Search.{layerTurn, quietTurn, turn, searchFrom, mostSteps, mostTurns, search}
-use Rattle.best.specs.Best.{Outcome, found, none, reachRows, routeOf, outcome, best}
+use Rattle.best.specs.Best.{found, none, reachRows, routeOf, outcome, best}
 use Rattle.best.proofs.Document01.{rules-best, rules-none}
 use Rattle.cases.specs.Cases.{Expected, route, noRoute, Case, Meets, rulesIn, IsRight, Each, more, closesAt, tables, strip, straight, case1, close1, case2, case3, case4, case5, case6, case7, case8, case9, case10, case11, case12, case13, cases}
 use Rattle.cases.specs.Cases.{none as last}
 use Rattle.cases.proofs.Tables.{valid}
 
 -- what is computed: the answer of `best`, and the route's figures
-abbrev Agrees : Outcome → ℕ → Expected → Type 0
-Agrees x period (route k s t r) = (x ≡ found r) × (registers r ≡ k) × (steps r ≡ s) × (latency period r ≡ t)
-Agrees x period noRoute = x ≡ none
+abbrev Agrees : Rules → ℕ → Expected → Type 0
+Agrees R period (route k s t z r) = (best R ≡ found r) × (registers r ≡ k) × (steps r ≡ s) × (latency period r ≡ t) × (leastSlack R r ≡ z)
+Agrees R period noRoute = best R ≡ none
 
-computed : Each (λ c. Agrees (best (rulesIn c)) (c .elements .period) (c .expected)) cases
-unfolding cells row column marksAt blocked tap cutRight cutBelow joinsRight joinsBelow bothIn horizontal vertical joined wireOf bufferOf registerOf driverOf wireDelay gateDelay wireLoad bufferDriver bufferLoad registerDriver registerLoad setupDelay rulesOf siteOf wireBetween mayStand isEnd loadAt delayAt bufferCost loadOf closeCost only maxBelow viaBuffer arrival given seedAt exactSeed goesOn afterLoad afterDelay afterRegisters firstFrom nextCode nextCell emit listFrom sumBelow tableOf rowsOf layerRows budgetSum isKnown labelRegisters labelSteps labelsListed relabelAt relabel least leastBelow isPending isOfWave nextPending firstOfWave layerTurn quietTurn turn searchFrom mostSteps mostTurns search reachRows routeOf outcome best tables strip straight codeSevens registers steps latency case1 case2 case3 case4 case5 case6 case7 case8 case9 case10 case11 case12 case13
+computed : Each (λ c. Agrees (rulesIn c) (c .elements .period) (c .expected)) cases
+unfolding cells row column marksAt blocked tap cutRight cutBelow joinsRight joinsBelow bothIn horizontal vertical joined wireOf bufferOf registerOf driverOf wireDelay gateDelay wireLoad bufferDriver bufferLoad registerDriver registerLoad setupDelay rulesOf siteOf wireBetween mayStand isEnd loadAt delayAt bufferCost loadOf closeCost only maxBelow viaBuffer arrival given seedAt exactSeed goesOn afterLoad afterDelay afterRegisters firstFrom nextCode nextCell emit listFrom sumBelow tableOf rowsOf layerRows budgetSum isKnown labelRegisters labelSteps labelsListed relabelAt relabel least leastBelow isPending isOfWave nextPending firstOfWave layerTurn quietTurn turn searchFrom mostSteps mostTurns search reachRows routeOf outcome best tables strip straight codeSevens registers steps latency arrive buffered leave closing spanAfter nextPlace startPlace slackOf smaller slackAt slacksFrom slacks leastFrom leastSlack case1 case2 case3 case4 case5 case6 case7 case8 case9 case10 case11 case12 case13
 computed =
-    more case1 (refl, refl, refl, refl)
-    (more case2 (refl, refl, refl, refl)
-    (more case3 (refl, refl, refl, refl)
+    more case1 (refl, refl, refl, refl, refl)
+    (more case2 (refl, refl, refl, refl, refl)
+    (more case3 (refl, refl, refl, refl, refl)
     (more case4 refl
-    (more case5 (refl, refl, refl, refl)
-    (more case6 (refl, refl, refl, refl)
+    (more case5 (refl, refl, refl, refl, refl)
+    (more case6 (refl, refl, refl, refl, refl)
     (more case7 refl
-    (more case8 (refl, refl, refl, refl)
-    (more case9 (refl, refl, refl, refl)
-    (more case10 (refl, refl, refl, refl)
+    (more case8 (refl, refl, refl, refl, refl)
+    (more case9 (refl, refl, refl, refl, refl)
+    (more case10 (refl, refl, refl, refl, refl)
     (more case11 refl
-    (more case12 (refl, refl, refl, refl)
-    (more case13 (refl, refl, refl, refl) last))))))))))))
+    (more case12 (refl, refl, refl, refl, refl)
+    (more case13 (refl, refl, refl, refl, refl) last))))))))))))
 
 module _ {P Q S : Case → Type 0} (f : (c : Case) → P c → Q c → S c) where
   together : {cs : List Case} → Each P cs → Each Q cs → Each S cs
   together last last = last
   together (more c p ps) (more d q qs) = more c (f c p q) (together ps qs)
 
-right : (c : Case) → Valid (c .elements) → Agrees (best (rulesIn c)) (c .elements .period) (c .expected) → IsRight c
+right : (c : Case) → Valid (c .elements) → Agrees (rulesIn c) (c .elements .period) (c .expected) → IsRight c
 right c ok h = go (c .expected) h
   where
-    go : (x : Expected) → Agrees (best (rulesIn c)) (c .elements .period) x → Meets (rulesIn c) (c .elements .period) x
-    go (route k s t r) h =
-        record { isBest = rules-best (c .plan) (c .elements) (c .source) (c .sink) ok r .0 (h .0); registers = h .1; steps = h .2; latency = h .3 }
+    go : (x : Expected) → Agrees (rulesIn c) (c .elements .period) x → Meets (rulesIn c) (c .elements .period) x
+    go (route k s t z r) h =
+        record { isBest = rules-best (c .plan) (c .elements) (c .source) (c .sink) ok r .0 (h .0); registers = h .1; steps = h .2; latency = h .3; slack = h .4 }
     go noRoute h = rules-none (c .plan) (c .elements) (c .source) (c .sink) ok .0 h
 
 -- Document 01's worked routes are right.

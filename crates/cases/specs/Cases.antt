@@ -3,6 +3,7 @@ use Prim.Native.Nat.{ℕ, _-_}
 use mathlib.Core.Path.{_≡_}
 use mathlib.Core.List.{List, [], _∷_, _++_}
 use lib.Dec.{T}
+use lib.IntN.{ℤ, pos}
 use lib.ListN.{length, replicate}
 use Rattle.plan.specs.Plan.{Plan, planOf}
 use Rattle.timing.specs.declared.elements.Wire.{Wire}
@@ -14,11 +15,12 @@ use Rattle.rules.specs.Rules.{Rules, rulesOf}
 use Rattle.rules.specs.Legal.{Visit, Route, arrive, closing, legal}
 use Rattle.rules.specs.Ranking.{registers, steps, latency, IsBest}
 use Rattle.rules.specs.Beginning.{placeAfter}
+use Rattle.rules.specs.Slack.{leastSlack}
 use Rattle.budget.specs.Emission.{visit}
 
--- registers, steps, latency and visits; or 7, no route
+-- registers, steps, latency, spare half-ticks and visits; or 7, no route
 pub data Expected : Type 0 where
-  route : ℕ → ℕ → ℕ → Route → Expected
+  route : ℕ → ℕ → ℕ → ℤ → Route → Expected
   noRoute : Expected
 
 pub record Case : Type 0 where
@@ -30,14 +32,15 @@ pub record Case : Type 0 where
 
 -- A case is right: the visits are the best route, with these figures; or no route is legal.
 
-pub record CaseAnswered (R : Rules) (period k s t : ℕ) (r : Route) : Type 0 where
+pub record CaseAnswered (R : Rules) (period k s t : ℕ) (z : ℤ) (r : Route) : Type 0 where
   pub isBest : IsBest R r
   pub registers : registers r ≡ k
   pub steps : steps r ≡ s
   pub latency : latency period r ≡ t
+  pub slack : leastSlack R r ≡ z
 
 abbrev pub Meets : Rules → ℕ → Expected → Type 0
-Meets R period (route k s t r) = CaseAnswered R period k s t r
+Meets R period (route k s t z r) = CaseAnswered R period k s t z r
 Meets R period noRoute = (r : Route) → T (legal R r) → ⊥
 
 abbrev pub rulesIn : Case → Rules
@@ -93,44 +96,44 @@ straight code = visit 2 7 ∷ visit 1 code ∷ visit 0 7 ∷ []
 -- R1 to R13
 
 unfoldable pub case1 : Case
-case1 = strip tapped 26 63 [] (route 0 2 26 (straight 0))
+case1 = strip tapped 26 63 [] (route 0 2 26 (pos 0) (straight 0))
 
 -- where R1 closes, in half-ticks
 abbrev pub close1 : ℕ
 close1 = 52
 
 unfoldable pub case2 : Case
-case2 = strip tapped 25 63 [] (route 1 2 50 (straight 7))
+case2 = strip tapped 25 63 [] (route 1 2 50 (pos 26) (straight 7))
 
 unfoldable pub case3 : Case
-case3 = strip tapped 12 63 [] (route 1 2 24 (straight 7))
+case3 = strip tapped 12 63 [] (route 1 2 24 (pos 0) (straight 7))
 
 unfoldable pub case4 : Case
 case4 = strip tapped 11 63 [] noRoute
 
 unfoldable pub case5 : Case
-case5 = strip tapped 26 7 [] (route 0 2 26 (straight 0))
+case5 = strip tapped 26 7 [] (route 0 2 26 (pos 0) (straight 0))
 
 unfoldable pub case6 : Case
-case6 = strip tapped 26 6 [] (route 1 2 52 (straight 7))
+case6 = strip tapped 26 6 [] (route 1 2 52 (pos 28) (straight 7))
 
 unfoldable pub case7 : Case
 case7 = strip tapped 26 3 [] noRoute
 
 unfoldable pub case8 : Case
-case8 = strip tapped 22 63 buffers (route 0 2 22 (straight 1))
+case8 = strip tapped 22 63 buffers (route 0 2 22 (pos 0) (straight 1))
 
 unfoldable pub case9 : Case
-case9 = strip tapped 21 63 buffers (route 1 2 42 (straight 7))
+case9 = strip tapped 21 63 buffers (route 1 2 42 (pos 18) (straight 7))
 
 unfoldable pub case10 : Case
-case10 = strip tapped 26 63 buffers (route 0 2 26 (straight 0))
+case10 = strip tapped 26 63 buffers (route 0 2 26 (pos 0) (straight 0))
 
 unfoldable pub case11 : Case
 case11 = strip (0 ∷ 1 ∷ 0 ∷ []) 25 63 [] noRoute
 
 unfoldable pub case12 : Case
-case12 = strip (0 ∷ 3 ∷ 0 ∷ []) 22 63 buffers (route 1 2 44 (straight 7))
+case12 = strip (0 ∷ 3 ∷ 0 ∷ []) 22 63 buffers (route 1 2 44 (pos 20) (straight 7))
 
 -- 3 by 2, with a tap below cell 1
 unfoldable pub case13 : Case
@@ -140,7 +143,7 @@ case13 =
       elements = tables 12 63 (wireOf 0 0) [];
       source = 0;
       sink = 2;
-      expected = route 1 4 24 (visit 2 7 ∷ visit 1 0 ∷ visit 4 7 ∷ visit 1 0 ∷ visit 0 7 ∷ []);
+      expected = route 1 4 24 (pos 0) (visit 2 7 ∷ visit 1 0 ∷ visit 4 7 ∷ visit 1 0 ∷ visit 0 7 ∷ []);
     }
 
 abbrev pub cases : List Case

@@ -8,10 +8,14 @@ use native.Mathlib.Omega.{arith}
 use native.Mathlib.Numerals.{add-one}
 use borrow.Author.Tests.{eq-eqb, ne-eqb}
 use lib.Dec.{T, T-not, not-T, eqb, leb, ltb}
+use lib.IntN.{pos}
 use lib.ListN.{length, getD}
+use lib.Signed.{leZ}
 use Rattle.timing.specs.declared.elements.Elements.{Elements}
 use Rattle.timing.specs.Formulas.{gateDelay, bufferDriver, bufferLoad, registerDriver}
 use Rattle.timing.specs.Ranges.{loadMax, buffersMax}
+use Rattle.timing.specs.Slack.{slackOf}
+use Rattle.timing.proofs.SlackLaws.{slack-below}
 use Rattle.timing.specs.Elements.{DriverInRange}
 use Rattle.timing.specs.Valid.{Valid}
 use Rattle.rules.specs.Rules.{Rules, rulesOf, noGate, registerCode}
@@ -77,7 +81,7 @@ module _ (p : Problem) (marks words : List ℕ) (at : State) (asks : CodeAsks p 
   early = ltb (at .delay .0) (viewOf words (at .cell) (at .load .0))
 
   abbrev closes : Bool
-  closes = ltb (at .delay .0 + gateDelay (registerDriver (e .register)) (at .load .0)) (2 * e .period + 1)
+  closes = leZ (pos 0) (slackOf (2 * e .period) (at .delay .0 + gateDelay (registerDriver (e .register)) (at .load .0)))
 
   -- no gate
 
@@ -105,7 +109,7 @@ module _ (p : Problem) (marks words : List ℕ) (at : State) (asks : CodeAsks p 
 
   pub goes-register : goesAt R m A at registerCode ≡ exactSeed R m (at .registers) (at .steps) (at .cell) && closes
   unfolding goesAt rulesFor rulesOf closeCost
-  goes-register = refl
+  goes-register = simp (slack-below (2 * e .period) (at .delay .0 + gateDelay (registerDriver (e .register)) (at .load .0)))
 
   -- Nothing below the first buffer's code goes on, if a buffer may stand here at all
   module _ (late : early ≡ false) where

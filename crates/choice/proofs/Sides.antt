@@ -100,6 +100,7 @@ module _ (p : Problem) (marks words : List ℕ) (from : State) (asks : ChooseAsk
         delay = x .delay;
         registers = x .registers;
         steps = x .steps;
+        slack = x .slack;
         inRange = x .inRange;
       })
     where

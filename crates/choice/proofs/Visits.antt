@@ -1,5 +1,5 @@
 -- The first visit to one neighbour, out of the first code there.
-use Prim.Native.Nat.{ℕ, _+_, _-_, _≤_, _<_}
+use Prim.Native.Nat.{ℕ, _+_, _-_, _*_, _≤_, _<_}
 use mathlib.Core.Path.{_≡_, refl, _∙_}
 use mathlib.Core.Bool.{_&&_}
 use mathlib.Core.List.{List}
@@ -7,6 +7,7 @@ use mathlib.Core.Logic.{inl, inr}
 use native.Mathlib.Omega.{arith}
 use borrow.Author.Tests.{eq-eqb, ne-eqb}
 use lib.Dec.{T, leb, ltb, le→leb}
+use lib.IntN.{ℤ}
 use lib.ListN.{length}
 use Rattle.plan.proofs.Joined.{joined-in}
 use Rattle.timing.specs.declared.elements.Wire.{Wire}
@@ -15,12 +16,13 @@ use Rattle.timing.specs.Ranges.{loadMax}
 use Rattle.timing.specs.Formulas.{wireDelay, wireLoad, gateDelay, bufferDriver, registerLoad, setupDelay}
 use Rattle.timing.specs.Valid.{Valid}
 use Rattle.timing.proofs.Bounds.{wire-delay-max}
-use Rattle.rules.specs.Rules.{Rules, rulesOf, noGate, registerCode}
-use Rattle.rules.specs.Legal.{mayStand}
+use Rattle.rules.specs.Rules.{Rules, wireBetween, rulesOf, noGate, registerCode}
+use Rattle.rules.specs.Legal.{mayStand, arrive, closing}
+use Rattle.rules.specs.Slack.{slackAt, slackAfter}
 use Rattle.plan.proofs.Truth.{both, fst, snd, tests}
 use Rattle.budget.specs.Table.{Table, loadAt, delayAt, loadOf, bufferCost}
 use Rattle.budget.specs.Done.{Labels}
-use Rattle.budget.specs.Emission.{goesOn, afterLoad, afterDelay, Before}
+use Rattle.budget.specs.Emission.{goesOn, afterLoad, afterDelay, visit, Before}
 use Rattle.budget.proofs.Visit.{Gate, gate}
 use Rattle.labels.specs.Labels.{labelsOf}
 use Rattle.problem.specs.declared.Problem.{Problem}
@@ -29,8 +31,8 @@ use Rattle.costs.specs.Costs.{bufferAt}
 use Rattle.problem.proofs.Sizes.{cells-are}
 use Rattle.choice.specs.declared.State.{State}
 use Rattle.choice.specs.declared.Choice.{Choice}
-use Rattle.choice.specs.Choice.{delayMost, Goes, ChosenAmong}
-use Rattle.choice.specs.Codes.{CodeAsks, TryAsks, goesAt, FirstCode, leftLoad, leftDelay, Left}
+use Rattle.choice.specs.Choice.{delayMost, placeAt, Goes, ChosenAmong}
+use Rattle.choice.specs.Codes.{CodeAsks, TryAsks, goesAt, FirstCode, leftLoad, leftDelay, leftSlack, Left}
 use Rattle.choice.proofs.Codes.{buffer-load-most}
 
 -- a visit that goes on passes a wire
@@ -96,10 +98,10 @@ module _ (p : Problem) (marks words : List ℕ) (from : State) (cell : ℕ) (wir
   pub no-neighbour : cell ≡ length marks → Only Choice.Nothing
   no-neighbour q = ChosenAmong.nothing (λ c a s h t. omega (arith, linked-in c (goes-linked R m A from c a t)))
 
-  -- the load and the delay on arrival
-  module _ (inside : cell < length marks) (load delay : ℕ) (loads : load ≡ from .load .0 + wireLoad wire) (delays : delay ≡ from .delay .0 + wireDelay wire (from .load .0)) where
+  -- the load, the delay and the smallest figure on arrival
+  module _ (inside : cell < length marks) (load delay : ℕ) (slack : ℤ) (loads : load ≡ from .load .0 + wireLoad wire) (delays : delay ≡ from .delay .0 + wireDelay wire (from .load .0)) (slacks : slack ≡ from .slack) where
     abbrev at : State
-    at = record { cell = cell; load = record { 0 = load }; delay = record { 0 = delay }; registers = k; steps = u }
+    at = record { cell = cell; load = record { 0 = load }; delay = record { 0 = delay }; registers = k; steps = u; slack = slack }
 
     load-named : loadAt R (from .cell) cell (from .load .0) ≡ load
     unfolding loadAt
@@ -158,6 +160,13 @@ module _ (p : Problem) (marks words : List ℕ) (from : State) (cell : ℕ) (wir
         unfolding leftDelay afterDelay bufferCost bufferAt rulesFor rulesOf
         delay-after = left .delay ∙ rw (left .cell, load-named, delay-named)
 
+        slack-after : to .slack ≡ slackAfter R (placeAt from) (from .slack) (visit (to .cell) code)
+        unfolding leftSlack slackAfter slackAt closing arrive rulesFor rulesOf
+        slack-after =
+            let wired : wireBetween (planFor p marks) e (from .cell) cell ≡ wire = asks .same inside in
+            let whole : 2 * e .period + 1 - 1 ≡ 2 * e .period = omega arith in
+            left .slack ∙ rw (left .cell, wired, whole, slacks, loads, delays)
+
         cost : (n : ℕ) → bufferCost R code n ≡ gateDelay (bufferDriver (bufferAt e (code - 1))) n
         unfolding bufferCost bufferAt rulesFor rulesOf
         cost n = refl
@@ -174,6 +183,7 @@ module _ (p : Problem) (marks words : List ℕ) (from : State) (cell : ℕ) (wir
               delay = delay-after;
               registers = left .registers;
               steps = left .steps;
+              slack = slack-after;
               inRange =
                   record {
                     inPlan = omega (arith, left .cell);

@@ -7,8 +7,10 @@ use lib.Dec.{T}
 use lib.ListN.{length}
 use Rattle.timing.specs.Ranges.{loadMax}
 use Rattle.rules.specs.Rules.{Rules, registerCode}
+use Rattle.rules.specs.Beginning.{Place}
+use Rattle.rules.specs.Slack.{slackAfter}
 use Rattle.budget.specs.Table.{Table}
-use Rattle.budget.specs.Done.{Labels}
+use Rattle.budget.specs.Done.{stage, Labels}
 use Rattle.budget.specs.Emission.{goesOn, afterLoad, afterDelay, afterRegisters, Before}
 use Rattle.problem.specs.declared.Problem.{Problem}
 use Rattle.table.specs.Problem.{Ready, Room}
@@ -36,6 +38,10 @@ abbrev pub Goes : Rules → Labels → Table → State → ℕ → ℕ → Type 
 Goes R m A from cell code =
     T (goesOn R m (from .registers) (from .steps - 1) A (from .cell) (from .load .0) (from .delay .0) cell code)
 
+-- where a state has come; every span has the bound of the first
+abbrev pub placeAt : State → Place
+placeAt s = record { cell = s .cell; span = 0; stage = stage (s .load .0) (s .delay .0) }
+
 -- The visit goes on to the state `to`, and none before it to these cells does. After a last visit, `to` is as after any register.
 pub record FirstVisit (R : Rules) (n : ℕ) (m : Labels) (A : Table) (from : State) (cells : ℕ → Type 0) (code : ℕ) (to : State) : Type 0 where
   pub among : cells (to .cell)
@@ -46,6 +52,7 @@ pub record FirstVisit (R : Rules) (n : ℕ) (m : Labels) (A : Table) (from : Sta
   pub delay : to .delay .0 ≡ afterDelay R (from .cell) (to .cell) (from .load .0) (from .delay .0) code
   pub registers : to .registers ≡ afterRegisters (from .registers) code
   pub steps : to .steps ≡ from .steps - 1
+  pub slack : to .slack ≡ slackAfter R (placeAt from) (from .slack) (record { cell = to .cell; code = code })
   pub inRange : InRange n to
 
 pub data ChosenAmong (R : Rules) (n : ℕ) (m : Labels) (A : Table) (from : State) (cells : ℕ → Type 0) : Choice → Type 0 where

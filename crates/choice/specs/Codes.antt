@@ -4,11 +4,13 @@ use mathlib.Core.Path.{_≡_}
 use mathlib.Core.Bool.{Bool, _&&_, cond}
 use mathlib.Core.List.{List}
 use lib.Dec.{T, eqb, leb, ltb}
+use lib.IntN.{ℤ}
 use lib.ListN.{length}
 use Rattle.timing.specs.declared.elements.Wire.{Wire}
 use Rattle.timing.specs.declared.elements.Elements.{Elements}
 use Rattle.timing.specs.Ranges.{loadMax}
-use Rattle.timing.specs.Formulas.{gateDelay, bufferDriver, bufferLoad, registerLoad, setupDelay}
+use Rattle.timing.specs.Formulas.{gateDelay, bufferDriver, bufferLoad, registerDriver, registerLoad, setupDelay}
+use Rattle.timing.specs.Slack.{slackOf, smaller}
 use Rattle.timing.specs.Elements.{WireInRange}
 use Rattle.timing.specs.Valid.{Valid}
 use Rattle.rules.specs.Rules.{Rules, noGate, registerCode}
@@ -89,6 +91,11 @@ leftDelay e at code =
     cond (eqb code noGate) (at .delay .0)
     (cond (eqb code registerCode) (setupDelay (e .register)) (at .delay .0 + gateDelay (bufferDriver (bufferAt e (code - 1))) (at .load .0)))
 
+-- the smallest spare figure after it
+unfoldable pub leftSlack : Elements → State → ℕ → ℤ
+leftSlack e at code =
+    cond (eqb code registerCode) (smaller (at .slack) (slackOf (2 * e .period) (at .delay .0 + gateDelay (registerDriver (e .register)) (at .load .0)))) (at .slack)
+
 -- `to` is the state after the gate
 pub record Left (e : Elements) (at : State) (code : ℕ) (to : State) : Type 0 where
   pub cell : to .cell ≡ at .cell
@@ -96,3 +103,4 @@ pub record Left (e : Elements) (at : State) (code : ℕ) (to : State) : Type 0 w
   pub delay : to .delay .0 ≡ leftDelay e at code
   pub registers : to .registers ≡ afterRegisters (at .registers) code
   pub steps : to .steps ≡ at .steps
+  pub slack : to .slack ≡ leftSlack e at code

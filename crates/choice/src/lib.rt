@@ -25,14 +25,16 @@ use timing::Elements;
 use timing::HalfTicks;
 use timing::Load;
 use timing::Wire;
+use timing::smaller_slack;
 
-// After a visit's gate: the delay of the current span, and the registers and steps to go.
+// After a visit's gate: the delay of the current span, the registers and steps to go, and the smallest spare figure of the spans closed so far.
 pub struct State {
     pub cell: usize,
     pub load: Load,
     pub delay: HalfTicks,
     pub registers: u16,
     pub steps: u32,
+    pub slack: i32,
 }
 
 // The code of the visit, and the state after it.
@@ -113,7 +115,7 @@ fn first_code(plan: &[u8], scratch: &[u16], p: Problem, at: State) -> u16
         }
     }
     if is_seed(plan, scratch, p, at) {
-        if elements.in_time(at.load, at.delay) {
+        if 0 <= elements.slack(at.load, at.delay) {
             return 7;
         }
     }
@@ -129,6 +131,7 @@ fn leave(elements: Elements, at: State, code: u16) -> State
         return at;
     }
     if code == 7 {
+        let close = elements.slack(at.load, at.delay);
         let register = elements.register;
         return State {
             cell: at.cell,
@@ -136,6 +139,7 @@ fn leave(elements: Elements, at: State, code: u16) -> State
             delay: register.start_delay(),
             registers: fewer(at.registers),
             steps: at.steps,
+            slack: smaller_slack(at.slack, close),
         };
     }
     let i = (code - 1) as usize;
@@ -146,6 +150,7 @@ fn leave(elements: Elements, at: State, code: u16) -> State
         delay: buffer.driver().after(at.load, at.delay),
         registers: at.registers,
         steps: at.steps,
+        slack: at.slack,
     }
 }
 
@@ -184,6 +189,7 @@ fn try_cell(
         delay: from.delay.plus(wire.delay(from.load)),
         registers: from.registers,
         steps: from.steps - 1,
+        slack: from.slack,
     };
     let code = first_code(plan, scratch, p, at);
     if code == 8 {

@@ -28,7 +28,7 @@ fn legal_ready(plan: &[u8], p: Problem, words: &[u16]) -> bool
 {
     let verdict = judge_ready(plan, p, words);
     match verdict {
-        Verdict::Accepted => true,
+        Verdict::Accepted(_) => true,
         Verdict::AtFault(_, _) => false,
         Verdict::Refused(_) => false,
     }

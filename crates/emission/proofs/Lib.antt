@@ -1,1 +1,2 @@
+pub mod Slack
 pub mod Visits

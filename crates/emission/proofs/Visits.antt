@@ -2,17 +2,21 @@
 use Prim.Native.Nat.{ℕ, suc, _+_, _-_, _*_, _≤_, _<_}
 use mathlib.Core.Path.{_≡_, refl, sym, ap, _∙_, subst}
 use mathlib.Core.Logic.{_⊎_, inl, inr}
-use mathlib.Core.List.{List, [], _∷_, _++_, append-assoc}
+use mathlib.Core.List.{List, [], _∷_, _++_, append-assoc, append-nil}
 use native.Mathlib.Omega.{arith}
 use native.Mathlib.Nat.{zero-add, add-zero}
 use lib.Dec.{T}
-use lib.ListN.{length, getD, set, length-append, List·getD-append}
+use lib.ListN.{length, getD, set, length-set, length-append, List·getD-append}
 use lib.Seq.{getD-append-add}
 use Rattle.rules.specs.Rules.{Rules, registerCode}
-use Rattle.rules.specs.Legal.{Visit, Route}
+use Rattle.rules.specs.Legal.{Visit, Route, spanAfter}
+use Rattle.rules.specs.Beginning.{startPlace}
+use Rattle.rules.specs.Slack.{slacks, leastSlack}
+use Rattle.timing.specs.Slack.{slackMost}
 use Rattle.rules.specs.Ranking.{written, IsBest}
 use Rattle.plan.proofs.Truth.{equal}
 use Rattle.rules.proofs.Order.{best-unique}
+use Rattle.rules.proofs.Slack.{least-none}
 use Rattle.budget.specs.Table.{Table}
 use Rattle.budget.specs.Done.{Within, NotAfter, Least, Labels, Labelled, Lawful}
 use Rattle.budget.specs.Emission.{FirstEnding, FirstViable, visit}
@@ -31,7 +35,8 @@ use Rattle.choice.specs.Choice.{InRange, Goes, FirstVisit, ChosenAmong, Chosen}
 use Rattle.reach.specs.declared.layers.Layers.{Layers}
 use Rattle.reach.specs.Reach.{noLayers, Loaded}
 use Rattle.reach.proofs.Trailing.{held-start}
-use Rattle.emission.specs.Emission.{Onward, Emitting, Emitted}
+use Rattle.emission.specs.Emission.{placeIn, Onward, Emitting, Emitted}
+use Rattle.emission.proofs.Slack.{slacks-next}
 
 -- the words of visits
 
@@ -71,14 +76,14 @@ chosen-visit (ChosenAmong.nothing f) code to e = absurd (let z : _≡_ {A = ℕ}
 filled-next : {F : ℕ → ℕ} {n : ℕ} {old new : List ℕ} → Filled F 0 n old new → (x : ℕ) → n < length old → x ≡ F n → Filled F 0 (n + 1) old (set new n x)
 filled-next {F} {n} {old} {new} f x h e = rw zero-add at (filled-more f x (omega arith) e)
 
-module _ (R : Rules) (law : Lawful R) (n k s count : ℕ) (words₀ visits₀ : List ℕ) (room : 2 * (s + 1) ≤ length visits₀) where
+module _ (R : Rules) (law : Lawful R) (n k s count : ℕ) (words₀ visits₀ : List ℕ) where
   abbrev first : Visit
   first = visit (R .sink) registerCode
 
   -- the sink's visit is written
-  pub emit-start : (before : ℕ) (at : State) → at .cell ≡ R .sink → at .load .0 ≡ R .start .load → at .delay .0 ≡ R .start .delay → at .registers ≡ k → at .steps ≡ s → InRange n at → Least R k s (R .sink) (R .start .load) (R .start .delay) → Labelled R k before (labelsOf n words₀) → Ordered n words₀ count → Emitting R n k s count words₀ words₀ visits₀ (set (set visits₀ 0 (R .sink)) 1 registerCode) at noLayers 2
-  unfolding written
-  emit-start before at e₁ e₂ e₃ e₄ e₅ inRange least labels ordered =
+  pub emit-start : (before : ℕ) (at : State) → at .cell ≡ R .sink → at .load .0 ≡ R .start .load → at .delay .0 ≡ R .start .delay → at .registers ≡ k → at .steps ≡ s → at .slack ≡ slackMost → InRange n at → Least R k s (R .sink) (R .start .load) (R .start .delay) → Labelled R k before (labelsOf n words₀) → Ordered n words₀ count → Emitting R n k s count words₀ words₀ visits₀ (set (set visits₀ 0 (R .sink)) 1 registerCode) at noLayers 2
+  unfolding written leastSlack slacks startPlace
+  emit-start before at e₁ e₂ e₃ e₄ e₅ e₆ inRange least labels ordered =
       record {
         made = [];
         onward = Onward.goes (rw (e₁, e₂, e₃, e₄, e₅) least) (λ vs h. rw (e₁, e₂, e₃, e₄, e₅) at h);
@@ -86,7 +91,10 @@ module _ (R : Rules) (law : Lawful R) (n k s count : ℕ) (words₀ visits₀ : 
         fewer = omega arith;
         whole = omega arith;
         placed = refl;
-        filled = filled-more (filled-more (filled-none (λ i. getD (written (first ∷ [])) i 0) 0 visits₀) (R .sink) (omega arith) refl) registerCode (omega arith) refl;
+        filled = λ room. filled-more (filled-more (filled-none (λ i. getD (written (first ∷ [])) i 0) 0 visits₀) (R .sink) (omega arith) refl) registerCode (omega arith) refl;
+        kept = simp length-set;
+        span = 0;
+        slacks = λ vs. rw (e₁, e₂, e₃, e₆);
         before = before;
         labels = labels;
         held = held-start ordered;
@@ -168,11 +176,11 @@ module _ (R : Rules) (law : Lawful R) (n k s count : ℕ) (words₀ visits₀ : 
       long : length (written (first ∷ e .made)) ≡ place
       long = omega (arith, written-length (first ∷ e .made), e .placed)
 
-      filled : Filled (λ i. getD (written (first ∷ (e .made ++ (visit (to .cell) code ∷ [])))) i 0) 0 (place + 1 + 1) visits₀ (set (set visits place (to .cell)) (place + 1) code)
-      filled =
+      filled : 2 * (s + 1) ≤ length visits₀ → Filled (λ i. getD (written (first ∷ (e .made ++ (visit (to .cell) code ∷ [])))) i 0) 0 (place + 1 + 1) visits₀ (set (set visits place (to .cell)) (place + 1) code)
+      filled room =
           filled-next
           (filled-next
-          (filled-as (e .filled) (λ i. getD (written (first ∷ (e .made ++ (visit (to .cell) code ∷ [])))) i 0)
+          (filled-as (e .filled room) (λ i. getD (written (first ∷ (e .made ++ (visit (to .cell) code ∷ [])))) i 0)
           (λ i h. rw split-words (sym (List·getD-append (written (first ∷ e .made)) (to .cell ∷ code ∷ []) 0 i (omega (arith, long))))))
           (to .cell) (omega (arith, e .placed, e .whole)) cell-word)
           code (omega (arith, e .placed, e .whole)) code-word
@@ -192,7 +200,10 @@ module _ (R : Rules) (law : Lawful R) (n k s count : ℕ) (words₀ visits₀ : 
             fewer = omega (arith, v .registers, after-fewer (at .registers) code, e .fewer);
             whole = omega (arith, v .steps, length-append (e .made) (visit (to .cell) code ∷ []), e .whole);
             placed = omega (arith, e .placed, length-append (e .made) (visit (to .cell) code ∷ []));
-            filled = subst (λ (x : ℕ). Filled (λ i. getD (written (first ∷ (e .made ++ (visit (to .cell) code ∷ [])))) i 0) 0 x visits₀ (set (set visits place (to .cell)) (place + 1) code)) (omega arith) filled;
+            filled = λ room. subst (λ (x : ℕ). Filled (λ i. getD (written (first ∷ (e .made ++ (visit (to .cell) code ∷ [])))) i 0) 0 x visits₀ (set (set visits place (to .cell)) (place + 1) code)) (omega arith) (filled room);
+            kept = simp length-set (e .kept);
+            span = spanAfter (e .span) (visit (to .cell) code);
+            slacks = λ vs. rw append-assoc (e .slacks (visit (to .cell) code ∷ vs) ∙ slacks-next R law at to code (e .span) (v .load) (v .delay) (v .slack) vs);
             before = e .before;
             labels = labels;
             held = loaded .held;
@@ -200,13 +211,20 @@ module _ (R : Rules) (law : Lawful R) (n k s count : ℕ) (words₀ visits₀ : 
             rest = λ i h. loaded .rest i h ∙ e .rest i h;
           }
 
-  -- no step is left: the words are the best route's
-  pub emit-done : (words visits : List ℕ) (at : State) (layers : Layers) (place : ℕ) → Emitting R n k s count words₀ words visits₀ visits at layers place → at .steps ≡ 0 → Least R k s (R .sink) (R .start .load) (R .start .delay) → R .sink < R .cellCount → Emitted R n s words₀ words visits₀ visits
-  emit-done words visits at layers place e z least inPlan = record { filled = λ r b. words-of r b (e .onward); same = e .same; rest = e .rest }
+  -- no step is left: the words are the best route's, and so is the figure
+  pub emit-done : (words visits : List ℕ) (at : State) (layers : Layers) (place : ℕ) → Emitting R n k s count words₀ words visits₀ visits at layers place → at .steps ≡ 0 → Least R k s (R .sink) (R .start .load) (R .start .delay) → R .sink < R .cellCount → Emitted R n s words₀ words visits₀ visits (at .slack)
+  emit-done words visits at layers place e z least inPlan = record { slack = λ r b. figure-of r b (e .onward); kept = e .kept; filled = λ room r b. words-of room r b (e .onward); same = e .same; rest = e .rest }
     where
-      words-of : (r : Route) → IsBest R r → Onward R k s at (e .made) → Filled (λ i. getD (written r) i 0) 0 (2 * (s + 1)) visits₀ visits
-      words-of r b (Onward.goes h f) = absurd (omega (arith, least-steps h))
-      words-of r b (Onward.whole y f) =
-          let q : (first ∷ e .made) ≡ r = best-unique R (first ∷ e .made) r (best-found R k s least (e .made) f inPlan) b in
+      is-best : (r : Route) → IsBest R r → FirstEnding R k s (R .sink) (R .start .load) (R .start .delay) (e .made) → (first ∷ e .made) ≡ r
+      is-best r b f = best-unique R (first ∷ e .made) r (best-found R k s least (e .made) f inPlan) b
+
+      figure-of : (r : Route) → IsBest R r → Onward R k s at (e .made) → at .slack ≡ leastSlack R r
+      figure-of r b (Onward.goes h f) = absurd (omega (arith, least-steps h))
+      figure-of r b (Onward.whole y f) =
+          sym (least-none R (placeIn (e .span) at) (at .slack)) ∙ (sym (e .slacks []) ∙ (rw append-nil (ap (leastSlack R) (is-best r b f))))
+
+      words-of : 2 * (s + 1) ≤ length visits₀ → (r : Route) → IsBest R r → Onward R k s at (e .made) → Filled (λ i. getD (written r) i 0) 0 (2 * (s + 1)) visits₀ visits
+      words-of room r b (Onward.goes h f) = absurd (omega (arith, least-steps h))
+      words-of room r b (Onward.whole y f) =
           let p : place ≡ 2 * (s + 1) = omega (arith, e .placed, e .whole) in
-          rw q at (rw p at (e .filled))
+          rw (is-best r b f) at (rw p at (e .filled room))

@@ -1,9 +1,9 @@
-// Emission: the best route, written into the caller's visits from the sink on.
+// Emission: the best route, written into the caller's visits from the sink on, and its smallest spare figure.
 ghost use mathlib.Core.Path.{_≡_};
-ghost use Prim.Native.Nat.{_+_, _≤_, _<_};
+ghost use Prim.Native.Nat.{_+_};
 ghost use lib.ListN.{length, set};
 ghost use Rattle.table.specs.Problem.{rulesFor};
-ghost use Rattle.emission.specs.Emission.{Emitted, EmitAsks};
+ghost use Rattle.emission.specs.Emission.{PutAsks, Emitted, EmitAsks};
 use choice::Choice;
 use choice::State;
 use choice::choose;
@@ -11,17 +11,20 @@ use costs::COSTS;
 use problem::Problem;
 use reach::load_layer;
 use reach::no_layers;
+use timing::SLACK_MOST;
 
-// A visit's two words.
+// A visit's two words, where there is room for them.
 fn put_visit(visits: &mut [u16], i: usize, cell: usize, code: u16)
-    requires { ⌜ (cell < 65536) × (i + 2 ≤ length (now visits)) ⌝ }
+    requires { ⌜ PutAsks i cell (length (now visits)) ⌝ }
     ensures { λ _. ⌜ now (visits .exit) ≡ set (set (now (visits .entry)) i cell) (i + 1) code ⌝ }
 {
-    visits[i] = cell as u16;
-    visits[i + 1] = code;
+    if i + 2 <= visits.len() {
+        visits[i] = cell as u16;
+        visits[i + 1] = code;
+    }
 }
 
-// The route of these registers and steps: cell and code of each visit, two words each.
+// The route of these registers and steps: cell and code of each visit, two words each, or nothing where no words are lent. Answers its smallest spare figure.
 pub fn emit(
     plan: &[u8],
     scratch: &mut [u16],
@@ -31,9 +34,9 @@ pub fn emit(
     registers: u16,
     steps: u32,
     visits: &mut [u16],
-)
+) -> i32
     requires { ⌜ EmitAsks p (now plan) (now costs) count registers steps (now scratch) (now visits) ⌝ }
-    ensures { λ _. ⌜ Emitted (rulesFor p (now (plan .entry))) (length (now (plan .entry))) steps (now (scratch .entry)) (now (scratch .exit)) (now (visits .entry)) (now (visits .exit)) ⌝ }
+    ensures { λ r. ⌜ Emitted (rulesFor p (now (plan .entry))) (length (now (plan .entry))) steps (now (scratch .entry)) (now (scratch .exit)) (now (visits .entry)) (now (visits .exit)) r ⌝ }
 {
     let elements = p.elements;
     let register = elements.register;
@@ -47,6 +50,7 @@ pub fn emit(
         delay: delay,
         registers: registers,
         steps: steps,
+        slack: SLACK_MOST,
     };
     let mut layers = no_layers();
     let mut i = 2;
@@ -70,8 +74,9 @@ pub fn emit(
                 i += 2;
             }
             Choice::Nothing => {
-                return;
+                return at.slack;
             }
         }
     }
+    at.slack
 }

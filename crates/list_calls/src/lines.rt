@@ -4,6 +4,7 @@ use answers::Verdict;
 use answers::VisitFault;
 use report::write_call;
 use report::write_element;
+use report::write_slack;
 use report::write_words;
 use streams::write_number;
 use streams::write_text;
@@ -14,13 +15,13 @@ fn write_visit_fault(fault: VisitFault) -> bool {
         VisitFault::Wire => write_text(b" wire"),
         VisitFault::Site => write_text(b" site"),
         VisitFault::Load => write_text(b" load"),
-        VisitFault::Period => write_text(b" period"),
+        VisitFault::Period(slack) => write_text(b" period") && write_slack(slack),
     }
 }
 
 fn write_judged(verdict: Verdict) -> bool {
     match verdict {
-        Verdict::Accepted => write_text(b" accepted"),
+        Verdict::Accepted(slack) => write_text(b" accepted") && write_slack(slack),
         Verdict::AtFault(i, fault) => {
             write_text(b" visit") && write_number(i as u64) && write_visit_fault(fault)
         }

@@ -4,7 +4,7 @@ use script::Cursor;
 use script::read_number;
 
 // The most words of a list.
-pub const LIST_WORDS: usize = 8192;
+pub const LIST_WORDS: usize = 32768;
 
 // How many words a list has, and where to read on.
 pub struct ListRead {

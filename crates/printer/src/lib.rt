@@ -15,8 +15,8 @@ const SCRATCH: usize = 32768;
 
 const VISITS: usize = 2048;
 
-// 34 bytes and 12 for each of 1,024 visits
-const TEXT: usize = 12322;
+// 46 bytes and 12 for each of 1,024 visits
+const TEXT: usize = 12334;
 
 // Reads a job. The room has the bytes that decide what is printed, whatever follows them (printing/proofs/Decides: `printed-decided`).
 pub fn read_deciding(space: &mut [u8]) -> Input

@@ -1,4 +1,4 @@
--- Document 01's job and what it prints, whole.
+-- Document 01's job and what it prints, whole, with the spare figure of document 02.
 use Prim.Native.Nat.{ℕ}
 use mathlib.Core.Path.{_≡_, refl}
 use mathlib.Core.List.{List, [], _∷_}
@@ -6,9 +6,12 @@ use Rattle.plan.specs.Plan.{cells, row, column, marksAt, blocked, tap, cutRight
 use Rattle.plan.specs.Check.{gridFault, lengthFault, invalidMark, invalidBelow, markFault, checkedPlan}
 use Rattle.plan.specs.Joined.{joinsRight, joinsBelow, bothIn, horizontal, vertical, joined}
 use Rattle.timing.specs.Formulas.{wireDelay, gateDelay, wireLoad, bufferDriver, bufferLoad, registerDriver, registerLoad, setupDelay}
+use Rattle.timing.specs.Slack.{slackOf, smaller}
 use Rattle.timing.specs.Elements.{wireInRange, registerInRange, bufferInRange, wireOf, driverOf, bufferOf, registerOf}
 use Rattle.rules.specs.Rules.{rulesOf, siteOf, wireBetween}
-use Rattle.rules.specs.Legal.{mayStand, isEnd}
+use Rattle.rules.specs.Legal.{mayStand, isEnd, arrive, buffered, leave, closing, spanAfter}
+use Rattle.rules.specs.Beginning.{nextPlace, startPlace}
+use Rattle.rules.specs.Slack.{slackAt, slacksFrom, slacks, leastFrom, leastSlack}
 use Rattle.rules.specs.Ranking.{codeSevens, registers, steps, latency, written}
 use Rattle.budget.specs.Table.{loadAt, delayAt, bufferCost, loadOf, closeCost, only, maxBelow, viaBuffer, arrival, given}
 use Rattle.budget.specs.Done.{seedAt}
@@ -20,12 +23,12 @@ use Rattle.best.specs.Search.{layerTurn, quietTurn, turn, searchFrom, mostSteps
 use Rattle.best.specs.Best.{reachRows, routeOf, outcome, best}
 use Rattle.answers.specs.Tables.{periodInRange, wireOk, registerOk, bufferOk, bufferFault, buffersFault, listFault, tablesFault, wireFrom, registerFrom, bufferFrom, listedBuffer, sixPlaces, elementsOf}
 use Rattle.answers.specs.Ends.{endsFault}
-use Rattle.router.specs.Route.{rulesAsked, cellsAsked, afterPlan, afterTables, questionChecks, checks, figuresOf, answerFor, visitsFor, answerAfter, answerOf, visitsAfter, visitsOf}
+use Rattle.router.specs.Route.{rulesAsked, cellsAsked, afterPlan, afterTables, questionChecks, checks, figuresOf, answerFor, visitsFor, answerAfter, answerUnder, answerOf, visitsAfter, visitsUnder, visitsOf}
 use Rattle.numbers.specs.Numbers.{closed, thirdGroup, secondGroup, number}
 use Rattle.numbers.specs.Runs.{prepend, oneMore, run}
 use Rattle.job.specs.Fields.{tablesOf, bufferRecordAt, bufferListOf}
 use Rattle.job.specs.Job.{withNumber, withRun, askedOf, questionFrom, ended, buffersFrom, countFrom, tablesFrom, marksFrom, sized, readJob}
-use Rattle.text.specs.Decimal.{digit, spelled, decimal}
+use Rattle.text.specs.Decimal.{digit, spelled, decimal, signed}
 use Rattle.text.specs.Answers.{refusedLine, refusalText, figuresLine, visitLine, visitLines, answerText}
 use Rattle.printing.specs.Printed.{blank, readingText, printed}
 
@@ -33,10 +36,10 @@ use Rattle.printing.specs.Printed.{blank, readingText, printed}
 abbrev job : List ℕ
 job = 3 ∷ 1 ∷ 0 ∷ 2 ∷ 0 ∷ 1 ∷ 2 ∷ 1 ∷ 1 ∷ 2 ∷ 3 ∷ 2 ∷ 3 ∷ 25 ∷ 63 ∷ 0 ∷ 2 ∷ 0 ∷ []
 
--- route 1 2 50, 2 7, 1 7, 0 7, a newline after each
+-- route 1 2 50 26, 2 7, 1 7, 0 7, a newline after each
 abbrev lines : List ℕ
-lines = 114 ∷ 111 ∷ 117 ∷ 116 ∷ 101 ∷ 32 ∷ 49 ∷ 32 ∷ 50 ∷ 32 ∷ 53 ∷ 48 ∷ 10 ∷ 50 ∷ 32 ∷ 55 ∷ 10 ∷ 49 ∷ 32 ∷ 55 ∷ 10 ∷ 48 ∷ 32 ∷ 55 ∷ 10 ∷ []
+lines = 114 ∷ 111 ∷ 117 ∷ 116 ∷ 101 ∷ 32 ∷ 49 ∷ 32 ∷ 50 ∷ 32 ∷ 53 ∷ 48 ∷ 32 ∷ 50 ∷ 54 ∷ 10 ∷ 50 ∷ 32 ∷ 55 ∷ 10 ∷ 49 ∷ 32 ∷ 55 ∷ 10 ∷ 48 ∷ 32 ∷ 55 ∷ 10 ∷ []
 
 pub printed-example : printed job ≡ lines
-unfolding gridFault lengthFault invalidMark invalidBelow markFault checkedPlan wireInRange registerInRange bufferInRange written periodInRange wireOk registerOk bufferOk bufferFault buffersFault listFault tablesFault wireFrom registerFrom bufferFrom listedBuffer sixPlaces elementsOf endsFault rulesAsked cellsAsked afterPlan afterTables questionChecks checks figuresOf answerFor visitsFor answerAfter answerOf visitsAfter visitsOf closed thirdGroup secondGroup number prepend oneMore run tablesOf bufferListOf bufferRecordAt withNumber withRun askedOf questionFrom ended buffersFrom countFrom tablesFrom marksFrom sized readJob digit spelled decimal refusedLine refusalText figuresLine visitLine visitLines answerText blank readingText printed cells row column marksAt blocked tap cutRight cutBelow joinsRight joinsBelow bothIn horizontal vertical joined wireOf bufferOf registerOf driverOf wireDelay gateDelay wireLoad bufferDriver bufferLoad registerDriver registerLoad setupDelay rulesOf siteOf wireBetween mayStand isEnd loadAt delayAt bufferCost loadOf closeCost only maxBelow viaBuffer arrival given seedAt exactSeed goesOn afterLoad afterDelay afterRegisters firstFrom nextCode nextCell emit listFrom sumBelow tableOf rowsOf layerRows budgetSum isKnown labelRegisters labelSteps labelsListed relabelAt relabel least leastBelow isPending isOfWave nextPending firstOfWave layerTurn quietTurn turn searchFrom mostSteps mostTurns search reachRows routeOf outcome best codeSevens registers steps latency
+unfolding gridFault lengthFault invalidMark invalidBelow markFault checkedPlan wireInRange registerInRange bufferInRange written periodInRange wireOk registerOk bufferOk bufferFault buffersFault listFault tablesFault wireFrom registerFrom bufferFrom listedBuffer sixPlaces elementsOf endsFault rulesAsked cellsAsked afterPlan afterTables questionChecks checks figuresOf answerFor visitsFor answerAfter answerUnder answerOf visitsAfter visitsUnder visitsOf closed thirdGroup secondGroup number prepend oneMore run tablesOf bufferListOf bufferRecordAt withNumber withRun askedOf questionFrom ended buffersFrom countFrom tablesFrom marksFrom sized readJob digit spelled decimal refusedLine refusalText figuresLine visitLine visitLines answerText blank readingText printed cells row column marksAt blocked tap cutRight cutBelow joinsRight joinsBelow bothIn horizontal vertical joined wireOf bufferOf registerOf driverOf wireDelay gateDelay wireLoad bufferDriver bufferLoad registerDriver registerLoad setupDelay rulesOf siteOf wireBetween mayStand isEnd loadAt delayAt bufferCost loadOf closeCost only maxBelow viaBuffer arrival given seedAt exactSeed goesOn afterLoad afterDelay afterRegisters firstFrom nextCode nextCell emit listFrom sumBelow tableOf rowsOf layerRows budgetSum isKnown labelRegisters labelSteps labelsListed relabelAt relabel least leastBelow isPending isOfWave nextPending firstOfWave layerTurn quietTurn turn searchFrom mostSteps mostTurns search reachRows routeOf outcome best codeSevens registers steps latency arrive buffered leave closing spanAfter nextPlace startPlace slackAt slacksFrom slacks leastFrom leastSlack slackOf smaller signed
 printed-example = refl

@@ -13,7 +13,7 @@ use Rattle.rules.specs.Ranking.{steps, written}
 use Rattle.best.specs.Search.{Found, figures, nothing, search}
 use Rattle.best.specs.Best.{routeOf, Outcome, found, none, outcome, best}
 use Rattle.answers.specs.declared.answer.Answer.{Answer}
-use Rattle.router.specs.Route.{Question, rulesAsked, Check, passes, fails, checks, figuresOf, answerFor, visitsFor, answerAfter, answerOf, visitsAfter, visitsOf}
+use Rattle.router.specs.Route.{Question, rulesAsked, Check, passes, fails, checks, figuresOf, answerFor, visitsFor, answerAfter, answerUnder, answerOf, visitsAfter, visitsUnder, visitsOf}
 use Rattle.text.specs.Answers.{figuresLine, visitLines, answerText, VisitsWithin}
 use Rattle.printing.specs.Printed.{blank}
 
@@ -49,46 +49,46 @@ best-visits R = go (search R)
     go nothing = tt
 
 -- an outcome's text, by the number of words lent
-outcome-text : (period : ℕ) (o : Outcome) → Visits o → (a b : List ℕ) → length a ≡ length b → answerText (answerFor period (length a) o) (visitsFor o a) ≡ answerText (answerFor period (length b) o) (visitsFor o b)
+outcome-text : (R : Rules) (period : ℕ) (o : Outcome) → Visits o → (a b : List ℕ) → length a ≡ length b → answerText (answerFor R period (length a) o) (visitsFor o a) ≡ answerText (answerFor R period (length b) o) (visitsFor o b)
 unfolding answerFor visitsFor answerText figuresOf Visits
-outcome-text period none v a b e = refl
-outcome-text period (found r) v a b e = rw e (go (leb (2 * (steps r + 1)) (length b)))
+outcome-text R period none v a b e = refl
+outcome-text R period (found r) v a b e = rw e (go (leb (2 * (steps r + 1)) (length b)))
   where
     front : (x : List ℕ) → visitLines (written r ++ drop (length (written r)) x) (steps r + 1) ≡ visitLines (written r) (steps r + 1)
     front x = lines-front (written r) (drop (length (written r)) x) (steps r + 1) (omega (arith, written-length r, steps-are r v))
 
-    go : (room : Bool) → answerText (cond room (Answer.Found (figuresOf period r)) (Answer.NoRoom (figuresOf period r))) (cond room (written r ++ drop (length (written r)) a) a) ≡ answerText (cond room (Answer.Found (figuresOf period r)) (Answer.NoRoom (figuresOf period r))) (cond room (written r ++ drop (length (written r)) b) b)
-    go true = ap (λ (ls : List ℕ). figuresLine (figuresOf period r) ++ ls) (front a ∙ sym (front b))
+    go : (room : Bool) → answerText (cond room (Answer.Found (figuresOf R period r)) (Answer.NoRoom (figuresOf R period r))) (cond room (written r ++ drop (length (written r)) a) a) ≡ answerText (cond room (Answer.Found (figuresOf R period r)) (Answer.NoRoom (figuresOf R period r))) (cond room (written r ++ drop (length (written r)) b) b)
+    go true = ap (λ (ls : List ℕ). figuresLine (figuresOf R period r) ++ ls) (front a ∙ sym (front b))
     go false = refl
 
 -- a check's text, by the number of words lent
-check-text : (x : Check) (q : Question) (a b : List ℕ) → length a ≡ length b → answerText (answerAfter x q a) (visitsAfter x q a) ≡ answerText (answerAfter x q b) (visitsAfter x q b)
+check-text : (x : Check) (R : Rules) (q : Question) (a b : List ℕ) → length a ≡ length b → answerText (answerAfter x R q a) (visitsAfter x R a) ≡ answerText (answerAfter x R q b) (visitsAfter x R b)
 unfolding answerAfter visitsAfter answerText
-check-text passes q a b e = outcome-text (q .tables .period) (best (rulesAsked q)) (best-visits (rulesAsked q)) a b e
-check-text (fails r) q a b e = refl
+check-text passes R q a b e = outcome-text R (q .tables .period) (best R) (best-visits R) a b e
+check-text (fails r) R q a b e = refl
 
 pub same-text : (q : Question) (s t a b : List ℕ) → length s ≡ length t → length a ≡ length b → answerText (answerOf q s a) (visitsOf q s a) ≡ answerText (answerOf q t b) (visitsOf q t b)
-unfolding answerOf visitsOf
-same-text q s t a b e f = rw e (check-text (checks q (length t)) q a b f)
+unfolding answerOf answerUnder visitsOf visitsUnder
+same-text q s t a b e f = rw e (check-text (checks q (length t)) (rulesAsked q) q a b f)
 
 -- an answer's visits are within the words lent
-outcome-within : (period room : ℕ) (o : Outcome) → VisitsWithin (answerFor period room o) room
+outcome-within : (R : Rules) (period room : ℕ) (o : Outcome) → VisitsWithin (answerFor R period room o) room
 unfolding answerFor VisitsWithin figuresOf
-outcome-within period room none = tt
-outcome-within period room (found r) = go (leb (2 * (steps r + 1)) room) refl
+outcome-within R period room none = tt
+outcome-within R period room (found r) = go (leb (2 * (steps r + 1)) room) refl
   where
-    go : (b : Bool) → leb (2 * (steps r + 1)) room ≡ b → VisitsWithin (cond b (Answer.Found (figuresOf period r)) (Answer.NoRoom (figuresOf period r))) room
+    go : (b : Bool) → leb (2 * (steps r + 1)) room ≡ b → VisitsWithin (cond b (Answer.Found (figuresOf R period r)) (Answer.NoRoom (figuresOf R period r))) room
     go true e = leb-true _ _ e
     go false e = tt
 
-check-within : (x : Check) (q : Question) (a : List ℕ) → VisitsWithin (answerAfter x q a) (length a)
+check-within : (x : Check) (R : Rules) (q : Question) (a : List ℕ) → VisitsWithin (answerAfter x R q a) (length a)
 unfolding answerAfter VisitsWithin
-check-within passes q a = outcome-within (q .tables .period) (length a) (best (rulesAsked q))
-check-within (fails r) q a = tt
+check-within passes R q a = outcome-within R (q .tables .period) (length a) (best R)
+check-within (fails r) R q a = tt
 
 pub within-lent : (q : Question) (s a : List ℕ) → VisitsWithin (answerOf q s a) (length a)
-unfolding answerOf
-within-lent q s a = check-within (checks q (length s)) q a
+unfolding answerOf answerUnder
+within-lent q s a = check-within (checks q (length s)) (rulesAsked q) q a
 
 pub blank-length : (n : ℕ) → length (blank n) ≡ n
 unfolding blank

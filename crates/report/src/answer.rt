@@ -4,8 +4,10 @@ ghost use Rattle.answers.specs.Numbers.{filledWords};
 use answers::Answer;
 use answers::Fault;
 use answers::Refusal;
+use streams::write_digits;
 use streams::write_number;
 use streams::write_text;
+use timing::slack_magnitude;
 
 // The visit words that the answer fills.
 pub fn filled(answer: Answer) -> usize
@@ -18,12 +20,21 @@ pub fn filled(answer: Answer) -> usize
     }
 }
 
-// Registers, steps and latency.
+// Registers, steps, latency and spare half-ticks.
 pub fn write_figures(answer: Answer) -> bool {
     let f = answer.figures();
     write_number(f.registers as u64)
         && write_number(f.steps as u64)
         && write_number(f.latency as u64)
+        && write_slack(f.slack)
+}
+
+// A space and a spare figure in decimal, with a minus sign below zero.
+pub fn write_slack(z: i32) -> bool {
+    if z < 0 {
+        return write_text(b" -") && write_digits(slack_magnitude(z) as u64);
+    }
+    write_number(slack_magnitude(z) as u64)
 }
 
 // Of refusal 4 the word `fault`, the fault's place in document 01's order and a buffer's place in its list; of any other

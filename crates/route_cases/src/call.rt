@@ -1,4 +1,4 @@
-// One route call and the line printed of it: its label, number, registers, steps and latency, the cell and code of
+// One route call and the line printed of it: its label, number, registers, steps, latency and spare half-ticks, the cell and code of
 // each visit, then what became of the scratch words and of the visits' other words.
 use answers::Answer;
 use report::filled;

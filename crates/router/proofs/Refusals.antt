@@ -11,13 +11,13 @@ use Rattle.answers.specs.declared.answer.Refusal.{Refusal}
 use Rattle.table.specs.Problem.{planFor, rulesFor}
 use Rattle.question.specs.Checked.{problemAsked}
 use Rattle.question.proofs.Checks.{first-five, five-fail, cells-asked}
-use Rattle.router.specs.Route.{Question, rulesAsked, cellWords, passes, fails, questionChecks, checks, answerAfter, answerOf, scratchAfter, scratchOf, visitsAfter, visitsOf, Routed}
+use Rattle.router.specs.Route.{Question, rulesAsked, cellWords, passes, fails, questionChecks, checks, answerAfter, answerUnder, answerOf, scratchAfter, scratchOf, visitsAfter, visitsUnder, visitsOf, Routed}
 use Rattle.router.specs.Ready.{RouteDone}
 
 module _ (q : Question) (scratch visits : List ℕ) where
   -- a refusal leaves everything as it is
   pub refused : (r : Refusal) → checks q (length scratch) ≡ fails r → Routed q scratch scratch visits visits (Answer.Refused r)
-  unfolding answerOf scratchOf visitsOf answerAfter scratchAfter visitsAfter
+  unfolding answerOf answerUnder scratchOf visitsOf visitsUnder answerAfter scratchAfter visitsAfter
   refused r e = record { answer = rw e; scratchLeft = rw e; visitsLeft = rw e }
 
   pub refused-five : (r : Refusal) → questionChecks q passes ≡ fails r → checks q (length scratch) ≡ fails r
@@ -37,6 +37,6 @@ module _ (q : Question) (scratch visits : List ℕ) where
 
       -- the checks have passed, and the problem is routed
       pub routed : (scratch′ visits′ : List ℕ) (r : Answer) → RouteDone (problemAsked q) (q .marks) scratch scratch′ visits visits′ r → Routed q scratch scratch′ visits visits′ r
-      unfolding answerOf scratchOf visitsOf answerAfter scratchAfter visitsAfter rulesFor planFor rulesAsked elementsOf problemAsked
+      unfolding answerOf answerUnder scratchOf visitsOf visitsUnder answerAfter scratchAfter visitsAfter rulesFor planFor rulesAsked elementsOf problemAsked
       routed scratch′ visits′ r d =
           record { answer = rw (all-passed, answerAfter) (d .answer); scratchLeft = rw (all-passed, scratchAfter) (rw (cells-asked q passes five) at (d .zero-words)); visitsLeft = rw (all-passed, visitsAfter) (d .filled) }

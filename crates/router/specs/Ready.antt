@@ -10,6 +10,6 @@ use Rattle.table.specs.Problem.{rulesFor}
 use Rattle.router.specs.Route.{cellWords, answerFor, visitsFor, zeroed}
 
 pub record RouteDone (p : Problem) (marks scratch scratch′ visits visits′ : List ℕ) (r : Answer) : Type 0 where
-  pub answer : r ≡ answerFor (p .elements .period) (length visits) (best (rulesFor p marks))
+  pub answer : r ≡ answerFor (rulesFor p marks) (p .elements .period) (length visits) (best (rulesFor p marks))
   pub zero-words : scratch′ ≡ zeroed (length marks * cellWords) scratch
   pub filled : visits′ ≡ visitsFor (best (rulesFor p marks)) visits

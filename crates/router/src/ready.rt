@@ -1,5 +1,8 @@
 // The best route of a problem that the checks have passed. The scratch words are zero afterwards.
 ghost use Prim.Native.Nat.{_*_};
+ghost use mathlib.Core.Bool.{cond};
+ghost use mathlib.Core.Path.{_≡_};
+ghost use lib.Dec.{leb};
 ghost use lib.ListN.{length};
 ghost use Rattle.costs.specs.Costs.{CostsOf};
 ghost use Rattle.table.specs.Problem.{Ready, Room, rulesFor};
@@ -19,7 +22,14 @@ use rows::clear;
 use search::Reached;
 use search::search;
 
-// The route of these figures is written, if there is room.
+// The words that a route of so many gets of those lent: all of its own, or none.
+fn words_for(need: usize, lent: usize) -> usize
+    ensures { λ r. ⌜ r ≡ cond (leb need lent) need 0 ⌝ }
+{
+    if need <= lent { need } else { 0 }
+}
+
+// The route of these figures is written, if there is room; its smallest spare figure is told in any case.
 fn write_route(
     plan: &[u8],
     scratch: &mut [u16],
@@ -36,17 +46,27 @@ fn write_route(
     let n = plan.len();
     let elements = p.elements;
     let latency = elements.period as u32 * (registers as u32 + 1);
+    let room = words_for(2 * (steps as usize + 1), visits.len());
+    let slack = emit(
+        plan,
+        scratch,
+        p,
+        costs,
+        count,
+        registers,
+        steps,
+        &mut visits[..room],
+    );
+    clear(scratch, 0, n * CELL_WORDS);
     let figures = Figures {
         registers: registers,
         steps: steps,
         latency: latency,
+        slack: slack,
     };
-    if visits.len() < 2 * (steps as usize + 1) {
-        clear(scratch, 0, n * CELL_WORDS);
+    if room == 0 {
         return Answer::NoRoom(figures);
     }
-    emit(plan, scratch, p, costs, count, registers, steps, visits);
-    clear(scratch, 0, n * CELL_WORDS);
     Answer::Found(figures)
 }
 

@@ -4,3 +4,4 @@ pub mod Figures
 pub mod Beginning
 pub mod Dominance
 pub mod Document01
+pub mod Slack

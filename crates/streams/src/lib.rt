@@ -5,5 +5,6 @@ mod output;
 
 pub use input::Input;
 pub use input::read_input;
+pub use output::write_digits;
 pub use output::write_number;
 pub use output::write_text;

@@ -25,9 +25,14 @@ pub fn write_text(text: &[u8]) -> bool {
     true
 }
 
-// A space and the number in decimal; whether both were written.
-pub fn write_number(n: u64) -> bool {
+// The number in decimal; whether it was written.
+pub fn write_digits(n: u64) -> bool {
     let mut digits = [0u8; 20];
     let k = io::decimal(n, &mut digits);
-    write_text(b" ") && write_text(&digits[..k])
+    write_text(&digits[..k])
+}
+
+// A space and the number in decimal; whether both were written.
+pub fn write_number(n: u64) -> bool {
+    write_text(b" ") && write_digits(n)
 }

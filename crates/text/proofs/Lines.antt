@@ -12,8 +12,8 @@ use Rattle.answers.specs.declared.answer.Refusal.{Refusal}
 use Rattle.answers.specs.declared.answer.Answer.{Answer}
 use Rattle.text.specs.Decimal.{decimal}
 use Rattle.text.specs.Put.{Put}
-use Rattle.text.specs.Answers.{newline, space, routeWord, refusedWord, noneLine, noRoute, refusedLine, refusalText, figuresLine, visitLine, visitLines, answerText, VisitsWithin}
-use Rattle.text.proofs.Texts.{put-none, put-then, short, long}
+use Rattle.text.specs.Answers.{newline, space, refusedWord, noneLine, noRoute, refusedLine, refusalText, figuresLine, visitLine, visitLines, answerText, VisitsWithin}
+use Rattle.text.proofs.Texts.{put-none, put-then, short}
 
 module _ {old new : List ℕ} {r : ℕ} (n : ℕ) where
   pub refusal-none : n ≡ noRoute → Put noneLine 0 r old new → Put (refusalText n) 0 r old new
@@ -28,14 +28,6 @@ pub visit-length : (cell code : ℕ) → cell < 65536 → code < 65536 → lengt
 unfolding visitLine
 visit-length cell code a b =
     omega (arith, short cell a, short code b, length-append (decimal cell) space, length-append (decimal cell ++ space) (decimal code), length-append (decimal cell ++ space ++ decimal code) newline)
-
-pub figures-length : (f : Figures) → f .registers < 65536 → f .steps < 4294967296 → f .latency < 4294967296 → length (figuresLine f) ≤ 34
-unfolding figuresLine
-figures-length f a b c =
-    let r = decimal (f .registers) in
-    let s = decimal (f .steps) in
-    let l = decimal (f .latency) in
-    omega (arith, short (f .registers) a, long (f .steps) b, long (f .latency) c, length-append routeWord r, length-append (routeWord ++ r) space, length-append (routeWord ++ r ++ space) s, length-append (routeWord ++ r ++ space ++ s) space, length-append (routeWord ++ r ++ space ++ s ++ space) l, length-append (routeWord ++ r ++ space ++ s ++ space ++ l) newline)
 
 pub lines-none : (visits old : List ℕ) (at : ℕ) → at ≤ length old → Put (visitLines visits 0) at at old old
 unfolding visitLines

@@ -1,5 +1,5 @@
 -- The text of an answer: document 01, "The job and its printed sheet".
--- First line: registers, steps, latency. Then cell and code of each visit from the sink. For 7 it prints `none`;
+-- First line: registers, steps, latency, spare half-ticks. Then cell and code of each visit from the sink. For 7 it prints `none`;
 -- for other refusals `refused` and the number. Every line ends with a newline.
 use Prim.Native.Nat.{ℕ, zero, suc, _+_, _*_, _≤_}
 use mathlib.Core.Bool.{cond}
@@ -11,7 +11,7 @@ use Rattle.answers.specs.declared.answer.Figures.{Figures}
 use Rattle.answers.specs.declared.answer.Refusal.{Refusal}
 use Rattle.answers.specs.declared.answer.Answer.{Answer}
 use Rattle.answers.specs.declared.answer.Answer.the-variants.{Found, NoRoom, Refused}
-use Rattle.text.specs.Decimal.{decimal}
+use Rattle.text.specs.Decimal.{decimal, signed}
 
 abbrev pub newline : List ℕ
 newline = 10 ∷ []
@@ -43,7 +43,7 @@ unfoldable pub refusalText : ℕ → List ℕ
 refusalText n = cond (eqb n noRoute) noneLine (refusedLine n)
 
 unfoldable pub figuresLine : Figures → List ℕ
-figuresLine f = routeWord ++ decimal (f .registers) ++ space ++ decimal (f .steps) ++ space ++ decimal (f .latency) ++ newline
+figuresLine f = routeWord ++ decimal (f .registers) ++ space ++ decimal (f .steps) ++ space ++ decimal (f .latency) ++ space ++ signed (f .slack) ++ newline
 
 unfoldable pub visitLine : ℕ → ℕ → List ℕ
 visitLine cell code = decimal cell ++ space ++ decimal code ++ newline
@@ -64,6 +64,6 @@ VisitsWithin (Found f) words = 2 * (f .steps + 1) ≤ words
 VisitsWithin (NoRoom f) words = Unit
 VisitsWithin (Refused r) words = Unit
 
--- bytes that suffice for every answer with so many words of visits: 34 for the first line, 12 a visit
+-- bytes that suffice for every answer with so many words of visits: 46 for the first line, 12 a visit
 abbrev pub textRoom : ℕ → ℕ
-textRoom words = 34 + 6 * words
+textRoom words = 46 + 6 * words

@@ -4,6 +4,7 @@ use Prim.Native.Nat.{ℕ, zero, suc, _+_, _/_, _%_}
 use mathlib.Core.Bool.{Bool, true, false}
 use mathlib.Core.List.{List, [], _∷_, _++_}
 use lib.Dec.{ltb}
+use lib.IntN.{ℤ, pos, negsuc}
 
 -- the ASCII code of a digit
 unfoldable pub digit : ℕ → ℕ
@@ -17,3 +18,8 @@ spelled (suc fuel) false n = spelled fuel (ltb (n / 10) 10) (n / 10) ++ (digit (
 
 unfoldable pub decimal : ℕ → List ℕ
 decimal n = spelled n (ltb n 10) n
+
+-- a signed number: a minus sign stands before it below zero
+unfoldable pub signed : ℤ → List ℕ
+signed (pos n) = decimal n
+signed (negsuc n) = 45 ∷ decimal (suc n)

@@ -5,6 +5,7 @@ ghost use Rattle.text.specs.Put.{Put};
 ghost use Rattle.text.specs.Answers.{refusalText, figuresLine, visitLine, visitLines, answerText, VisitsWithin, textRoom};
 use crate::put::put_byte;
 use crate::put::put_decimal;
+use crate::put::put_signed;
 use crate::put::put_word;
 use answers::Answer;
 use answers::Figures;
@@ -25,10 +26,10 @@ pub fn put_refusal(number: u16, out: &mut [u8]) -> usize
     put_byte(10, out, b)
 }
 
-// `route`, registers, steps and latency.
+// `route`, registers, steps, latency and spare half-ticks.
 fn put_figures(f: Figures, out: &mut [u8]) -> usize
     requires { ⌜ textRoom 0 ≤ length (now out) ⌝ }
-    ensures { λ r. ⌜ Put (figuresLine f) 0 r (now (out .entry)) (now (out .exit)) ⌝ }
+    ensures { λ r. ⌜ Put (figuresLine f) 0 r (now (out .entry)) (now (out .exit)) × (r ≤ textRoom 0) ⌝ }
 {
     let a = put_word(b"route ", out, 0);
     let b = put_decimal(f.registers as u32, out, a);
@@ -36,7 +37,9 @@ fn put_figures(f: Figures, out: &mut [u8]) -> usize
     let d = put_decimal(f.steps, out, c);
     let e = put_byte(32, out, d);
     let g = put_decimal(f.latency, out, e);
-    put_byte(10, out, g)
+    let h = put_byte(32, out, g);
+    let i = put_signed(f.slack, out, h);
+    put_byte(10, out, i)
 }
 
 // A visit's cell and code.

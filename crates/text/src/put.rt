@@ -2,8 +2,9 @@
 ghost use Prim.Native.Nat.{_+_, _≤_, _<_};
 ghost use mathlib.Core.List.{[], _∷_};
 ghost use lib.ListN.{length};
-ghost use Rattle.text.specs.Decimal.{decimal};
+ghost use Rattle.text.specs.Decimal.{decimal, signed};
 ghost use Rattle.text.specs.Put.{Put};
+use timing::slack_magnitude;
 
 pub fn put_byte(byte: u8, out: &mut [u8], at: usize) -> usize
     requires { ⌜ at < length (now out) ⌝ }
@@ -35,4 +36,17 @@ pub fn put_decimal(n: u32, out: &mut [u8], at: usize) -> usize
     }
     let last = put_decimal(n / 10, out, at);
     put_byte(48 + (n % 10) as u8, out, last)
+}
+
+// The same of a signed number, with a minus sign below zero.
+pub fn put_signed(z: i32, out: &mut [u8], at: usize) -> usize
+    requires { ⌜ at + length (signed z) ≤ length (now out) ⌝ }
+    ensures { λ r. ⌜ Put (signed z) at r (now (out .entry)) (now (out .exit)) ⌝ }
+{
+    let n = slack_magnitude(z);
+    if z < 0 {
+        let digits = put_byte(45, out, at);
+        return put_decimal(n, out, digits);
+    }
+    put_decimal(n, out, at)
 }

@@ -1,2 +1,4 @@
 pub mod Bounds
 pub mod Checked
+pub mod Signed
+pub mod SlackLaws

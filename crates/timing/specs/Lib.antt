@@ -1,4 +1,5 @@
 pub mod Ranges
 pub mod Formulas
+pub mod Slack
 pub mod Elements
 pub mod Valid

@@ -1,9 +1,9 @@
 // The elements. Fields are private: an element comes from its checking constructor, or is the all-zero one.
 ghost use mathlib.Core.Path.{_≡_};
 ghost use Prim.Native.Nat.{_+_, _*_, _≤_};
-ghost use lib.Dec.{ltb};
 ghost use Rattle.timing.specs.Ranges.{loadMax, sumMost};
 ghost use Rattle.timing.specs.Valid.{Valid};
+ghost use Rattle.timing.specs.Slack.{slackOf};
 ghost use Rattle.timing.specs.Formulas.{wireDelay, gateDelay, wireLoad, bufferDriver, bufferLoad, registerDriver, registerLoad, setupDelay};
 ghost use Rattle.timing.specs.Elements.{WireInRange, DriverInRange, RegisterInRange, checkedWire, checkedBuffer, checkedRegister, wireOf, bufferOf, registerOf};
 use crate::units::HalfTicks;
@@ -70,14 +70,13 @@ impl Elements {
 
     pub const BUFFERS_MAX: usize = 6;
 
-    // Whether a span with this delay closes in time at a register under this load: at most 2T.
-    pub fn in_time(self, load: Load, delay: HalfTicks) -> bool
+    // The spare half-ticks of a span that comes to a register with this load and delay and closes there. It is in time where they are not below zero.
+    pub fn slack(self, load: Load, delay: HalfTicks) -> i32
         requires { ⌜ Valid self × ((load .0 ≤ loadMax) × (delay .0 ≤ sumMost)) ⌝ }
-        ensures { λ r. ⌜ r ≡ ltb (delay .0 + gateDelay (registerDriver (self .register)) (load .0)) (2 * self .period + 1) ⌝ }
+        ensures { λ r. ⌜ r ≡ slackOf (2 * self .period) (delay .0 + gateDelay (registerDriver (self .register)) (load .0)) ⌝ }
     {
         let register = self.register;
-        let bound = HalfTicks(2 * (self.period as u32) + 1);
-        register.driver().after(load, delay).below(bound)
+        register.driver().after(load, delay).slack(self.period)
     }
 }
 

@@ -1,6 +1,7 @@
 // Elements and their timing: document 01, "Elements" and the delay formulas of "Legal routes".
 // Only Wire::delay and Driver::delay join a resistance, a load and a delay.
 mod elements;
+mod slack;
 mod units;
 
 pub use elements::Buffer;
@@ -11,6 +12,9 @@ pub use elements::Register;
 pub use elements::RegisterCheck;
 pub use elements::Wire;
 pub use elements::WireCheck;
+pub use slack::MOST as SLACK_MOST;
+pub use slack::slack_magnitude;
+pub use slack::smaller_slack;
 pub use units::HalfTicks;
 pub use units::Load;
 pub use units::Resistance;

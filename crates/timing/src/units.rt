@@ -1,7 +1,11 @@
 // Units. A load is never added to a delay: each has its own type.
 ghost use mathlib.Core.Path.{_≡_};
-ghost use Prim.Native.Nat.{_+_, _≤_};
+ghost use Prim.Native.Nat.{_+_, _*_, _≤_};
 ghost use lib.Dec.{leb, ltb};
+ghost use Rattle.timing.specs.Ranges.{periodMax};
+ghost use Rattle.timing.specs.Slack.{slackOf};
+use crate::slack::LOWEST;
+use crate::slack::MISS_MOST;
 
 // Load units.
 pub struct Load(pub u16);
@@ -49,5 +53,17 @@ impl HalfTicks {
         ensures { λ r. ⌜ r ≡ ltb (self .0) (budget .0) ⌝ }
     {
         self.0 < budget.0
+    }
+
+    // The spare half-ticks of a span with this closing delay: 2T less it, below zero by the miss, at lowest -1,000,000,000.
+    pub fn slack(self, period: u16) -> i32
+        requires { ⌜ period ≤ periodMax ⌝ }
+        ensures { λ r. ⌜ r ≡ slackOf (2 * period) (self .0) ⌝ }
+    {
+        let allowed = 2 * period as u32;
+        if allowed + MISS_MOST < self.0 {
+            return LOWEST;
+        }
+        allowed as i32 - self.0 as i32
     }
 }

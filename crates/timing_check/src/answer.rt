@@ -20,16 +20,20 @@ pub fn answers() {
         registers: 1,
         steps: 2,
         latency: 50,
+        slack: 26,
     };
     expect(Answer::Found(figures).number() == 0);
     expect(Answer::NoRoom(figures).number() == 8);
     expect(Answer::NoRoom(figures).figures().latency == 50);
+    expect(Answer::NoRoom(figures).figures().slack == 26);
     expect(Answer::Refused(Refusal::NoRoute).number() == 7);
     expect(Answer::Refused(Refusal::NoRoute).figures().latency == 0);
+    expect(Answer::Refused(Refusal::NoRoute).figures().slack == 0);
 }
 
 pub fn verdicts() {
-    expect(Verdict::Accepted.number() == 0);
+    expect(Verdict::Accepted(26).number() == 0);
+    expect(Verdict::AtFault(3, VisitFault::Period(-1)).number() == 0);
     expect(Verdict::AtFault(3, VisitFault::Load).number() == 0);
     expect(Verdict::Refused(Refusal::Ends).number() == 5);
     expect(Verdict::Refused(Refusal::RouteList).number() == 17);

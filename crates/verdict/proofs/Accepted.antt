@@ -1,13 +1,15 @@
--- The verdict accepts exactly the legal routes. Visit by visit, the chain of tests is right where the test of document 01 passes, and it stops where that one fails.
+-- The verdict accepts exactly the legal routes, with their smallest spare figure. Visit by visit, the chain of tests is right where the test of document 01 passes, and it stops where that one fails.
 use Prim.Native.Nat.{ℕ, suc, _≤_}
 use mathlib.Core.Bool.{Bool, true, false, _&&_}
 use mathlib.Core.List.{[], _∷_}
-use mathlib.Core.Path.{_≡_, refl}
+use mathlib.Core.Path.{_≡_, refl, sym, ap, _∙_}
 use mathlib.Core.Logic.{_↔_}
 use native.Mathlib.Omega.{arith}
 use lib.Dec.{T, eqb, leb, ltb}
+use lib.IntN.{ℤ}
 use lib.ListN.{length}
 use Rattle.plan.proofs.Truth.{of-true}
+use Rattle.timing.specs.Slack.{slackMost}
 use Rattle.answers.specs.declared.verdicts.VisitFault.{VisitFault}
 use Rattle.answers.specs.declared.verdicts.VisitFault.the-variants.{Cell, Wire, Site, Load, Period}
 use Rattle.answers.specs.declared.verdicts.Verdict.{Verdict}
@@ -15,15 +17,17 @@ use Rattle.answers.specs.declared.verdicts.Verdict.the-variants.{Accepted, AtFa
 use Rattle.rules.specs.Rules.{Rules, registerCode}
 use Rattle.rules.specs.Legal.{Visit, Route, arrive, isLast, cellRight, wireRight, codeRight, loadRight, periodRight, visitRight, legalFrom, firstRight, legal}
 use Rattle.rules.specs.Beginning.{Place, nextPlace, startPlace}
+use Rattle.rules.specs.Slack.{slackAt, slacksFrom, slacks, leastFrom, slackAfter, leastSlack}
 use Rattle.rules.proofs.View.{LegalRoute, starts, route-view}
 use Rattle.rules.proofs.Figures.{ending-visits}
+use Rattle.rules.proofs.Slack.{least-next, least-none}
 use Rattle.verdict.specs.Verdict.{VisitCheck, right, wrong, orWrong, visitCheck, firstCheck, judgeFrom, judgeRoute}
 
--- what a verdict says of a route that is legal or not
-abbrev Says : Verdict → Bool → Type 0
-Says Accepted ok = ok ≡ true
-Says (AtFault i f) ok = ok ≡ false
-Says (Refused k) ok = ⊥
+-- what a verdict says of a route that is legal or not and has this smallest figure
+abbrev Says : Verdict → Bool → ℤ → Type 0
+Says (Accepted z) ok least = (ok ≡ true) × (z ≡ least)
+Says (AtFault i f) ok least = ok ≡ false
+Says (Refused k) ok least = ⊥
 
 -- A chain of tests is right if all pass, and otherwise wrong.
 
@@ -42,45 +46,47 @@ first-is true false c f g h P p q = q g
 first-is false b c f g h P p q = q f
 
 module _ (R : Rules) where
-  judge-from : (i : ℕ) (a : Place) (v : Visit) (vs : Route) → Says (judgeFrom R i a (v ∷ vs)) (legalFrom R (a .cell) (a .span) (a .stage) (v ∷ vs))
+  judge-from : (i : ℕ) (a : Place) (least : ℤ) (v : Visit) (vs : Route) → Says (judgeFrom R i a least (v ∷ vs)) (legalFrom R (a .cell) (a .span) (a .stage) (v ∷ vs)) (leastFrom least (slacksFrom R a (v ∷ vs)))
   unfolding judgeFrom legalFrom visitCheck visitRight isLast nextPlace
-  judge-from i a v [] =
+  judge-from i a least v [] =
       let s = arrive R (a .cell) (a .stage) (v .cell) in
-      check-is (cellRight R true v) (wireRight R (a .cell) v) (codeRight R true v) (loadRight R true s v) (periodRight R (a .span) s v) Cell Wire Site Load Period
-      (λ x ok. Says (elim x [ wrong f ↦ AtFault i f | right ↦ Accepted ]) (ok && true))
-      refl (λ x. refl)
-  judge-from i a v (w ∷ vs) =
+      let z = slackAfter R a least v in
+      check-is (cellRight R true v) (wireRight R (a .cell) v) (codeRight R true v) (loadRight R true s v) (periodRight R (a .span) s v) Cell Wire Site Load (Period (slackAt R a v))
+      (λ x ok. Says (elim x [ wrong f ↦ AtFault i f | right ↦ Accepted z ]) (ok && true) (leastFrom least (slacksFrom R a (v ∷ []))))
+      (refl, sym (least-next R a least v [] ∙ least-none R (nextPlace R a v) z)) (λ x. refl)
+  judge-from i a least v (w ∷ vs) =
       let s = arrive R (a .cell) (a .stage) (v .cell) in
       let b = nextPlace R a v in
-      check-is (cellRight R false v) (wireRight R (a .cell) v) (codeRight R false v) (loadRight R false s v) (periodRight R (a .span) s v) Cell Wire Site Load Period
-      (λ x ok. Says (elim x [ wrong f ↦ AtFault i f | right ↦ judgeFrom R (suc i) b (w ∷ vs) ]) (ok && legalFrom R (b .cell) (b .span) (b .stage) (w ∷ vs)))
-      (judge-from (suc i) b w vs) (λ x. refl)
+      let z = slackAfter R a least v in
+      check-is (cellRight R false v) (wireRight R (a .cell) v) (codeRight R false v) (loadRight R false s v) (periodRight R (a .span) s v) Cell Wire Site Load (Period (slackAt R a v))
+      (λ x ok. Says (elim x [ wrong f ↦ AtFault i f | right ↦ judgeFrom R (suc i) b z (w ∷ vs) ]) (ok && legalFrom R (b .cell) (b .span) (b .stage) (w ∷ vs)) (leastFrom least (slacksFrom R a (v ∷ w ∷ vs))))
+      (rw (least-next R a least v (w ∷ vs)) (judge-from (suc i) b z w vs)) (λ x. refl)
 
-  judge-says : (v w : Visit) (vs : Route) → Says (judgeRoute R (v ∷ w ∷ vs)) (legal R (v ∷ w ∷ vs))
-  unfolding judgeRoute legal firstCheck firstRight startPlace
+  judge-says : (v w : Visit) (vs : Route) → Says (judgeRoute R (v ∷ w ∷ vs)) (legal R (v ∷ w ∷ vs)) (leastSlack R (v ∷ w ∷ vs))
+  unfolding judgeRoute legal firstCheck firstRight startPlace leastSlack slacks
   judge-says v w vs =
       first-is (eqb (v .cell) (R .sink) && ltb (v .cell) (R .cellCount)) (eqb (v .code) registerCode) (leb (R .start .load) (R .limit)) Cell Site Load
-      (λ x ok. Says (elim x [ wrong f ↦ AtFault 0 f | right ↦ judgeFrom R 1 (startPlace R v) (w ∷ vs) ]) (ok && legalFrom R (v .cell) 0 (R .start) (w ∷ vs)))
-      (judge-from 1 (startPlace R v) w vs) (λ x. refl)
+      (λ x ok. Says (elim x [ wrong f ↦ AtFault 0 f | right ↦ judgeFrom R 1 (startPlace R v) slackMost (w ∷ vs) ]) (ok && legalFrom R (v .cell) 0 (R .start) (w ∷ vs)) (leastFrom slackMost (slacksFrom R (startPlace R v) (w ∷ vs))))
+      (judge-from 1 (startPlace R v) slackMost w vs) (λ x. refl)
 
-  said : (r : Route) → 2 ≤ length r → Says (judgeRoute R r) (legal R r)
+  said : (r : Route) → 2 ≤ length r → Says (judgeRoute R r) (legal R r) (leastSlack R r)
   said [] h = absurd (omega arith)
   said (v ∷ []) h = absurd (omega arith)
   said (v ∷ (w ∷ vs)) h = judge-says v w vs
 
--- The verdict accepts exactly the legal routes. (A list of fewer visits is refused.)
-pub accepted-legal : (R : Rules) (r : Route) → 2 ≤ length r → (judgeRoute R r ≡ Accepted) ↔ T (legal R r)
-accepted-legal R r h = (λ e. there (judgeRoute R r) e (said R r h), λ k. back (judgeRoute R r) (said R r h) k)
+-- The verdict accepts exactly the legal routes, with their smallest spare figure. (A list of fewer visits is refused.)
+pub accepted-legal : (R : Rules) (r : Route) → 2 ≤ length r → (z : ℤ) → (judgeRoute R r ≡ Accepted z) ↔ (T (legal R r) × (z ≡ leastSlack R r))
+accepted-legal R r h z = (λ e. there (judgeRoute R r) e (said R r h), λ k. back (judgeRoute R r) (said R r h) (k .0) (k .1))
   where
-    there : (j : Verdict) → j ≡ Accepted → Says j (legal R r) → T (legal R r)
-    there Accepted e q = of-true (legal R r) q
-    there (AtFault i f) e q = absurd (let z : _≡_ {A = ℕ} 0 1 = cc in omega arith)
+    there : (j : Verdict) → j ≡ Accepted z → Says j (legal R r) (leastSlack R r) → T (legal R r) × (z ≡ leastSlack R r)
+    there (Accepted y) e q = let same : y ≡ z = cc in (of-true (legal R r) (q .0), sym same ∙ q .1)
+    there (AtFault i f) e q = absurd (let n : _≡_ {A = ℕ} 0 1 = cc in omega arith)
     there (Refused k) e q = absurd q
 
-    back : (j : Verdict) → Says j (legal R r) → T (legal R r) → j ≡ Accepted
-    back Accepted q k = refl
-    back (AtFault i f) q k = absurd (rw q at k)
-    back (Refused n) q k = absurd q
+    back : (j : Verdict) → Says j (legal R r) (leastSlack R r) → T (legal R r) → z ≡ leastSlack R r → j ≡ Accepted z
+    back (Accepted y) q k e = ap Accepted (q .1 ∙ sym e)
+    back (AtFault i f) q k e = absurd (rw q at k)
+    back (Refused n) q k e = absurd q
 
 -- a legal route has both ends
 pub legal-visits : (R : Rules) (r : Route) → T (legal R r) → 2 ≤ length r
@@ -89,5 +95,5 @@ legal-visits R r h = go (route-view R r h)
     go : {q : Route} → LegalRoute R q → 2 ≤ length q
     go (starts first e) = omega (arith, ending-visits e)
 
-pub legal-accepted : (R : Rules) (r : Route) → T (legal R r) → judgeRoute R r ≡ Accepted
-legal-accepted R r h = accepted-legal R r (legal-visits R r h) .1 h
+pub legal-accepted : (R : Rules) (r : Route) → T (legal R r) → judgeRoute R r ≡ Accepted (leastSlack R r)
+legal-accepted R r h = accepted-legal R r (legal-visits R r h) (leastSlack R r) .1 (h, refl)

@@ -21,8 +21,7 @@ use Rattle.problem.specs.declared.Problem.{Problem}
 use Rattle.problem.specs.Problem.{planFor, rulesFor, Ready}
 use Rattle.problem.proofs.Sizes.{cells-are}
 use Rattle.verdict.specs.Verdict.{right, wrong, visitCheck, firstCheck}
-use Rattle.verdict.specs.Gates.{delayCap, Carries, gateCheck}
-use Rattle.verdict.specs.Visits.{At}
+use Rattle.verdict.specs.Gates.{delayCap, Carries, At, gateCheck}
 use Rattle.verdict.specs.declared.gates.Point.{Point}
 
 -- `from`: the cell of the visit before it
@@ -44,7 +43,7 @@ module _ (R : Rules) (a : Place) (last : Bool) (v : Visit) where
       unfolding visitCheck wireRight
       site-wrong e = rw (cell, joined, e)
 
-      pub gate-next : codeRight R last v ≡ true → visitCheck R a last v ≡ gateCheck R last (a .span) (arrive R (a .cell) (a .stage) (v .cell)) v
+      pub gate-next : codeRight R last v ≡ true → visitCheck R a last v ≡ gateCheck R a last v
       unfolding visitCheck wireRight gateCheck
       gate-next e = rw (cell, joined, e)
 
@@ -99,6 +98,7 @@ module _ (p : Problem) (marks : List ℕ) where
         unfolding firstCheck rulesFor rulesOf
         first-right h = rw (eq-eqb (v .cell) (p .sink) sink, sink-inside (v .cell) sink, eq-eqb (v .code) registerCode seven, h)
 
-    pub start-carried : (v : Visit) (b : Point) → b .load .0 ≡ registerLoad (p .elements .register) → b .delay .0 ≡ setupDelay (p .elements .register) → Carries b (startPlace Q v .stage)
+    pub start-at : (v : Visit) (b : Point) → b .cell ≡ v .cell → b .load .0 ≡ registerLoad (p .elements .register) → b .delay .0 ≡ setupDelay (p .elements .register) → At b (startPlace Q v)
     unfolding startPlace rulesFor rulesOf setupDelay
-    start-carried v b l d = record { load = l; delay = omega (arith, ready .valid .register .setup) }
+    start-at v b c l d =
+        record { cell = c; carries = record { load = l; delay = omega (arith, ready .valid .register .setup) } }

@@ -1,4 +1,4 @@
--- The verdict call, exactly: what it accepts, which fault it tells, what it refuses.
+-- The verdict call, exactly: what it accepts and with which spare figure, which fault it tells, what it refuses.
 use Prim.Native.Nat.{ℕ}
 use mathlib.Core.Bool.{Bool, true, false}
 use mathlib.Core.List.{List}
@@ -6,13 +6,16 @@ use mathlib.Core.Path.{_≡_, refl, sym, _∙_}
 use mathlib.Core.Logic.{_↔_}
 use native.Mathlib.Omega.{arith}
 use lib.Dec.{T}
+use lib.IntN.{ℤ}
 use Rattle.answers.specs.declared.answer.Refusal.{Refusal}
 use Rattle.answers.specs.declared.verdicts.VisitFault.{VisitFault}
 use Rattle.answers.specs.declared.verdicts.Verdict.{Verdict}
 use Rattle.answers.specs.declared.verdicts.Verdict.the-variants.{Accepted, AtFault, Refused}
 use Rattle.rules.specs.Legal.{legal}
+use Rattle.rules.specs.Slack.{slacks, leastSlack, Smallest}
 use Rattle.question.specs.Question.{Question, rulesAsked, Check, passes, fails, orElse, questionChecks}
 use Rattle.question.proofs.Checks.{passed, all-pass, first-five}
+use Rattle.question.proofs.Slack.{asked-smallest}
 use Rattle.verdict.specs.Verdict.{routeIn, badList, judgeRoute, verdictAfter, verdictOf}
 use Rattle.verdict.specs.Fault.{FirstFault}
 use Rattle.verdict.proofs.Routes.{good-visits}
@@ -26,8 +29,10 @@ pub record Judgeable (q : Question) (ws : List ℕ) : Type 0 where
 
 pub record VerdictExact (q : Question) (ws : List ℕ) : Type 0 where
   -- the legal ones, whoever drew them
-  pub accepted : (verdictOf q ws ≡ Accepted) ↔ (Judgeable q ws × T (legal (rulesAsked q) (routeIn ws)))
-  -- the first visit at fault and the first fault there
+  pub accepted : (z : ℤ) → (verdictOf q ws ≡ Accepted z) ↔ (Judgeable q ws × (T (legal (rulesAsked q) (routeIn ws)) × (z ≡ leastSlack (rulesAsked q) (routeIn ws))))
+  -- the figure is the smallest of its spans': no close has less, and one has it
+  pub smallest : (z : ℤ) → verdictOf q ws ≡ Accepted z → Smallest z (slacks (rulesAsked q) (routeIn ws))
+  -- the first visit at fault and the first fault there, a period fault with the figure of its close
   pub atFault : (i : ℕ) (f : VisitFault) → (verdictOf q ws ≡ AtFault i f) ↔ (Judgeable q ws × FirstFault (rulesAsked q) (routeIn ws) i f)
   -- the first of 1 to 5 and 17, in this order
   pub refused : (r : Refusal) → (verdictOf q ws ≡ Refused r) ↔ (questionChecks q (orElse (badList ws) Refusal.RouteList passes) ≡ fails r)
@@ -70,11 +75,22 @@ module _ (q : Question) (ws : List ℕ) where
   unfolding verdictOf verdictAfter
   refuses r e = rw e
 
+  abbrev LegalWith : ℤ → Type 0
+  LegalWith z = T (legal (rulesAsked q) (routeIn ws)) × (z ≡ leastSlack (rulesAsked q) (routeIn ws))
+
+  legal-with : Judgeable q ws → (z : ℤ) → (judgeRoute (rulesAsked q) (routeIn ws) ≡ Accepted z) ↔ LegalWith z
+  legal-with j = accepted-legal (rulesAsked q) (routeIn ws) (good-visits ws (j .list))
+
+  is-accepted : (z : ℤ) → verdictOf q ws ≡ Accepted z → Judgeable q ws × LegalWith z
+  is-accepted z e =
+      let j = answered (Accepted z) (λ r h. let n : _≡_ {A = ℕ} 0 1 = cc in omega arith) e in
+      (j, legal-with j z .0 (sym (judged j) ∙ e))
+
   pub verdict-exact : VerdictExact q ws
   verdict-exact =
-      let legal-one : Judgeable q ws → (judgeRoute (rulesAsked q) (routeIn ws) ≡ Accepted) ↔ T (legal (rulesAsked q) (routeIn ws)) = λ j. accepted-legal (rulesAsked q) (routeIn ws) (good-visits ws (j .list)) in
       record {
-        accepted = (λ e. let j = answered Accepted (λ r h. let z : _≡_ {A = ℕ} 0 1 = cc in omega arith) e in (j, legal-one j .0 (sym (judged j) ∙ e)), λ h. judged (h .0) ∙ legal-one (h .0) .1 (h .1));
-        atFault = λ i f. (λ e. let j = answered (AtFault i f) (λ r h. let z : _≡_ {A = ℕ} 0 1 = cc in omega arith) e in (j, fault-first (rulesAsked q) (routeIn ws) i f .0 (sym (judged j) ∙ e)), λ h. judged (h .0) ∙ fault-first (rulesAsked q) (routeIn ws) i f .1 (h .1));
+        accepted = λ z. (is-accepted z, λ h. judged (h .0) ∙ legal-with (h .0) z .1 (h .1));
+        smallest = λ z e. let a = is-accepted z e in rw (a .1 .1) (asked-smallest q passes (a .0 .question) (routeIn ws) (a .1 .0));
+        atFault = λ i f. (λ e. let j = answered (AtFault i f) (λ r h. let n : _≡_ {A = ℕ} 0 1 = cc in omega arith) e in (j, fault-first (rulesAsked q) (routeIn ws) i f .0 (sym (judged j) ∙ e)), λ h. judged (h .0) ∙ fault-first (rulesAsked q) (routeIn ws) i f .1 (h .1));
         refused = λ r. (is-refused r, refuses r);
       }

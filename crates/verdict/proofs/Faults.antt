@@ -7,8 +7,10 @@ use mathlib.Core.Path.{_≡_, refl, sym, ap, _∙_}
 use mathlib.Core.Logic.{_↔_, _⊎_, inl, inr}
 use native.Mathlib.Omega.{arith}
 use lib.Dec.{T}
+use lib.IntN.{ℤ}
 use lib.ListN.{length, take, drop}
 use Rattle.plan.proofs.Truth.{three-way}
+use Rattle.timing.specs.Slack.{slackMost}
 use Rattle.answers.specs.declared.answer.Refusal.{Refusal}
 use Rattle.answers.specs.declared.verdicts.VisitFault.{VisitFault}
 use Rattle.answers.specs.declared.verdicts.VisitFault.the-variants.{Cell, Wire, Site, Load, Period}
@@ -17,32 +19,33 @@ use Rattle.answers.specs.declared.verdicts.Verdict.the-variants.{Accepted, AtFa
 use Rattle.rules.specs.Rules.{Rules}
 use Rattle.rules.specs.Legal.{Route, isLast}
 use Rattle.rules.specs.Beginning.{Place, nextPlace, placeFrom, startPlace, placeAfter}
+use Rattle.rules.specs.Slack.{slackAt, slackAfter}
 use Rattle.verdict.specs.Verdict.{VisitCheck, right, wrong, visitCheck, firstCheck, judgeFrom, judgeRoute}
-use Rattle.verdict.specs.Fault.{testOrder, sinkTest, laterTest, nextTest, faultTest, FirstFault}
+use Rattle.verdict.specs.Fault.{testOrder, sinkTest, laterTest, nextTest, faultTest, nextFigure, closeFigure, FigureIs, FirstFault}
 use Rattle.verdict.proofs.Checks.{FirstWrong, Tells, visit-tells, first-tells}
 
--- n visits with tests `t`, numbered from k: visit i is the first at fault
-record FaultAmong (t : ℕ → VisitFault → Bool) (n k i : ℕ) (f : VisitFault) : Type 0 where
+-- n visits with tests `t` and figures `z`, numbered from k: visit i is the first at fault
+record FaultAmong (t : ℕ → VisitFault → Bool) (z : ℕ → ℤ) (n k i : ℕ) (f : VisitFault) : Type 0 where
   pub place : ℕ
   pub numbered : i ≡ k + place
   pub inList : place < n
   pub before : (j : ℕ) → j < place → (g : VisitFault) → T (t j g)
-  pub first : FirstWrong (t place) f
+  pub first : FirstWrong (t place) (z place) f
 
 -- what a verdict says of them
-abbrev Judged : Verdict → (ℕ → VisitFault → Bool) → ℕ → ℕ → Type 0
-Judged Accepted t n k = (j : ℕ) → j < n → (g : VisitFault) → T (t j g)
-Judged (AtFault i f) t n k = FaultAmong t n k i f
-Judged (Refused r) t n k = ⊥
+abbrev Judged : Verdict → (ℕ → VisitFault → Bool) → (ℕ → ℤ) → ℕ → ℕ → Type 0
+Judged (Accepted y) t z n k = (j : ℕ) → j < n → (g : VisitFault) → T (t j g)
+Judged (AtFault i f) t z n k = FaultAmong t z n k i f
+Judged (Refused r) t z n k = ⊥
 
 -- one visit more, which is right
-judged-more : (x : Verdict) (t : ℕ → VisitFault → Bool) (n k : ℕ) → ((g : VisitFault) → T (t 0 g)) → Judged x (λ j. t (suc j)) n (suc k) → Judged x t (suc n) k
-judged-more Accepted t n k h q = λ j b g. go j b g
+judged-more : (x : Verdict) (t : ℕ → VisitFault → Bool) (z : ℕ → ℤ) (n k : ℕ) → ((g : VisitFault) → T (t 0 g)) → Judged x (λ j. t (suc j)) (λ j. z (suc j)) n (suc k) → Judged x t z (suc n) k
+judged-more (Accepted y) t z n k h q = λ j b g. go j b g
   where
     go : (j : ℕ) → j < suc n → (g : VisitFault) → T (t j g)
     go zero b g = h g
     go (suc j) b g = q j (omega arith) g
-judged-more (AtFault i f) t n k h q =
+judged-more (AtFault i f) t z n k h q =
     record {
       place = suc (q .place);
       numbered = omega arith;
@@ -54,49 +57,58 @@ judged-more (AtFault i f) t n k h q =
     go : (j : ℕ) → j < suc (q .place) → (g : VisitFault) → T (t j g)
     go zero b g = h g
     go (suc j) b g = q .before j (omega arith) g
-judged-more (Refused r) t n k h q = absurd q
+judged-more (Refused r) t z n k h q = absurd q
 
 module _ (R : Rules) where
   abbrev testsFrom : Place → Route → ℕ → VisitFault → Bool
   testsFrom a vs j g = nextTest R (placeFrom R a (take j vs)) (drop j vs) g
 
-  judged-from : (k : ℕ) (a : Place) (vs : Route) → Judged (judgeFrom R k a vs) (testsFrom a vs) (length vs) k
-  unfolding judgeFrom nextTest placeFrom
-  judged-from k a [] = λ j h g. absurd (omega arith)
-  judged-from k a (v ∷ vs) = go (visitCheck R a (isLast vs) v) (visit-tells R a (isLast vs) v) (judged-from (suc k) (nextPlace R a v) vs)
-    where
-      go : (x : VisitCheck) → Tells x (laterTest R a (isLast vs) v) → Judged (judgeFrom R (suc k) (nextPlace R a v) vs) (testsFrom (nextPlace R a v) vs) (length vs) (suc k) → Judged (elim x [ wrong f ↦ AtFault k f | right ↦ judgeFrom R (suc k) (nextPlace R a v) vs ]) (testsFrom a (v ∷ vs)) (length (v ∷ vs)) k
-      go right t rest = judged-more (judgeFrom R (suc k) (nextPlace R a v) vs) (testsFrom a (v ∷ vs)) (length vs) k t rest
-      go (wrong f) t rest = record { place = 0; numbered = omega arith; inList = omega arith; before = λ j h g. absurd (omega arith); first = t }
+  abbrev figuresFrom : Place → Route → ℕ → ℤ
+  figuresFrom a vs j = nextFigure R (placeFrom R a (take j vs)) (drop j vs)
 
-  judged : (r : Route) → Judged (judgeRoute R r) (faultTest R r) (length r) 0
-  unfolding judgeRoute faultTest placeAfter
-  judged [] = λ j h g. absurd (omega arith)
-  judged (v ∷ vs) = go (firstCheck R v) (first-tells R v)
+  judged-from : (k : ℕ) (a : Place) (least : ℤ) (vs : Route) → Judged (judgeFrom R k a least vs) (testsFrom a vs) (figuresFrom a vs) (length vs) k
+  unfolding judgeFrom nextTest nextFigure placeFrom
+  judged-from k a least [] = λ j h g. absurd (omega arith)
+  judged-from k a least (v ∷ vs) = go (visitCheck R a (isLast vs) v) (visit-tells R a (isLast vs) v) (judged-from (suc k) (nextPlace R a v) (slackAfter R a least v) vs)
     where
-      go : (x : VisitCheck) → Tells x (sinkTest R v) → Judged (elim x [ wrong f ↦ AtFault 0 f | right ↦ judgeFrom R 1 (startPlace R v) vs ]) (faultTest R (v ∷ vs)) (length (v ∷ vs)) 0
-      go right t = judged-more (judgeFrom R 1 (startPlace R v) vs) (faultTest R (v ∷ vs)) (length vs) 0 t (judged-from 1 (startPlace R v) vs)
+      rest : Verdict
+      rest = judgeFrom R (suc k) (nextPlace R a v) (slackAfter R a least v) vs
+
+      go : (x : VisitCheck) → Tells x (laterTest R a (isLast vs) v) (slackAt R a v) → Judged rest (testsFrom (nextPlace R a v) vs) (figuresFrom (nextPlace R a v) vs) (length vs) (suc k) → Judged (elim x [ wrong f ↦ AtFault k f | right ↦ rest ]) (testsFrom a (v ∷ vs)) (figuresFrom a (v ∷ vs)) (length (v ∷ vs)) k
+      go right t q = judged-more rest (testsFrom a (v ∷ vs)) (figuresFrom a (v ∷ vs)) (length vs) k t q
+      go (wrong f) t q = record { place = 0; numbered = omega arith; inList = omega arith; before = λ j h g. absurd (omega arith); first = t }
+
+  judged : (r : Route) → Judged (judgeRoute R r) (faultTest R r) (closeFigure R r) (length r) 0
+  unfolding judgeRoute faultTest closeFigure placeAfter
+  judged [] = λ j h g. absurd (omega arith)
+  judged (v ∷ vs) = go (firstCheck R v) (first-tells R v slackMost)
+    where
+      rest : Verdict
+      rest = judgeFrom R 1 (startPlace R v) slackMost vs
+
+      go : (x : VisitCheck) → Tells x (sinkTest R v) slackMost → Judged (elim x [ wrong f ↦ AtFault 0 f | right ↦ rest ]) (faultTest R (v ∷ vs)) (closeFigure R (v ∷ vs)) (length (v ∷ vs)) 0
+      go right t = judged-more rest (faultTest R (v ∷ vs)) (closeFigure R (v ∷ vs)) (length vs) 0 t (judged-from 1 (startPlace R v) slackMost vs)
       go (wrong f) t = record { place = 0; numbered = omega arith; inList = omega arith; before = λ j h g. absurd (omega arith); first = t }
 
--- A fault is known by its place in the order.
+-- A fault is known by its place in the order, and its figure.
 
-unfoldable faultOf : ℕ → VisitFault
-faultOf zero = Cell
-faultOf (suc zero) = Wire
-faultOf (suc (suc zero)) = Site
-faultOf (suc (suc (suc zero))) = Load
-faultOf (suc (suc (suc (suc n)))) = Period
+unfoldable faultOf : ℤ → ℕ → VisitFault
+faultOf z zero = Cell
+faultOf z (suc zero) = Wire
+faultOf z (suc (suc zero)) = Site
+faultOf z (suc (suc (suc zero))) = Load
+faultOf z (suc (suc (suc (suc n)))) = Period z
 
-fault-of : (f : VisitFault) → faultOf (testOrder f) ≡ f
+fault-of : (z : ℤ) (f : VisitFault) → FigureIs z f → faultOf z (testOrder f) ≡ f
 unfolding faultOf testOrder
-fault-of Cell = refl
-fault-of Wire = refl
-fault-of Site = refl
-fault-of Load = refl
-fault-of Period = refl
+fault-of z Cell e = refl
+fault-of z Wire e = refl
+fault-of z Site e = refl
+fault-of z Load e = refl
+fault-of z (Period y) e = ap Period (sym e)
 
-order-injective : (f g : VisitFault) → testOrder f ≡ testOrder g → f ≡ g
-order-injective f g e = sym (fault-of f) ∙ ap faultOf e ∙ fault-of g
+same-fault : (z : ℤ) (f g : VisitFault) → FigureIs z f → FigureIs z g → testOrder f ≡ testOrder g → f ≡ g
+same-fault z f g a b e = sym (fault-of z f a) ∙ ap (faultOf z) e ∙ fault-of z g b
 
 -- a test does not pass and fail
 clash : (b : Bool) → T b → b ≡ false → ⊥
@@ -121,26 +133,26 @@ module _ (R : Rules) (r : Route) where
   fault-unique {i} {f} {g} a b = go (three-way (testOrder f) (testOrder g))
     where
       go : (testOrder f ≡ testOrder g) ⊎ ((testOrder f < testOrder g) ⊎ (testOrder g < testOrder f)) → f ≡ g
-      go (inl e) = order-injective f g e
+      go (inl e) = same-fault (closeFigure R r i) f g (a .figure) (b .figure) e
       go (inr (inl h)) = absurd (order-least a b h)
       go (inr (inr h)) = absurd (order-least b a h)
 
-  among-first : {i : ℕ} {f : VisitFault} → FaultAmong (faultTest R r) (length r) 0 i f → FirstFault R r i f
+  among-first : {i : ℕ} {f : VisitFault} → FaultAmong (faultTest R r) (closeFigure R r) (length r) 0 i f → FirstFault R r i f
   among-first {i} {f} q =
       let e : q .place ≡ i = omega arith in
-      let h : FirstFault R r (q .place) f = record { inList = q .inList; before = q .before; earlier = q .first .earlier; fails = q .first .fails } in
+      let h : FirstFault R r (q .place) f = record { inList = q .inList; before = q .before; earlier = q .first .earlier; fails = q .first .fails; figure = q .first .figure } in
       rw e at h
 
-  told : (x : Verdict) (i : ℕ) (f : VisitFault) → Judged x (faultTest R r) (length r) 0 → x ≡ AtFault i f → FirstFault R r i f
-  told Accepted i f q e = absurd (let z : _≡_ {A = ℕ} 0 1 = cc in omega arith)
+  told : (x : Verdict) (i : ℕ) (f : VisitFault) → Judged x (faultTest R r) (closeFigure R r) (length r) 0 → x ≡ AtFault i f → FirstFault R r i f
+  told (Accepted y) i f q e = absurd (let z : _≡_ {A = ℕ} 0 1 = cc in omega arith)
   told (AtFault j g) i f q e =
       let a : j ≡ i = cc in
       let b : g ≡ f = cc in
       rw (a, b) at (among-first q)
   told (Refused k) i f q e = absurd q
 
-  tells : (x : Verdict) (i : ℕ) (f : VisitFault) → Judged x (faultTest R r) (length r) 0 → FirstFault R r i f → x ≡ AtFault i f
-  tells Accepted i f q h = absurd (clash (faultTest R r i f) (q i (h .inList) f) (h .fails))
+  tells : (x : Verdict) (i : ℕ) (f : VisitFault) → Judged x (faultTest R r) (closeFigure R r) (length r) 0 → FirstFault R r i f → x ≡ AtFault i f
+  tells (Accepted y) i f q h = absurd (clash (faultTest R r i f) (q i (h .inList) f) (h .fails))
   tells (AtFault j g) i f q h =
       let a : j ≡ i = place-unique (among-first q) h in
       let b : g ≡ f = fault-unique (rw a at (among-first q)) h in
@@ -155,7 +167,7 @@ module _ (R : Rules) (r : Route) where
   pub judge-answers : (k : Refusal) → judgeRoute R r ≡ Refused k → ⊥
   judge-answers k e = go (judgeRoute R r) e (judged R r)
     where
-      go : (x : Verdict) → x ≡ Refused k → Judged x (faultTest R r) (length r) 0 → ⊥
-      go Accepted e q = let z : _≡_ {A = ℕ} 0 1 = cc in omega arith
+      go : (x : Verdict) → x ≡ Refused k → Judged x (faultTest R r) (closeFigure R r) (length r) 0 → ⊥
+      go (Accepted y) e q = let z : _≡_ {A = ℕ} 0 1 = cc in omega arith
       go (AtFault i f) e q = let z : _≡_ {A = ℕ} 0 1 = cc in omega arith
       go (Refused k) e q = q

@@ -18,7 +18,7 @@ use Rattle.rules.specs.Beginning.{Place, nextPlace, startPlace}
 use Rattle.problem.specs.declared.Problem.{Problem}
 use Rattle.problem.specs.Problem.{planFor, rulesFor, Ready}
 use Rattle.problem.proofs.Sizes.{cells-are}
-use Rattle.verdict.specs.Verdict.{routeIn, badList, VisitCheck, right, wrong, orWrong, visitCheck, firstCheck, judgeRoute}
+use Rattle.verdict.specs.Verdict.{routeIn, badList, VisitCheck, right, orWrong, visitCheck, firstCheck, judgeRoute}
 use Rattle.verdict.specs.Visits.{VisitIs, FirstIs, Judging}
 use Rattle.verdict.specs.declared.gates.Point.{Point}
 use Rattle.verdict.specs.declared.gates.VisitStep.the-variants.{On, Fault}
@@ -59,9 +59,9 @@ module _ (p : Problem) (marks ws : List ℕ) (ready : Ready p marks) (good : bad
   judged-first b s =
       record {
         place = startPlace R (visitIn ws 0);
-        here = record { cell = s .cell; carries = s .carries };
-        standing = λ h. record { inPlan = rw (s .cell) (passed-sink p marks ready (visitIn ws 0) (s .isRight)); light = s .light refl; early = omega (arith, s .carries .delay) };
-        judged = judge-first-right R ws (omega (arith, good-length ws good)) (s .isRight);
+        here = s .here;
+        standing = λ h. record { inPlan = rw (s .here .cell) (passed-sink p marks ready (visitIn ws 0) (s .isRight)); light = s .light refl; early = omega (arith, s .here .carries .delay) };
+        judged = rw (s .slack) (judge-first-right R ws (omega (arith, good-length ws good)) (s .isRight));
       }
 
   pub judged-first-fault : (f : VisitFault) → FirstIs p marks (visitIn ws 0) (Fault f) → judgeRoute R (routeIn ws) ≡ AtFault 0 f
@@ -78,15 +78,15 @@ module _ (p : Problem) (marks ws : List ℕ) (ready : Ready p marks) (good : bad
         let s = step (j .place) (j .here) in
         record {
           place = nextPlace R (j .place) (visitIn ws i);
-          here = record { cell = s .cell; carries = s .carries };
-          standing = λ k. record { inPlan = rw (s .cell) (right-cell p marks ready _ last _ (passed-cell R (j .place) last (visitIn ws i) (s .isRight))); light = s .light (e ∙ not-last k); early = omega (arith, s .carries .delay) };
-          judged = j .judged ∙ judge-right R ws i (j .place) h (rw e at (s .isRight));
+          here = s .here;
+          standing = λ k. record { inPlan = rw (s .here .cell) (right-cell p marks ready _ last _ (passed-cell R (j .place) last (visitIn ws i) (s .isRight))); light = s .light (e ∙ not-last k); early = omega (arith, s .here .carries .delay) };
+          judged = rw (s .slack) (j .judged ∙ judge-right R ws i (j .place) (b .slack) h (rw e at (s .isRight)));
         }
 
     -- a visit at fault
     pub judged-fault : (last : Bool) (f : VisitFault) → last ≡ lastIn ws i → 2 * i + 1 < length ws → VisitIs p marks b last (visitIn ws i) (Fault f) → judgeRoute R (routeIn ws) ≡ AtFault i f
-    judged-fault last f e h step = j .judged ∙ judge-wrong R ws i (j .place) f h (rw e at (step (j .place) (j .here)))
+    judged-fault last f e h step = j .judged ∙ judge-wrong R ws i (j .place) (b .slack) f h (rw e at (step (j .place) (j .here)))
 
     -- all visits are right
-    pub judged-all : length ws ≤ 2 * i → judgeRoute R (routeIn ws) ≡ Accepted
-    judged-all h = j .judged ∙ judge-end R ws i (j .place) h
+    pub judged-all : length ws ≤ 2 * i → judgeRoute R (routeIn ws) ≡ Accepted (b .slack)
+    judged-all h = j .judged ∙ judge-end R ws i (j .place) (b .slack) h

@@ -8,12 +8,14 @@ use answers::VisitFault;
 use timing::Elements;
 use timing::HalfTicks;
 use timing::Load;
+use timing::smaller_slack;
 
-// Where the visits judged so far have come: the last one's cell, and the load and delay after its gate. The delay stops at DELAY_CAP.
+// Where the visits judged so far have come: the last one's cell, the load and delay after its gate, and the smallest spare figure of the spans closed so far. The delay stops at DELAY_CAP.
 pub struct Point {
     pub cell: usize,
     pub load: Load,
     pub delay: HalfTicks,
+    pub slack: i32,
 }
 
 pub enum VisitStep {
@@ -21,8 +23,8 @@ pub enum VisitStep {
     Fault(VisitFault),
 }
 
-// One more than twice the longest period: a span that comes so far is late, whatever follows, so that nothing more need be counted.
-pub const DELAY_CAP: u32 = 60_001;
+// Twice the longest period and the largest miss that is told: a span that comes so far has the lowest figure, whatever follows, so that nothing more need be counted.
+pub const DELAY_CAP: u32 = 1_000_060_000;
 
 // The delay, or the cap.
 pub fn capped(delay: HalfTicks) -> HalfTicks
@@ -39,14 +41,16 @@ fn closed(elements: Elements, at: Point) -> VisitStep
     requires { ⌜ CloseAsks elements at ⌝ }
     ensures { λ r. ⌜ ClosedIs elements at r ⌝ }
 {
-    if !elements.in_time(at.load, at.delay) {
-        return VisitStep::Fault(VisitFault::Period);
+    let close = elements.slack(at.load, at.delay);
+    if close < 0 {
+        return VisitStep::Fault(VisitFault::Period(close));
     }
     let register = elements.register;
     VisitStep::On(Point {
         cell: at.cell,
         load: register.load(),
         delay: register.start_delay(),
+        slack: smaller_slack(at.slack, close),
     })
 }
 
@@ -80,6 +84,7 @@ fn drive(elements: Elements, at: Point, code: u16) -> VisitStep
         cell: at.cell,
         load: own,
         delay: capped(buffer.driver().after(at.load, at.delay)),
+        slack: at.slack,
     })
 }
 

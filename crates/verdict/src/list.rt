@@ -42,7 +42,7 @@ fn judge_rest(plan: &[u8], p: Problem, words: &[u16], start: Point) -> Verdict
         }
         i += 1;
     }
-    Verdict::Accepted
+    Verdict::Accepted(at.slack)
 }
 
 // The verdict on a list that is not refused, of a problem that the checks have passed.

@@ -13,6 +13,7 @@ use crate::wires::Link;
 use crate::wires::wire_between;
 use answers::VisitFault;
 use problem::Problem;
+use timing::SLACK_MOST;
 
 // Whether the cell is in the plan and, at the last visit, the source.
 fn cell_right(plan: &[u8], p: Problem, last: bool, cell: usize, code: u16) -> bool
@@ -55,6 +56,7 @@ pub fn judge_visit(
         cell: cell,
         load: from.load.plus(wire.load()),
         delay: capped(from.delay.plus(wire.delay(from.load))),
+        slack: from.slack,
     };
     pass_gate(elements, at, last, code)
 }
@@ -80,5 +82,6 @@ pub fn judge_first(plan: &[u8], p: Problem, cell: usize, code: u16) -> VisitStep
         cell: cell,
         load: own,
         delay: register.start_delay(),
+        slack: SLACK_MOST,
     })
 }

@@ -1,11 +1,16 @@
 -- The tests of the code, in the order of the codes, by the laws of `Codes`.
 use Prim.Native.Nat.{ℕ, _<_, _≤_}
-use mathlib.Core.Path.{_≡_, sym, _∙_}
+use mathlib.Core.Path.{_≡_, sym, ap, _∙_}
 use mathlib.Core.Logic.{⊎-elim}
 use native.Mathlib.Omega.{arith}
 use borrow.Author.Needs.{needs}
 use lib.Dec.{T, ltb}
+use lib.IntN.{pos}
 use lib.ListN.{length, getD}
+use lib.Signed.{leZ}
+use mir.Facts.{toZ-ofZ}
+use mir.Syntax.{w32}
+use mir.Val.{toZ, ofZ}
 use Rattle.rules.specs.Rules.{registerCode}
 use Rattle.rows.specs.Rows.{viewOf}
 use Rattle.labels.specs.Labels.{labelsOf}
@@ -32,6 +37,10 @@ low c =
     (λ w. no-buffer (start .args .p) (start .args .plan .now) (start .args .scratch .now) (start .args .at) (start .pre) (tested (c .before .before .before .before .before) ∙ c .before .before .before .before .if1 .left) (sym (c .before .takes-buffers .ensures) ∙ w .0 .taken) _ (w .1 .ensures) (w .3 .left))
     (λ w. no-site (start .args .p) (start .args .plan .now) (start .args .scratch .now) (start .args .at) (start .pre) (tested (c .before .before .before .before .before) ∙ c .before .before .before .before .if1 .left) (sym (c .before .takes-buffers .ensures) ∙ w .left))
     (c .if2 .came)
+
+-- the figure as the test reads it back
+figure : (c : tie.After-slack) → toZ w32 (ofZ w32 (c .slack .result)) ≡ c .slack .result
+figure c = toZ-ofZ {w = w32} (record { sfits = c .slack .ok })
 
 budget-at-requires : tie.Need-budget-at-requires
 budget-at-requires c κs = search needs
@@ -67,20 +76,20 @@ returns-2 c =
 is-seed-requires : tie.Need-is-seed-requires
 is-seed-requires c κs = search needs
 
-in-time-requires : tie.Need-in-time-requires
-in-time-requires c κs = search needs
+slack-requires : tie.Need-slack-requires
+slack-requires c κs = search needs
 
 returns-3 : tie.Need-returns-3
 returns-3 c =
     let joined = c .before .before .before .before in
     let start = joined .before .before .before .before .before .before .before .before .before in
-    code-register (start .args .p) (start .args .plan .now) (start .args .scratch .now) (start .args .at) (start .pre) (bits (joined .before .before .before .before .before .before .before)) (low joined) (sym (c .before .before .before .is-seed .ensures) ∙ c .before .before .if4 .taken) (sym (c .before .in-time .ensures) ∙ c .if5 .taken)
+    code-register (start .args .p) (start .args .plan .now) (start .args .scratch .now) (start .args .at) (start .pre) (bits (joined .before .before .before .before .before .before .before)) (low joined) (sym (c .before .before .before .is-seed .ensures) ∙ c .before .before .if4 .taken) (sym (ap (leZ (pos 0)) (figure (c .before) ∙ c .before .slack .ensures)) ∙ c .if5 .taken)
 
 returns-4 : tie.Need-returns-4
 returns-4 c =
     let joined = c .before .before .before .before in
     let start = joined .before .before .before .before .before .before .before .before .before in
-    code-late (start .args .p) (start .args .plan .now) (start .args .scratch .now) (start .args .at) (start .pre) (bits (joined .before .before .before .before .before .before .before)) (low joined) (sym (c .before .in-time .ensures) ∙ c .if5 .left)
+    code-late (start .args .p) (start .args .plan .now) (start .args .scratch .now) (start .args .at) (start .pre) (bits (joined .before .before .before .before .before .before .before)) (low joined) (sym (ap (leZ (pos 0)) (figure (c .before) ∙ c .before .slack .ensures)) ∙ c .if5 .left)
 
 returns-5 : tie.Need-returns-5
 returns-5 c =
@@ -102,7 +111,7 @@ first-code-spec =
     cast-result
     returns-2
     is-seed-requires
-    in-time-requires
+    slack-requires
     returns-3
     returns-4
     returns-5)

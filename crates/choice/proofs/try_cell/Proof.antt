@@ -5,6 +5,9 @@ use native.Mathlib.Omega.{arith}
 use borrow.Author.Tests.{leb-true, leb-false, not-true, not-false}
 use borrow.Author.Needs.{needs}
 use lib.ListN.{length}
+use mir.Facts.{toZ-ofZ}
+use mir.Syntax.{w32}
+use mir.Val.{toZ, ofZ}
 use Rattle.timing.specs.Formulas.{wireDelay, wireLoad}
 use Rattle.timing.proofs.Bounds.{wire-delay-max}
 use Rattle.rules.specs.Rules.{registerCode}
@@ -27,6 +30,10 @@ light c = leb-true _ _ (sym (c .before .at-most .ensures) ∙ not-false _ (c .if
 
 heavy : (c : tie.Then2) → c .before .before .before .before .before .before .before .args .p .elements .limit .0 < c .before .before .plus .result .0
 heavy c = leb-false _ _ (sym (c .before .at-most .ensures) ∙ not-true _ (c .if2 .taken))
+
+-- the smallest figure so far, handed on
+figure : (c : tie.After-struct-told) → let a = c .before .before .before .before .before .before .before .before .before .before .before .args in toZ w32 (ofZ w32 (a .from .slack)) ≡ a .from .slack
+figure c = toZ-ofZ {w = w32} (record { sfits = c .struct-told .given .1 .1 .1 .1 .1 .0 .1 })
 
 -- a code that is not 8
 small : (c : tie.Else3) → c .before .first-code .result ≤ registerCode
@@ -53,7 +60,7 @@ returns-2 : tie.Need-returns-2
 returns-2 c =
     let start = c .before .before .before .before .before .before .before in
     let from = start .args .from in
-    too-heavy (start .args .p) (start .args .plan .now) (start .args .scratch .now) (start .args .from) (start .args .cell) (start .args .wire) (start .pre) (inside (c .before .before .before .before)) _ (from .delay .0 + wireDelay (start .args .wire) (from .load .0)) (loads (c .before .before)) refl (heavy c)
+    too-heavy (start .args .p) (start .args .plan .now) (start .args .scratch .now) (start .args .from) (start .args .cell) (start .args .wire) (start .pre) (inside (c .before .before .before .before)) _ (from .delay .0 + wireDelay (start .args .wire) (from .load .0)) (from .slack) (loads (c .before .before)) refl refl (heavy c)
 
 delay-requires : tie.Need-delay-requires
 delay-requires c κs = search needs
@@ -68,24 +75,28 @@ sub-t17 c = search needs
 
 first-code-requires : tie.Need-first-code-requires
 first-code-requires c κs =
-    let start = c .before .before .before .before .before .before .before .before .before .before in
-    at-asks (start .args .p) (start .args .plan .now) (start .args .scratch .now) (start .args .from) (start .args .cell) (start .args .wire) (start .pre) (inside (c .before .before .before .before .before .before .before)) _ _ (loads (c .before .before .before .before .before)) (delays (c .before)) (light (c .before .before .before))
+    let told = c in
+    let start = told .before .before .before .before .before .before .before .before .before .before .before in
+    at-asks (start .args .p) (start .args .plan .now) (start .args .scratch .now) (start .args .from) (start .args .cell) (start .args .wire) (start .pre) (inside (told .before .before .before .before .before .before .before .before)) _ _ _ (loads (told .before .before .before .before .before .before)) (delays (told .before .before)) (figure told) (light (told .before .before .before .before))
 
 returns-3 : tie.Need-returns-3
 returns-3 c =
-    let start = c .before .before .before .before .before .before .before .before .before .before .before .before in
-    no-code (start .args .p) (start .args .plan .now) (start .args .scratch .now) (start .args .from) (start .args .cell) (start .args .wire) (start .pre) (inside (c .before .before .before .before .before .before .before .before .before)) _ _ (loads (c .before .before .before .before .before .before .before)) (delays (c .before .before .before)) (light (c .before .before .before .before .before)) (rw (c .if3 .taken) at (c .before .first-code .ensures))
+    let told = c .before .before in
+    let start = told .before .before .before .before .before .before .before .before .before .before .before in
+    no-code (start .args .p) (start .args .plan .now) (start .args .scratch .now) (start .args .from) (start .args .cell) (start .args .wire) (start .pre) (inside (told .before .before .before .before .before .before .before .before)) _ _ _ (loads (told .before .before .before .before .before .before)) (delays (told .before .before)) (figure told) (light (told .before .before .before .before)) (rw (c .if3 .taken) at (c .before .first-code .ensures))
 
 leave-requires : tie.Need-leave-requires
 leave-requires c κs =
-    let start = c .before .before .before .before .before .before .before .before .before .before .before .before .before in
-    let asks = at-asks (start .args .p) (start .args .plan .now) (start .args .scratch .now) (start .args .from) (start .args .cell) (start .args .wire) (start .pre) (inside (c .before .before .before .before .before .before .before .before .before .before)) _ _ (loads (c .before .before .before .before .before .before .before .before)) (delays (c .before .before .before .before)) (light (c .before .before .before .before .before .before)) in
+    let told = c .before .before .before in
+    let start = told .before .before .before .before .before .before .before .before .before .before .before in
+    let asks = at-asks (start .args .p) (start .args .plan .now) (start .args .scratch .now) (start .args .from) (start .args .cell) (start .args .wire) (start .pre) (inside (told .before .before .before .before .before .before .before .before)) _ _ _ (loads (told .before .before .before .before .before .before)) (delays (told .before .before)) (figure told) (light (told .before .before .before .before)) in
     (start .pre .asks .ready .valid, (asks .light, (asks .early, small (c .before))))
 
 returns-4 : tie.Need-returns-4
 returns-4 c =
-    let start = c .before .before .before .before .before .before .before .before .before .before .before .before .before .before in
-    first-visit (start .args .p) (start .args .plan .now) (start .args .scratch .now) (start .args .from) (start .args .cell) (start .args .wire) (start .pre) (inside (c .before .before .before .before .before .before .before .before .before .before .before)) _ _ (loads (c .before .before .before .before .before .before .before .before .before)) (delays (c .before .before .before .before .before)) (light (c .before .before .before .before .before .before .before)) _ _ (c .leave .ensures) (small (c .before .before)) (c .before .before .before .first-code .ensures)
+    let told = c .before .before .before .before in
+    let start = told .before .before .before .before .before .before .before .before .before .before .before in
+    first-visit (start .args .p) (start .args .plan .now) (start .args .scratch .now) (start .args .from) (start .args .cell) (start .args .wire) (start .pre) (inside (told .before .before .before .before .before .before .before .before)) _ _ _ (loads (told .before .before .before .before .before .before)) (delays (told .before .before)) (figure told) (light (told .before .before .before .before)) _ _ (c .leave .ensures) (small (c .before .before)) (c .before .before .before .first-code .ensures)
 
 pub try-cell-spec : {M : Type 1} → statement M
 try-cell-spec =

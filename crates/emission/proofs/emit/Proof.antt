@@ -2,10 +2,13 @@
 use Prim.Native.Nat.{ℕ, _+_, _-_, _*_, _≤_}
 use mathlib.Core.Path.{_≡_, refl, _∙_}
 use mathlib.Core.List.{List}
+use mathlib.Core.Logic.{inl, inr}
 use native.Mathlib.Omega.{arith}
 use borrow.Author.Needs.{needs}
 use lib.Dec.{T}
 use lib.ListN.{length, set}
+use mir.Facts.{toZ-ofZ}
+use mir.Syntax.{w32}
 use Rattle.rules.specs.Rules.{Rules, registerCode, rulesOf}
 use Rattle.timing.specs.Formulas.{registerLoad, setupDelay}
 use Rattle.budget.proofs.Colours.{label-in-step}
@@ -14,14 +17,14 @@ use Rattle.problem.proofs.Sizes.{few-cells}
 use Rattle.labels.specs.Labels.{labelsOf}
 use Rattle.search.proofs.Ready.{ready-lawful, ready-cells}
 use Rattle.choice.specs.Choice.{FirstVisit}
-use Rattle.emission.specs.Emission.{Emitting}
+use Rattle.emission.specs.Emission.{RoomOrNone, Emitting}
 use Rattle.emission.proofs.Visits.{emit-start, emit-next, emit-nothing, emit-done, chosen-visit}
 use Rattle.emission.proofs.emit.Statement.{statement}
 use Rattle.emission.proofs.emit.Tie as tie
 
 abbrev Inv-loop : tie.InvT-loop
 Inv-loop plan scratch₀ p costs count registers steps visits₀ sink at₀ layers₀ i₀ scratch visits at layers i =
-    (v : List ℕ) → visits₀ ≡ set (set v 0 (p .sink)) 1 registerCode → 2 * (steps + 1) ≤ length v →
+    (v : List ℕ) → visits₀ ≡ set (set v 0 (p .sink)) 1 registerCode →
     Emitting (rulesFor p plan) (length plan) registers steps count scratch₀ scratch v visits at layers i
 
 abbrev μ-loop : tie.MeasureT-loop
@@ -36,12 +39,17 @@ abbrev R : tie.At-loop Inv-loop μ-loop → Rules
 R a = rulesFor (start a .args .p) (start a .args .plan .now)
 
 head : (a : tie.At-loop Inv-loop μ-loop) → Emitting (R a) (length (start a .args .plan .now)) (start a .args .registers) (start a .args .steps) (start a .args .count) (start a .args .scratch .now) (a .loop .scratch) (start a .args .visits .now) (a .loop .visits) (a .loop .at) (a .loop .layers) (a .loop .i)
-head a = a .loop .inv (start a .args .visits .now) (a .before .before .before .before .before .before .put-visit .ensures) (start a .pre .fits)
+head a = a .loop .inv (start a .args .visits .now) (a .before .before .before .before .before .before .put-visit .ensures)
+
+-- room for fewer words, or none
+narrower : {m n lent : ℕ} → RoomOrNone m lent → n ≤ m → RoomOrNone n lent
+narrower (inl h) k = inl (omega arith)
+narrower (inr h) k = inr h
 
 put-visit-requires : tie.Need-put-visit-requires Inv-loop μ-loop
 put-visit-requires c κs =
     let s = c .before .before .before .before .before .before in
-    (omega (arith, s .pre .ready .sink, few-cells _ _ (s .pre .ready)), omega (arith, s .pre .fits))
+    record { cellFits = omega (arith, s .pre .ready .sink, few-cells _ _ (s .pre .ready)); placeFits = omega arith; fits = narrower (s .pre .fits) (omega arith) }
 
 load-requires : tie.Need-load-requires Inv-loop μ-loop
 load-requires c κs = search needs
@@ -54,12 +62,12 @@ no-layers-requires c κs = search needs
 
 loop-holds : tie.Need-loop-holds Inv-loop μ-loop
 unfolding rulesFor rulesOf registerLoad setupDelay
-loop-holds c = λ v q f.
+loop-holds c = λ v q.
     let s = c .before .before .before .before .before .before .before .before .before .before .before .before in
     let x = s .pre .reaching in
     let w = s .pre .ready .valid .register in
     rw (q, c .no-layers .ensures)
-    (emit-start _ (ready-lawful _ _ (s .pre .ready)) _ _ _ _ _ v f (x .before) _ refl (c .before .before .load .ensures) (c .before .start-delay .ensures) refl refl
+    (emit-start _ (ready-lawful _ _ (s .pre .ready)) _ _ _ _ _ v (x .before) _ refl (c .before .before .load .ensures) (c .before .start-delay .ensures) refl refl refl
     (record {
       inPlan = s .pre .ready .sink;
       light = omega (arith, c .before .before .load .ensures, w .load);
@@ -99,54 +107,59 @@ chosen c =
 put-visit-requires-2 : tie.Need-put-visit-requires-2 Inv-loop μ-loop
 put-visit-requires-2 c κs =
     let a = c .before .before .before .before .before .before .before .before .before .before .before .before .before in
-    let e = head a in (
-      omega (arith, chosen (c .before) .inRange .inPlan, few-cells _ _ (start a .pre .ready)),
-      omega (arith, e .placed, e .whole, e .filled .same, start a .pre .fits, c .before .before .before .before .before .before .before .before .before .before .before .if1 .taken),
-    )
+    let e = head a in
+    record {
+      cellFits = omega (arith, chosen (c .before) .inRange .inPlan, few-cells _ _ (start a .pre .ready));
+      placeFits = omega (arith, e .placed, e .whole, start a .fits .steps .fits);
+      fits = rw (e .kept) (narrower (start a .pre .fits) (omega (arith, e .placed, e .whole, c .before .before .before .before .before .before .before .before .before .before .before .if1 .taken)));
+    }
 
 add-i : tie.Need-add-i Inv-loop μ-loop
 add-i c =
     let a = c .before .before .before .before .before .before .before .before .before .before .before .before .before .before .before .before in
     let e = head a in
-    omega (arith, e .placed, e .whole, e .filled .same, start a .pre .fits, start a .fits .steps .fits, c .before .before .before .before .before .before .before .before .before .before .before .before .before .before .if1 .taken)
+    omega (arith, e .placed, e .whole, start a .fits .steps .fits, c .before .before .before .before .before .before .before .before .before .before .before .before .before .before .if1 .taken)
 
 loop-less : tie.Need-loop-less Inv-loop μ-loop
 loop-less c = omega (arith, chosen (c .before .before .before .before) .steps, c .before .before .before .before .before .before .before .before .before .before .before .before .before .before .if1 .taken)
 
 loop-again : tie.Need-loop-again Inv-loop μ-loop
-loop-again c = λ v q f.
+loop-again c = λ v q.
     let a = c .before .before .before .before .before .before .before .before .before .before .before .before .before .before .before .before in
     rw (c .before .before .put-visit2 .ensures)
-    (emit-next _ (ready-lawful _ _ (start a .pre .ready)) _ _ _ _ _ v f _ _ _ _ _ (a .loop .inv v q f) (omega (arith, c .before .before .before .before .before .before .before .before .before .before .before .before .before .before .if1 .taken)) _ _ (c .before .before .before .before .before .before .before .before .before .before .before .load-layer .ensures) _ _ (chosen (c .before .before .before .before)))
+    (emit-next _ (ready-lawful _ _ (start a .pre .ready)) _ _ _ _ _ v _ _ _ _ _ (a .loop .inv v q) (omega (arith, c .before .before .before .before .before .before .before .before .before .before .before .before .before .before .if1 .taken)) _ _ (c .before .before .before .before .before .before .before .before .before .before .before .load-layer .ensures) _ _ (chosen (c .before .before .before .before)))
 
 enum-told : tie.Need-enum-told Inv-loop μ-loop
 enum-told c = search needs
 
 same-length : tie.Need-same-length Inv-loop μ-loop
-same-length c = c .before .before .before .before .before .before .load-layer .ensures .same ∙ head (c .before .before .before .before .before .before .before .before .before .before .before) .same
+same-length c = c .before .before .before .before .before .before .before .load-layer .ensures .same ∙ head (c .before .before .before .before .before .before .before .before .before .before .before .before) .same
 
 same-length-2 : tie.Need-same-length-2 Inv-loop μ-loop
-same-length-2 c = head (c .before .before .before .before .before .before .before .before .before .before .before) .filled .same
+same-length-2 c = head (c .before .before .before .before .before .before .before .before .before .before .before .before) .kept
 
 returns : tie.Need-returns Inv-loop μ-loop
 returns c =
-    let a = c .before .before .before .before .before .before .before .before .before .before .before in
+    let told = c .before in
+    let a = told .before .before .before .before .before .before .before .before .before .before .before in
     absurd
-    (emit-nothing _ (ready-lawful _ _ (start a .pre .ready)) _ _ _ _ _ _ (start a .pre .fits) _ _ _ _ _ (head a) (omega (arith, c .before .before .before .before .before .before .before .before .before .if1 .taken)) _ _ (c .before .before .before .before .before .before .load-layer .ensures) (rw (c .enum-told .given .1) at (c .before .before .choose .ensures)))
+    (emit-nothing _ (ready-lawful _ _ (start a .pre .ready)) _ _ _ _ _ _ _ _ _ _ _ (head a) (omega (arith, told .before .before .before .before .before .before .before .before .before .if1 .taken)) _ _ (told .before .before .before .before .before .before .load-layer .ensures) (rw (told .enum-told .given .1) at (told .before .before .choose .ensures)))
 
 same-length-3 : tie.Need-same-length-3 Inv-loop μ-loop
-same-length-3 c = head (c .before .before) .same
+same-length-3 c = head (c .before .before .before) .same
 
 same-length-4 : tie.Need-same-length-4 Inv-loop μ-loop
-same-length-4 c = head (c .before .before) .filled .same
+same-length-4 c = head (c .before .before .before) .kept
 
 returns-2 : tie.Need-returns-2 Inv-loop μ-loop
 unfolding rulesFor rulesOf registerLoad setupDelay
 returns-2 c =
-    let a = c .before .before in
+    let a = c .before .before .before in
     let s = start a in
-    emit-done _ (ready-lawful _ _ (s .pre .ready)) _ _ _ _ _ _ (s .pre .fits) _ _ _ _ _ (head a) (omega arith) (s .pre .reaching .least)
-    (omega (arith, s .pre .ready .sink, ready-cells _ _ (s .pre .ready)))
+    let figure = toZ-ofZ {w = w32} {z = a .loop .at .slack} (record { sfits = c .struct-told2 .given .1 .1 .1 .1 .1 .0 .1 }) in
+    rw figure
+    (emit-done _ (ready-lawful _ _ (s .pre .ready)) _ _ _ _ _ _ _ _ _ _ _ (head a) (omega arith) (s .pre .reaching .least)
+    (omega (arith, s .pre .ready .sink, ready-cells _ _ (s .pre .ready))))
 
 pub emit-spec : {M : Type 1} → statement M
 emit-spec =

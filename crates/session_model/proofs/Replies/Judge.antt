@@ -27,7 +27,9 @@ module _ (q : Question) (ws : List ℕ) where
   after-checks passes e = go (judgeRoute (rulesAsked q) (routeIn ws)) refl
     where
       go : (v : Verdict) → judgeRoute (rulesAsked q) (routeIn ws) ≡ v → JudgeAnswered q ws v
-      go Accepted j = isAccepted e (accepted-legal (rulesAsked q) (routeIn ws) (good-visits ws (lists-good q (badList ws) e)) .0 j)
+      go (Accepted z) j =
+          let h = accepted-legal (rulesAsked q) (routeIn ws) (good-visits ws (lists-good q (badList ws) e)) z .0 j in
+          rw (h .1) (isAccepted e (h .0))
       go (AtFault i f) j = isAtFault i f e (fault-first (rulesAsked q) (routeIn ws) i f .0 j)
       go (Refused r) j = absurd (judge-answers (rulesAsked q) (routeIn ws) r j)
 

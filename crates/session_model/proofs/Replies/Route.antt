@@ -15,7 +15,7 @@ use Rattle.answers.specs.declared.answer.Answer.{Answer}
 use Rattle.answers.specs.declared.answer.Refusal.{Refusal}
 use Rattle.emission.proofs.Visits.{written-length}
 use Rattle.verdict.proofs.Accepted.{legal-visits}
-use Rattle.router.specs.Route.{Question, rulesAsked, cellsAsked, cellWords, Check, passes, fails, checks, figuresOf, answerAfter, answerOf, visitsAfter, visitsOf, zeroed, scratchAfter, scratchOf}
+use Rattle.router.specs.Route.{Question, rulesAsked, cellsAsked, cellWords, Check, passes, fails, checks, figuresOf, answerAfter, answerUnder, answerOf, visitsAfter, visitsUnder, visitsOf, zeroed, scratchAfter, scratchOf}
 use Rattle.router.proofs.Passed.{asked-best, asked-none}
 use Rattle.router.proofs.Demand2.{Demand2, demand-2}
 use Rattle.session_model.specs.Asks.Asking.{asked}
@@ -43,15 +43,15 @@ module _ (q : Question) (scratch visits : List ℕ) where
   zeros-taken = take-at (replicate (cellsAsked q * cellWords) 0) _ (zeroedWords passes q) (length-replicate {A = ℕ} (cellsAsked q * cellWords) 0)
 
   refused-answered : (r : Refusal) → checks q (length scratch) ≡ fails r → RouteAnswered q (length scratch) (length visits) (routeGives q scratch visits)
-  unfolding routeGives answerOf answerAfter visitsOf visitsAfter scratchOf scratchAfter zeroedWords
+  unfolding routeGives answerOf answerUnder answerAfter visitsOf visitsUnder visitsAfter scratchOf scratchAfter zeroedWords
   refused-answered r e = rw e (isRefused r e)
 
   module _ (pass : checks q (length scratch) ≡ passes) where
     by-demand : {after : List ℕ} {a : Answer} → Demand2 q visits after a → RouteAnswered q (length scratch) (length visits) (record { answer = a; filled = take (filledWords a) after; zeroed = zeros q })
     unfolding figuresOf
-    by-demand (Demand2.isFound r b fits e) =
+    by-demand (Demand2.isFound r b z fits e) =
         rw (e, take-at (written r) _ _ (written-words (rulesAsked q) r (b .isLegal))) (isFound r pass b fits)
-    by-demand (Demand2.noRoom r b short e) = noRoom r pass b short
+    by-demand (Demand2.noRoom r b z short e) = noRoom r pass b short
     by-demand (Demand2.noRoute n e) = noRoute pass n
 
     passed-answered : RouteAnswered q (length scratch) (length visits) (routeGives q scratch visits)

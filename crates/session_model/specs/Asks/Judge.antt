@@ -5,6 +5,7 @@ use mathlib.Core.List.{List}
 use mathlib.Core.Path.{_≡_}
 use lib.Dec.{T}
 use Rattle.rules.specs.Legal.{legal}
+use Rattle.rules.specs.Slack.{leastSlack}
 use Rattle.answers.specs.declared.answer.Refusal.{Refusal}
 use Rattle.answers.specs.declared.verdicts.VisitFault.{VisitFault}
 use Rattle.answers.specs.declared.verdicts.Verdict.{Verdict}
@@ -27,7 +28,7 @@ pub record AlikeJudges (a b : JudgeAsk) : Type 0 where
 pub data JudgeAnswered (q : Question) (ws : List ℕ) : Verdict → Type 0 where
   -- 1 to 5 or 17, the first in its order
   notJudged : (r : Refusal) → listChecks q (badList ws) ≡ fails r → JudgeAnswered q ws (Verdict.Refused r)
-  -- the route in the words is legal
-  isAccepted : listChecks q (badList ws) ≡ passes → T (legal (rulesAsked q) (routeIn ws)) → JudgeAnswered q ws Verdict.Accepted
-  -- "the first visit at fault (from 0) and the fault there"
+  -- the route in the words is legal; with its smallest spare figure
+  isAccepted : listChecks q (badList ws) ≡ passes → T (legal (rulesAsked q) (routeIn ws)) → JudgeAnswered q ws (Verdict.Accepted (leastSlack (rulesAsked q) (routeIn ws)))
+  -- "the first visit at fault (from 0) and the fault there", a period fault with the figure of its close
   isAtFault : (i : ℕ) (f : VisitFault) → listChecks q (badList ws) ≡ passes → FirstFault (rulesAsked q) (routeIn ws) i f → JudgeAnswered q ws (Verdict.AtFault i f)

@@ -55,8 +55,8 @@ zeros q = replicate (cellsAsked q * cellWords) 0
 unfoldable pub bestReply : Question → ℕ → Outcome → RouteReply
 bestReply q room (found r) =
     cond (leb (2 * (steps r + 1)) room)
-    (record { answer = Answer.Found (figuresOf (q .tables .period) r); filled = written r; zeroed = zeros q })
-    (record { answer = Answer.NoRoom (figuresOf (q .tables .period) r); filled = []; zeroed = zeros q })
+    (record { answer = Answer.Found (figuresOf (rulesAsked q) (q .tables .period) r); filled = written r; zeroed = zeros q })
+    (record { answer = Answer.NoRoom (figuresOf (rulesAsked q) (q .tables .period) r); filled = []; zeroed = zeros q })
 bestReply q room none = record { answer = Answer.Refused Refusal.NoRoute; filled = []; zeroed = zeros q }
 
 unfoldable pub checkedReply : Check → Question → ℕ → RouteReply
@@ -72,7 +72,7 @@ pub data RouteAnswered (q : Question) (scratch room : ℕ) : RouteReply → Type
   isRefused : (r : Refusal) → checks q scratch ≡ fails r → RouteAnswered q scratch room (record { answer = Answer.Refused r; filled = []; zeroed = [] })
   -- 7: no legal route exists; the scratch words are zeroed
   noRoute : checks q scratch ≡ passes → ((r : Route) → T (legal (rulesAsked q) r) → ⊥) → RouteAnswered q scratch room (record { answer = Answer.Refused Refusal.NoRoute; filled = []; zeroed = zeros q })
-  -- 8: the best legal route's figures, counted off it; its visits need more words than lent, and none is filled
-  noRoom : (r : Route) → checks q scratch ≡ passes → IsBest (rulesAsked q) r → room < 2 * (steps r + 1) → RouteAnswered q scratch room (record { answer = Answer.NoRoom (figuresOf (q .tables .period) r); filled = []; zeroed = zeros q })
+  -- 8: the best legal route's figures, counted off it, its smallest spare figure among them; its visits need more words than lent, and none is filled
+  noRoom : (r : Route) → checks q scratch ≡ passes → IsBest (rulesAsked q) r → room < 2 * (steps r + 1) → RouteAnswered q scratch room (record { answer = Answer.NoRoom (figuresOf (rulesAsked q) (q .tables .period) r); filled = []; zeroed = zeros q })
   -- 0: the best legal route, its figures counted off it and its visits filled in
-  isFound : (r : Route) → checks q scratch ≡ passes → IsBest (rulesAsked q) r → 2 * (steps r + 1) ≤ room → RouteAnswered q scratch room (record { answer = Answer.Found (figuresOf (q .tables .period) r); filled = written r; zeroed = zeros q })
+  isFound : (r : Route) → checks q scratch ≡ passes → IsBest (rulesAsked q) r → 2 * (steps r + 1) ≤ room → RouteAnswered q scratch room (record { answer = Answer.Found (figuresOf (rulesAsked q) (q .tables .period) r); filled = written r; zeroed = zeros q })

@@ -1,7 +1,11 @@
--- Four stores from the start.
+-- Five stores from the start.
+use mathlib.Core.Path.{ap, _∙_}
 use native.Mathlib.Omega.{arith}
 use lib.ListN.{length-set}
 use borrow.Author.Needs.{needs}
+use mir.Facts.{toZ-ofZ}
+use mir.Syntax.{w32}
+use Rattle.timing.specs.Slack.{magnitude}
 use Rattle.bench_entry.proofs.Told.{stored}
 use Rattle.bench_entry.proofs.figures.write_figures.Statement.{statement}
 use Rattle.bench_entry.proofs.figures.write_figures.Tie as tie
@@ -27,11 +31,22 @@ answer-fault-requires c κs = search needs
 slice-write-figures-4 : tie.Need-slice-write-figures-4
 slice-write-figures-4 c = search needs
 
+slack-magnitude-requires : tie.Need-slack-magnitude-requires
+slack-magnitude-requires c κs = search needs
+
+slice-write-figures-5 : tie.Need-slice-write-figures-5
+slice-write-figures-5 c = simp length-set (omega (arith, c .before .before .before .before .before .before .pre))
+
 same-length : tie.Need-same-length
 same-length c = search needs
 
 returns : tie.Need-returns
-returns c = stored _ (c .before .before .before .before .args .figures .now) (c .before .before .figures .result) _ (c .before .before .figures .ensures) (c .answer-fault .ensures) (c .before .before .before .before .pre)
+returns c =
+    let told = c .before in
+    let figures = told .before .before .before in
+    let start = figures .before .before in
+    let own = toZ-ofZ {w = w32} {z = figures .figures .result .slack} (record { sfits = told .struct-told .given .1 .1 .1 .0 .1 }) in
+    stored _ (start .args .figures .now) (figures .figures .result) _ _ (figures .figures .ensures) (told .before .answer-fault .ensures) (c .slack-magnitude .ensures ∙ ap magnitude own) (start .pre)
 
 pub write-figures-spec : {M : Type 1} → statement M
 write-figures-spec =
@@ -44,5 +59,7 @@ write-figures-spec =
     slice-write-figures-3
     answer-fault-requires
     slice-write-figures-4
+    slack-magnitude-requires
+    slice-write-figures-5
     same-length
     returns)

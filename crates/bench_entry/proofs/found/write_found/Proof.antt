@@ -1,4 +1,4 @@
--- Four stores from the start.
+-- Five stores from the start.
 use native.Mathlib.Omega.{arith}
 use lib.ListN.{length-set}
 use borrow.Author.Needs.{needs}
@@ -18,6 +18,9 @@ slice-write-words-3 c = simp length-set (omega arith)
 slice-write-words-4 : tie.Need-slice-write-words-4
 slice-write-words-4 c = simp length-set (omega arith)
 
+slice-write-words-5 : tie.Need-slice-write-words-5
+slice-write-words-5 c = simp length-set (omega arith)
+
 same-length : tie.Need-same-length
 same-length c = search needs
 
@@ -32,5 +35,6 @@ write-found-spec =
     slice-write-words-2
     slice-write-words-3
     slice-write-words-4
+    slice-write-words-5
     same-length
     returns)

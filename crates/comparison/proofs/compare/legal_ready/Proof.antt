@@ -5,6 +5,7 @@ use mathlib.Core.Logic.{⊎-elim}
 use mathlib.Core.Path.{_≡_, refl, sym, ap, _∙_}
 use native.Mathlib.Omega.{arith}
 use borrow.Author.Needs.{needs}
+use lib.IntN.{ℤ}
 use lib.ListN.{length}
 use Rattle.plan.proofs.Truth.{decided, is-true, is-false}
 use Rattle.answers.specs.declared.verdicts.Verdict.{Verdict}
@@ -12,8 +13,9 @@ use Rattle.answers.specs.declared.verdicts.Verdict.the-variants.{Accepted, AtFa
 use Rattle.problem.specs.Problem.{rulesFor}
 use Rattle.rules.specs.Rules.{Rules}
 use Rattle.rules.specs.Legal.{Route, legal}
+use Rattle.rules.specs.Slack.{leastSlack}
 use Rattle.verdict.specs.Verdict.{routeIn, judgeRoute}
-use Rattle.verdict.proofs.Accepted.{accepted-legal}
+use Rattle.verdict.proofs.Accepted.{accepted-legal, legal-accepted}
 use Rattle.verdict.proofs.Routes.{good-visits}
 use Rattle.comparison.proofs.compare.legal_ready.Statement.{statement}
 use Rattle.comparison.proofs.compare.legal_ready.Tie as tie
@@ -28,20 +30,20 @@ abbrev route : tie.Start → Route
 route s = routeIn (s .args .words .now)
 
 abbrev accepts : Verdict → Bool
-accepts Accepted = true
+accepts (Accepted z) = true
 accepts (AtFault i f) = false
 accepts (Refused k) = false
 
 accepts-legal : (R : Rules) (r : Route) → 2 ≤ length r → accepts (judgeRoute R r) ≡ legal R r
 accepts-legal R r h = go (judgeRoute R r) refl
   where
-    not : (judgeRoute R r ≡ Accepted → ⊥) → false ≡ legal R r
-    not n = ⊎-elim (λ k. absurd (n (accepted-legal R r h .1 k))) (λ k. sym (is-false (legal R r) k)) (decided (legal R r))
+    not : ((z : ℤ) → judgeRoute R r ≡ Accepted z → ⊥) → false ≡ legal R r
+    not n = ⊎-elim (λ k. absurd (n (leastSlack R r) (legal-accepted R r k))) (λ k. sym (is-false (legal R r) k)) (decided (legal R r))
 
     go : (v : Verdict) → judgeRoute R r ≡ v → accepts v ≡ legal R r
-    go Accepted e = sym (is-true (legal R r) (accepted-legal R r h .0 e))
-    go (AtFault i f) e = not (λ k. let z : _≡_ {A = ℕ} 0 1 = cc in omega arith)
-    go (Refused k) e = not (λ k. let z : _≡_ {A = ℕ} 0 1 = cc in omega arith)
+    go (Accepted z) e = sym (is-true (legal R r) (accepted-legal R r h z .0 e .0))
+    go (AtFault i f) e = not (λ y k. let z : _≡_ {A = ℕ} 0 1 = cc in omega arith)
+    go (Refused k) e = not (λ y k. let z : _≡_ {A = ℕ} 0 1 = cc in omega arith)
 
 -- what the verdict told says whether the list is legal
 told : (c : tie.After-judge-ready) (v : Verdict) → c .judge-ready .result ≡ v → accepts v ≡ legal (rules (start c)) (route (start c))

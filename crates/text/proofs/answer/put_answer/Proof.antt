@@ -3,7 +3,7 @@ use Prim.Native.Nat.{_+_, _*_, _≤_}
 use native.Mathlib.Omega.{arith}
 use lib.ListN.{length}
 use borrow.Author.Needs.{needs}
-use Rattle.text.proofs.Lines.{within-found, text-found, text-no-room, text-refused, figures-length}
+use Rattle.text.proofs.Lines.{within-found, text-found, text-no-room, text-refused}
 use Rattle.text.proofs.Texts.{put-then, put-length}
 use Rattle.text.proofs.answer.put_answer.Statement.{statement}
 use Rattle.text.proofs.answer.put_answer.Tie as tie
@@ -23,7 +23,7 @@ add-put-visits c = search needs
 put-visits-requires : tie.Need-put-visits-requires
 put-visits-requires c κs = let f = c .before .before .before .before .before .before .before .answer .given .0 .0 in
     let within : 2 * (f .steps + 1) ≤ length (c .before .before .before .before .before .before .before .before .before .before .before .args .visits .now) = within-found _ f _ (c .before .before .before .before .before .before .before .answer .given .1) (c .before .before .before .before .before .before .before .before .before .before .before .pre .0) in
-    (within, omega (arith, put-length (c .before .before .before .before .put-figures .ensures), c .before .before .before .before .put-figures .ensures .next, figures-length f (omega arith) (omega arith) (omega arith)))
+    (within, omega (arith, put-length (c .before .before .before .before .put-figures .ensures .0), c .before .before .before .before .put-figures .ensures .1))
 
 enum-told : tie.Need-enum-told
 enum-told c = search needs
@@ -44,7 +44,7 @@ same-length : tie.Need-same-length
 same-length c = search needs
 
 returns : tie.Need-returns
-returns c = rw (text-found _ _ _ (c .before .before .before .before .before .before .before .before .before .before .answer .given .1)) at (put-then (c .before .before .before .before .before .before .before .put-figures .ensures) (c .before .before .put-visits .ensures))
+returns c = rw (text-found _ _ _ (c .before .before .before .before .before .before .before .before .before .before .answer .given .1)) at (put-then (c .before .before .before .before .before .before .before .put-figures .ensures .0) (c .before .before .put-visits .ensures))
 
 same-length-2 : tie.Need-same-length-2
 same-length-2 c = search needs

@@ -20,19 +20,19 @@ number-requires-3 : tie.Need-number-requires-3
 number-requires-3 c κs = search needs
 
 expect-requires-3 : tie.Need-expect-requires-3
-expect-requires-3 c κs = eq-eqb (c .number3 .result) 5 (c .number3 .ensures)
+expect-requires-3 c κs = eq-eqb (c .number3 .result) 0 (c .number3 .ensures)
 
 number-requires-4 : tie.Need-number-requires-4
 number-requires-4 c κs = search needs
 
 expect-requires-4 : tie.Need-expect-requires-4
-expect-requires-4 c κs = eq-eqb (c .number4 .result) 17 (c .number4 .ensures)
+expect-requires-4 c κs = eq-eqb (c .number4 .result) 5 (c .number4 .ensures)
 
 number-requires-5 : tie.Need-number-requires-5
 number-requires-5 c κs = search needs
 
 expect-requires-5 : tie.Need-expect-requires-5
-expect-requires-5 c κs = eq-eqb (c .number5 .result) 0 (c .number5 .ensures)
+expect-requires-5 c κs = eq-eqb (c .number5 .result) 17 (c .number5 .ensures)
 
 number-requires-6 : tie.Need-number-requires-6
 number-requires-6 c κs = search needs
@@ -44,13 +44,19 @@ number-requires-7 : tie.Need-number-requires-7
 number-requires-7 c κs = search needs
 
 expect-requires-7 : tie.Need-expect-requires-7
-expect-requires-7 c κs = eq-eqb (c .number7 .result) 17 (c .number7 .ensures)
+expect-requires-7 c κs = eq-eqb (c .number7 .result) 0 (c .number7 .ensures)
 
 number-requires-8 : tie.Need-number-requires-8
 number-requires-8 c κs = search needs
 
 expect-requires-8 : tie.Need-expect-requires-8
-expect-requires-8 c κs = eq-eqb (c .number8 .result) 18 (c .number8 .ensures)
+expect-requires-8 c κs = eq-eqb (c .number8 .result) 17 (c .number8 .ensures)
+
+number-requires-9 : tie.Need-number-requires-9
+number-requires-9 c κs = search needs
+
+expect-requires-9 : tie.Need-expect-requires-9
+expect-requires-9 c κs = eq-eqb (c .number9 .result) 18 (c .number9 .ensures)
 
 returns : tie.Need-returns
 returns c = search needs
@@ -75,4 +81,6 @@ verdicts-spec =
     expect-requires-7
     number-requires-8
     expect-requires-8
+    number-requires-9
+    expect-requires-9
     returns)

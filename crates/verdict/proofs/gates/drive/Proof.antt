@@ -3,12 +3,14 @@ use Prim.Native.Nat.{_+_, _-_, min}
 use mathlib.Core.Path.{_≡_, refl, sym, _∙_}
 use native.Mathlib.Omega.{arith}
 use borrow.Author.Needs.{needs}
-use borrow.Author.Tests.{le-leb, leb-true, not-true, not-false}
+use borrow.Author.Tests.{le-leb, not-true, not-false}
 use lib.Dec.{leb}
+use mir.Syntax.{w32}
+use mir.Facts.{toZ-ofZ}
 use Rattle.timing.specs.Elements.{bufferOf, driverOf}
 use Rattle.timing.specs.Formulas.{gateDelay, bufferDriver, bufferLoad}
 use Rattle.verdict.specs.Gates.{delayCap}
-use Rattle.verdict.proofs.Passing.{bufferOfCode, buffer-heavy, buffer-right, buffer-carried}
+use Rattle.verdict.proofs.Passing.{bufferOfCode, buffer-heavy, buffer-step}
 use Rattle.verdict.proofs.gates.drive.Statement.{statement}
 use Rattle.verdict.proofs.gates.drive.Tie as tie
 
@@ -42,8 +44,8 @@ returns : tie.Need-returns
 returns c =
     let m = c .before in
     let s = start m in
-    λ P from to span t k.
-    buffer-heavy P (s .args .t1) from to span t (s .args .at .cell) (s .args .code) (λ z. omega (arith, s .pre .1 .0)) (λ z. omega (arith, s .pre .1 .1, s .pre .0 .valid .count)) (rw (k .load) at (le-leb _ _ (s .pre .0 .light))) (own m ∙ not-true _ (c .if1 .taken))
+    λ P from to a k.
+    buffer-heavy P (s .args .t1) from to a (s .args .at .cell) (s .args .code) (λ z. omega (arith, s .pre .1 .0)) (λ z. omega (arith, s .pre .1 .1, s .pre .0 .valid .count)) (rw (k .load) at (le-leb _ _ (s .pre .0 .light))) (own m ∙ not-true _ (c .if1 .taken))
 
 driver-requires : tie.Need-driver-requires
 driver-requires c κs = search needs
@@ -61,21 +63,18 @@ capped-requires c κs = search needs
 returns-2 : tie.Need-returns-2
 unfolding bufferOf driverOf
 returns-2 c =
-    let m = c .before .before .before .before in
+    let g = c .before in
+    let m = g .before .before .before .before in
     let s = start m in
     let b = bufferOfCode (s .args .t1) (s .args .code) in
     let load : m .before .before .load .result .0 ≡ bufferLoad b = m .before .before .load .ensures in
-    let driver : c .before .before .driver .result ≡ bufferDriver b = c .before .before .driver .ensures in
-    let after : c .before .after .result .0 ≡ s .args .at .delay .0 + gateDelay (bufferDriver b) (s .args .at .load .0) = rw driver at (c .before .after .ensures) in
-    let delay : c .capped .result .0 ≡ min (s .args .at .delay .0 + gateDelay (bufferDriver b) (s .args .at .load .0)) delayCap = rw after at (c .capped .ensures) in
-    let listed = own m ∙ not-false _ (c .before .before .before .if1 .left) in
-    λ P from to span t k.
-    record {
-      isRight = buffer-right P (s .args .t1) from to span t (s .args .at .cell) (s .args .code) (λ z. omega (arith, s .pre .1 .0)) (λ z. omega (arith, s .pre .1 .1, s .pre .0 .valid .count)) (rw (k .load) at (le-leb _ _ (s .pre .0 .light))) listed;
-      cell = refl;
-      carries = buffer-carried P (s .args .t1) from to span t (s .args .at .cell) (s .args .code) (λ z. omega (arith, s .pre .1 .0)) (λ z. omega (arith, s .pre .1 .1, s .pre .0 .valid .count)) (s .args .at) _ k load delay;
-      light = λ e. rw load (leb-true (bufferLoad b) (s .args .t1 .limit .0) listed);
-    }
+    let driver : g .before .before .driver .result ≡ bufferDriver b = g .before .before .driver .ensures in
+    let after : g .before .after .result .0 ≡ s .args .at .delay .0 + gateDelay (bufferDriver b) (s .args .at .load .0) = rw driver at (g .before .after .ensures) in
+    let delay : g .capped .result .0 ≡ min (s .args .at .delay .0 + gateDelay (bufferDriver b) (s .args .at .load .0)) delayCap = rw after at (g .capped .ensures) in
+    let listed = own m ∙ not-false _ (g .before .before .before .if1 .left) in
+    let kept = toZ-ofZ {w = w32} {z = s .args .at .slack} (record { sfits = c .struct-told .given .1 .1 .1 .0 .1 }) in
+    λ P from to a k.
+    buffer-step P (s .args .t1) from to a (s .args .at .cell) (s .args .code) (λ z. omega (arith, s .pre .1 .0)) (λ z. omega (arith, s .pre .1 .1, s .pre .0 .valid .count)) (rw (k .load) at (le-leb _ _ (s .pre .0 .light))) listed (s .args .at) _ k refl load delay kept
 
 pub drive-spec : {M : Type 1} → statement M
 drive-spec =

@@ -1,12 +1,9 @@
 -- One case a kind of gate.
-use mathlib.Core.Path.{_≡_, refl, sym, _∙_}
-use mathlib.Core.Bool.{Bool, false}
-use mathlib.Core.Logic.{_⊎_, inl, inr}
+use mathlib.Core.Path.{refl, sym, _∙_}
 use native.Mathlib.Omega.{arith}
 use borrow.Author.Needs.{needs}
 use borrow.Author.Tests.{leb-true, not-true, not-false}
-use Rattle.verdict.specs.Gates.{Carries, GateIs}
-use Rattle.verdict.proofs.Passing.{gate-heavy, gate-plain, plain-carried, between}
+use Rattle.verdict.proofs.Passing.{gate-heavy, plain-step, between}
 use Rattle.verdict.proofs.gates.pass_gate.Statement.{statement}
 use Rattle.verdict.proofs.gates.pass_gate.Tie as tie
 
@@ -16,8 +13,8 @@ at-most-requires c κs = search needs
 returns : tie.Need-returns
 returns c =
     let s = c .before .before in
-    λ P from to span t k.
-    gate-heavy P (s .args .elements) from to (s .args .last) span t (s .args .at .cell) (s .args .code) (rw (k .load) at (sym (c .before .at-most .ensures) ∙ not-true _ (c .if1 .taken)))
+    λ P from to a k.
+    gate-heavy P (s .args .elements) from to (s .args .last) a (s .args .at .cell) (s .args .code) (rw (k .load) at (sym (c .before .at-most .ensures) ∙ not-true _ (c .if1 .taken)))
 
 returns-2 : tie.Need-returns-2
 returns-2 c =
@@ -25,13 +22,7 @@ returns-2 c =
     let s = m .before in
     let light = sym (m .at-most .ensures) ∙ not-false _ (c .before .if1 .left) in
     rw (c .if2 .taken)
-    (λ P from to span t k.
-    record {
-      isRight = gate-plain P (s .args .elements) from to (s .args .last) span t (s .args .at .cell) (rw (k .load) at light);
-      cell = refl;
-      carries = plain-carried P (s .args .elements) from to t (s .args .at) k;
-      light = λ e. leb-true (s .args .at .load .0) (s .args .elements .limit .0) light;
-    })
+    (λ P from to a k. plain-step P (s .args .elements) from to (s .args .last) a (s .args .at .cell) (rw (k .load) at light) (s .args .at) k refl)
 
 close-span-requires : tie.Need-close-span-requires
 close-span-requires c κs =

@@ -1,10 +1,13 @@
 -- The visits before i are right, and the verdict is that on the others.
 use Prim.Native.Nat.{_*_, _-_, _≤_}
-use mathlib.Core.Path.{_≡_, sym, _∙_}
+use mathlib.Core.Path.{sym, ap, _∙_}
 use native.Mathlib.Omega.{arith}
 use native.Mathlib.Numerals.{add-one}
 use borrow.Author.Needs.{needs}
 use lib.ListN.{length}
+use mir.Syntax.{w32}
+use mir.Facts.{toZ-ofZ}
+use Rattle.answers.specs.declared.verdicts.Verdict.the-variants.{Accepted}
 use Rattle.verdict.specs.Visits.{Judging}
 use Rattle.verdict.proofs.Routes.{good-even, good-length}
 use Rattle.verdict.proofs.Judged.{last-is, judged-on, judged-fault, judged-all}
@@ -87,9 +90,10 @@ loop-again c =
 
 returns-2 : tie.Need-returns-2 Inv-loop μ-loop
 returns-2 c =
-    let l = c .before in
+    let l = c .before .before in
     let s = start l in
-    sym (judged-all (s .args .p) (s .args .plan .now) (s .args .words .now) (s .pre .0) (s .pre .1 .0) (l .loop .i) (l .loop .at) (l .loop .inv .1) (omega (arith, good-even _ (s .pre .1 .0))))
+    let figure = toZ-ofZ {w = w32} {z = l .loop .at .slack} (record { sfits = c .struct-told .given .1 .1 .1 .0 .1 }) in
+    ap Accepted figure ∙ sym (judged-all (s .args .p) (s .args .plan .now) (s .args .words .now) (s .pre .0) (s .pre .1 .0) (l .loop .i) (l .loop .at) (l .loop .inv .1) (omega (arith, good-even _ (s .pre .1 .0))))
 
 pub judge-rest-spec : {M : Type 1} → statement M
 judge-rest-spec =

@@ -1,11 +1,10 @@
 -- The first visit's three tests.
 use mathlib.Core.Path.{_≡_, refl, sym, _∙_}
-use native.Mathlib.Omega.{arith}
 use borrow.Author.Needs.{needs}
 use borrow.Author.Tests.{leb-true, not-true, not-false}
 use lib.Dec.{leb}
 use Rattle.timing.specs.Formulas.{registerLoad}
-use Rattle.verdict.proofs.Arriving.{first-cell, first-site, first-load, first-right, start-carried}
+use Rattle.verdict.proofs.Arriving.{first-cell, first-site, first-load, first-right, start-at}
 use Rattle.verdict.proofs.visits.judge_first.Statement.{statement}
 use Rattle.verdict.proofs.visits.judge_first.Tie as tie
 
@@ -51,8 +50,8 @@ returns-4 c =
     let light = own m ∙ not-false _ (c .before .if3 .left) in
     record {
       isRight = first-right (s .args .p) (s .args .plan .now) (s .pre) (record { cell = s .args .cell; code = s .args .code }) (seven .before .if1 .left) (seven .if2 .left) light;
-      cell = refl;
-      carries = start-carried (s .args .p) (s .args .plan .now) (s .pre) _ _ (m .before .load .ensures) (c .start-delay .ensures);
+      here = start-at (s .args .p) (s .args .plan .now) (s .pre) _ _ refl (m .before .load .ensures) (c .start-delay .ensures);
+      slack = refl;
       light = λ e. rw (m .before .load .ensures) (leb-true (registerLoad (s .args .p .elements .register)) (s .args .p .elements .limit .0) light);
     }
 

@@ -5,11 +5,12 @@ use mathlib.Core.Path.{_≡_, sym, _∙_}
 use native.Mathlib.Omega.{arith}
 use borrow.Author.Needs.{needs}
 use borrow.Author.Tests.{not-true, not-false}
+use mir.Syntax.{w32}
+use mir.Facts.{toZ-ofZ}
 use Rattle.timing.specs.Elements.{WireInRange}
 use Rattle.timing.specs.Formulas.{wireDelay, wireLoad}
 use Rattle.timing.proofs.Bounds.{wire-delay-max}
 use Rattle.rules.specs.Legal.{Visit, cellRight, codeRight}
-use Rattle.rules.specs.Beginning.{nextPlace}
 use Rattle.problem.specs.Problem.{planFor, rulesFor}
 use Rattle.verdict.specs.Gates.{delayCap}
 use Rattle.verdict.specs.Visits.{LinkIs}
@@ -107,18 +108,19 @@ code-is c = sym (c .before .code-right .ensures) ∙ not-false _ (c .if2 .left)
 
 pass-gate-requires : tie.Need-pass-gate-requires
 pass-gate-requires c κs =
-    let e = c .before .before .before .before .before .before in
+    let d = c .before in
+    let e = d .before .before .before .before .before .before in
     let s = start (e .before .before .before .before .before .before) in
     record {
       valid = s .pre .0 .valid;
-      early = omega (arith, c .capped .ensures);
+      early = omega (arith, d .capped .ensures);
       codes = right-code (s .args .p) (s .args .plan .now) (s .pre .0) (s .args .cell) (s .args .last) (s .args .code) (code-is e);
     }
 
 returns-4 : tie.Need-returns-4
-unfolding rulesFor nextPlace
+unfolding rulesFor
 returns-4 c =
-    let d = c .before in
+    let d = c .before .before in
     let e = d .before .before .before .before .before .before in
     let w = e .before .before in
     let first = w .before .before .before .before in
@@ -128,9 +130,10 @@ returns-4 c =
     let load : d .before .before .before .plus .result .0 ≡ s .args .from .load .0 + wireLoad wire = rw (d .before .before .before .before .load .ensures) at (d .before .before .before .plus .ensures) in
     let sum : d .before .plus2 .result .0 ≡ s .args .from .delay .0 + wireDelay wire (s .args .from .load .0) = rw (d .before .before .delay .ensures) at (d .before .plus2 .ensures) in
     let delay : d .capped .result .0 ≡ min (s .args .from .delay .0 + wireDelay wire (s .args .from .load .0)) delayCap = rw sum at (d .capped .ensures) in
+    let kept = toZ-ofZ {w = w32} {z = s .args .from .slack} (record { sfits = c .before .struct-told .given .1 .1 .1 .0 .1 }) in
     λ a k.
-    rw (gate-next R a (s .args .last) (here s) (cell-is first) (s .args .from .cell) (k .cell) (link-is w .0) (code-is e))
-    (c .pass-gate .ensures (planFor (s .args .p) (s .args .plan .now)) (s .args .p .source) (s .args .p .sink) (a .span) _ (arrived R a (s .args .cell) wire (s .args .from) _ k (link-is w .1) load delay))
+    rw (← kept, gate-next R a (s .args .last) (here s) (cell-is first) (s .args .from .cell) (k .cell) (link-is w .0) (code-is e))
+    (c .pass-gate .ensures (planFor (s .args .p) (s .args .plan .now)) (s .args .p .source) (s .args .p .sink) a (arrived R a (s .args .cell) wire (s .args .from) _ k (link-is w .1) load delay))
 
 pub judge-visit-spec : {M : Type 1} → statement M
 judge-visit-spec =

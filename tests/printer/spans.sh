@@ -1,0 +1,72 @@
+# The table of spans that tools/route prints after a route.
+
+table_head="# from   to  steps  gates  delay  spare  (half-ticks; 2T ="
+guide_spans=$(guide '2T = 250')
+told "the example" 0 "$(cat examples/crossing.sheet)
+$guide_spans" "" tools/route examples/crossing.txt
+same "the spans of the example in examples/README.md" "$guide_spans" "$(sed -n 's/^    #/#/p' examples/README.md)"
+told "the guide's strip" 0 "$(guide 'route 0 2 26')" "" tools/route examples/strip.txt
+
+spans() { # NAME FIRST-LINE 2T LINES TEXT: all but the visits
+    told "the spans of $1" 0 "$2
+$table_head $3)
+$4" "" sh -c "tools/route $5 | grep '^[r#]'"
+}
+case_spans() { # NAME SED FIRST-LINE 2T LINES: the strip with a change
+    sed "$2" examples/strip.txt >"$work/case.txt"
+    spans "$1" "$3" "$4" "$5" "$work/case.txt"
+}
+# document 01's cases, worked out by hand
+buffer='$a buffer R 1 K 1 C 1'
+case_spans R2 's/^period.*/period 25/' "route 1 2 50 26" 50 "#    1    2      1      0     24     26
+#    0    1      1      0     24     26"
+case_spans R3 's/^period.*/period 12/' "route 1 2 24 0" 24 "#    1    2      1      0     24      0
+#    0    1      1      0     24      0"
+case_spans R5 's/^limit.*/limit 7/' "route 0 2 26 0" 52 "#    0    2      2      0     52      0"
+case_spans R6 's/^limit.*/limit 6/' "route 1 2 52 28" 52 "#    1    2      1      0     24     28
+#    0    1      1      0     24     28"
+case_spans R8 "s/^period.*/period 22/; $buffer" "route 0 2 22 0" 44 "#    0    2      2      1     44      0"
+case_spans R9 "s/^period.*/period 21/; $buffer" "route 1 2 42 18" 42 "#    1    2      1      0     24     18
+#    0    1      1      0     24     18"
+case_spans R10 "$buffer" "route 0 2 26 0" 52 "#    0    2      2      0     52      0"
+case_spans R12 "s/^period.*/period 22/; s/^row.*/row 0 3 0/; $buffer" "route 1 2 44 20" 44 "#    1    2      1      0     24     20
+#    0    1      1      0     24     20"
+spans R13 "route 1 4 24 0" 24 "#    4    2      2      0     24      0
+#    0    4      2      0     24      0" examples/twice.txt
+case_spans "the longest period" 's/^period.*/period 30000/' "route 0 2 30000 59948" 60000 "#    0    2      2      0     52  59948"
+spans "the wide plan" "route 4 37 300 1" 120 "#  102    0      9      1    119      1
+#  107  102      5      0     71     49
+#  114  107      7      0    107     13
+#   24  114      9      1    119      1
+#   31   24      7      0    107     13" $here/wide.txt
+spans "1,024 visits" "route 11 1023 2760 0" 460 "#   37   97     86     14    460      0
+#   88   37     85     14    460      0
+#   47   88     85     15    460      0
+#   78   47     85     15    460      0
+#   57   78     85     15    460      0
+#   68   57     85     15    460      0
+#   67   68     85     16    460      0
+#   58   67     85     14    460      0
+#   77   58     85     16    460      0
+#   48   77     85     14    460      0
+#   87   48     85     15    460      0
+#   38   87     87     14    460      0" $here/fits.txt
+
+# What a table says of the sheet before it: a chain of registers + 1 spans, their steps, their smallest spare figure.
+table_sums() { # FILE
+    awk '
+        $1 == "route" { figures = $2 + 1 " spans, " $3 " steps, spare " $5; next }
+        $1 != "#" { if (!visits++) first = $1; source = $1; next }
+        $2 == "from" { allowed = $NF + 0; at = first; least = allowed; next }
+        {
+            if ($3 != at || $6 + $7 != allowed) print "line " NR " does not fit"
+            at = $2
+            count++
+            steps += $4
+            if ($7 < least) least = $7
+        }
+        END {
+            found = count " spans, " steps " steps, spare " least
+            if (found != figures || at != source) print found " up to cell " at ", not " figures
+        }' "$1"
+}
