@@ -1,17 +1,19 @@
 //! Our route call against the published algorithm, on the same plans in the same run; the verdict against a plain judge.
 //!
-//!     route_bench                          the table, with the geometric means
+//!     route_bench                          the table, with the geometric means; then why there is no route
 //!     route_bench growth                   how the times grow with cells, buffers and load limit
 //!     route_bench agree [N] [SEED]         N small random plans on which all must agree
 //!     route_bench verdict                  the verdict on lists of up to a million visits, and a plain judge on the same
 //!     route_bench stack                    bytes of stack that a call takes
 //!     route_bench names                    the names of the table's plans
-//!     route_bench once PLAN SIDE [N]       N calls of a side (ours, noroom, peer, tuned), for a profiler
+//!     route_bench once PLAN SIDE [N]       N calls of a side (ours, noroom, peer, tuned, explain, search), for a profiler
 //!     route_bench judge LIST VISITS SIDE [N]    N verdicts of a side (ours, peer) on a list by its place, for a profiler
 //!
-//! The status is not 0 where the two differ in the number of registers, or a figure or a verdict is not what it must be.
+//! The status is not 0 where the two differ in the number of registers, a figure, a verdict or a reason is not what it
+//! must be, or a verdict or a reason takes too long.
 
 mod agree;
+mod explain;
 mod judge;
 mod lists;
 mod ours;
@@ -207,7 +209,7 @@ fn table(budget: Duration) -> bool {
     let ratios: Vec<f64> = routed.map(|(_, m)| m.ratio_no_room()).collect();
     let (mean, most) = summary(&ratios);
     println!("no room / ours, {} plans with a route: geometric mean {mean:.2}, largest {most:.2}", ratios.len());
-    true
+    explain::run(&plans.iter().map(|p| (p.name, &p.problem)).collect::<Vec<_>>(), Duration::from_millis(400))
 }
 
 type Shape = (&'static str, fn(Size) -> Problem);
@@ -246,17 +248,29 @@ fn growth(budget: Duration) -> bool {
     true
 }
 
-/// Calls of one side on one plan of the table, for a profiler.
+/// Calls of one side on one plan of the table, for a profiler. explain: why there is no route, on its version without one
+/// or on one of the plans beside the table; search: the same question on the plan as it is, where a route exists.
 fn once(name: &str, side: &str, count: u64) -> bool {
-    let Some(plan) = table_plans().into_iter().find(|p| p.name == name) else {
+    let mut all = table_plans().into_iter().map(|p| (p.name, p.problem)).collect::<Vec<_>>();
+    if side == "explain" {
+        all.iter_mut().for_each(|(_, p)| *p = explain::version(p));
+        all.extend(explain::more());
+    }
+    let Some((_, problem)) = all.into_iter().find(|p| p.0 == name) else {
         println!("no plan of the name {name}");
         return false;
     };
     let mut sides = Sides::new();
-    sides.ours.load(&plan.problem);
+    sides.ours.load(&problem);
     for _ in 0..count {
-        let p = black_box(&plan.problem);
+        let p = black_box(&problem);
         match side {
+            "explain" => drop(black_box(sides.ours.explain(p))),
+            "search" if sides.ours.explain(p).number != 19 => {
+                println!("no route on {name}");
+                return false;
+            }
+            "search" => {}
             "peer" => drop(black_box(sides.peer.route(p))),
             "tuned" => drop(black_box(sides.tuned.route(p))),
             "noroom" => drop(black_box(sides.ours.no_room(p))),

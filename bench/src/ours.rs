@@ -1,5 +1,5 @@
-//! The proved route call and verdict: `bench_entry` and `bench_judge` of crates/bench_entry, linked from
-//! target/staticlib/libbench_entry.a.
+//! The proved route call, verdict and reasons: `bench_entry`, `bench_judge` and `bench_explain` of crates/bench_entry,
+//! linked from target/staticlib/libbench_entry.a.
 
 use crate::problem::Problem;
 
@@ -40,6 +40,23 @@ unsafe extern "C" {
         found: *mut u64,
         found_len: usize,
     ) -> u16;
+
+    fn bench_explain(
+        plan: *const u8,
+        plan_len: usize,
+        width: u16,
+        height: u16,
+        tables: *const u16,
+        tables_len: usize,
+        buffers: *const u16,
+        buffers_len: usize,
+        source: u16,
+        sink: u16,
+        scratch: *mut u16,
+        scratch_len: usize,
+        told: *mut u32,
+        told_len: usize,
+    ) -> u16;
 }
 
 #[derive(Clone, Copy, PartialEq, Debug)]
@@ -58,6 +75,14 @@ pub struct Found {
     pub number: u16,
     /// accepted, the visit at fault, the fault's place, the place of refusal 4, the spare half-ticks or the miss
     pub words: [u64; 5],
+}
+
+/// Why there is no route, as the entry tells it.
+#[derive(Clone, Copy, PartialEq, Debug)]
+pub struct Why {
+    pub number: u16,
+    /// the reason's place, the smallest period, the place of refusal 4, 0, 0
+    pub words: [u32; 5],
 }
 
 /// What is lent to the call, once for all calls.
@@ -116,6 +141,30 @@ impl Ours {
             )
         };
         Found { number, words }
+    }
+
+    /// Why there is no route.
+    pub fn explain(&mut self, p: &Problem) -> Why {
+        let mut words = [9u32; 5];
+        let number = unsafe {
+            bench_explain(
+                p.marks.as_ptr(),
+                p.marks.len(),
+                p.width as u16,
+                p.height as u16,
+                self.tables.as_ptr(),
+                self.tables.len(),
+                self.buffers.as_ptr(),
+                self.buffers.len(),
+                p.source as u16,
+                p.sink as u16,
+                self.scratch.as_mut_ptr(),
+                self.scratch.len(),
+                words.as_mut_ptr(),
+                words.len(),
+            )
+        };
+        Why { number, words }
     }
 
     fn call(&mut self, p: &Problem, room: usize) -> Answer {

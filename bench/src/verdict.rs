@@ -31,7 +31,7 @@ fn told(judged: Result<Legal, AtFault>) -> Found {
 }
 
 /// Least and median time of a call: 11 times at least, then for as long as `budget`.
-fn times<T>(budget: Duration, mut call: impl FnMut() -> T) -> (Duration, Duration) {
+pub fn times<T>(budget: Duration, mut call: impl FnMut() -> T) -> (Duration, Duration) {
     let begun = Instant::now();
     let mut all = Vec::new();
     while all.len() < 11 || begun.elapsed() < budget {
@@ -48,7 +48,7 @@ fn each(d: Duration, visits: usize) -> f64 {
     d.as_secs_f64() * 1e9 / visits as f64
 }
 
-fn ms(d: Duration) -> f64 {
+pub fn ms(d: Duration) -> f64 {
     d.as_secs_f64() * 1e3
 }
 

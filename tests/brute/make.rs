@@ -9,10 +9,10 @@ pub const SHAPES: [&str; 8] = ["1xN", "2xN", "up to 5x5", "sparse taps", "dead e
 const RATCHET: usize = 7;
 
 #[derive(Clone, Copy)]
-struct Density {
-    blocked: u32,
-    tap: u32,
-    cut: u32,
+pub struct Density {
+    pub blocked: u32,
+    pub tap: u32,
+    pub cut: u32,
 }
 
 fn density(r: &mut Random) -> Density {
@@ -41,11 +41,11 @@ fn marks(r: &mut Random, p: &Problem, cell: u32, d: Density) -> u32 {
     marks
 }
 
-fn sized(width: u32, height: u32) -> Problem {
+pub fn sized(width: u32, height: u32) -> Problem {
     Problem { width, height, marks: vec![0; (width * height) as usize], ..Problem::default() }
 }
 
-fn turned(r: &mut Random, a: u32, b: u32) -> Problem {
+pub fn turned(r: &mut Random, a: u32, b: u32) -> Problem {
     if r.chance(50) {
         sized(a, b)
     } else {
@@ -53,19 +53,19 @@ fn turned(r: &mut Random, a: u32, b: u32) -> Problem {
     }
 }
 
-fn scatter(r: &mut Random, p: &mut Problem, d: Density) {
+pub fn scatter(r: &mut Random, p: &mut Problem, d: Density) {
     for cell in 0..p.cells() {
         p.marks[cell as usize] = marks(r, p, cell, d);
     }
 }
 
-fn any_ends(r: &mut Random, p: &mut Problem) {
+pub fn any_ends(r: &mut Random, p: &mut Problem) {
     p.source = r.below(p.cells());
     p.sink = (p.source + 1 + r.below(p.cells() - 1)) % p.cells();
 }
 
 // The ends in the first and the last column (or row, where the plan is taller than wide).
-fn far_ends(r: &mut Random, p: &mut Problem) {
+pub fn far_ends(r: &mut Random, p: &mut Problem) {
     if p.width >= p.height {
         p.source = r.below(p.height) * p.width;
         p.sink = r.below(p.height) * p.width + p.width - 1;
@@ -242,7 +242,7 @@ fn number(r: &mut Random, kind: u32, range: u32) -> u32 {
     }
 }
 
-fn tables(r: &mut Random, p: &mut Problem, kind: u32) {
+pub fn tables(r: &mut Random, p: &mut Problem, kind: u32) {
     let n = |r: &mut Random, range: u32| {
         let kind = if kind == 4 { r.below(3) } else { kind };
         number(r, kind, range)

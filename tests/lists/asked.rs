@@ -3,7 +3,7 @@
 use crate::comparison::{compare, Choice};
 use crate::judge::{judge, Cause};
 use crate::mix::Mix;
-use crate::plan::{self, Fault};
+use crate::plan::Fault;
 use crate::question;
 use crate::rules::{legal, Measured, Problem, Visit};
 use crate::tuning::NO_PERIOD;
@@ -46,14 +46,7 @@ impl Asked {
 
     // All that is at fault with the question itself, in order.
     fn faults(&self, p: &Problem) -> Vec<Fault> {
-        let bytes: Vec<u8> = p.marks.iter().map(|&marks| marks as u8).collect();
-        let mut out = plan::faults(p.width, p.height, &bytes);
-        if p.fault().is_some() {
-            out.push((4, "element"));
-        }
-        if p.ends_fail() {
-            out.push((5, "ends"));
-        }
+        let mut out = question::faults(p);
         let lists = match self {
             Asked::Judge(list) => misfit(list),
             Asked::Better(a, b) => misfit(a) || misfit(b),

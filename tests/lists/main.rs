@@ -23,6 +23,8 @@ mod commands;
 #[allow(dead_code)]
 #[path = "../sessions/plan.rs"]
 mod plan;
+#[path = "../sessions/program.rs"]
+mod program;
 #[allow(dead_code)]
 #[path = "../sessions/question.rs"]
 mod question;
@@ -35,79 +37,21 @@ mod judge;
 mod lists;
 mod misses;
 mod mix;
+mod played;
 mod script;
 mod tuning;
 mod worked;
 
 use mix::Mix;
+use played::{plays, Script};
+use program::printed;
 use random::Random;
-use script::Script;
-use std::io::Write;
-use std::process::{Command, ExitCode, Stdio};
+use std::process::ExitCode;
 use std::time::Instant;
 
 const MISMATCHES: u64 = 5; // then the run stops
 const MIXED: (u64, u64) = (10_000, 4_000); // lists and pairs from which on no class may be rare
-const SAVED: &str = "target/lists"; // where a script that fails is kept
-const SHORT: usize = 2_000; // bytes of a script that is shown whole
-
-// What the program prints for a script. One that hangs is ended by `timeout`.
-fn printed(player: &str, text: &str) -> Result<String, String> {
-    let mut child = Command::new("timeout")
-        .args(["20", player])
-        .stdin(Stdio::piped())
-        .stdout(Stdio::piped())
-        .stderr(Stdio::piped())
-        .spawn()
-        .map_err(|e| format!("it does not start: {e}"))?;
-    let _ = child.stdin.take().unwrap().write_all(text.as_bytes()); // the program reads all before it prints
-    let out = child.wait_with_output().map_err(|e| e.to_string())?;
-    let lines = String::from_utf8_lossy(&out.stdout).to_string();
-    if !out.stderr.is_empty() {
-        Err(format!("on standard error {:?}", String::from_utf8_lossy(&out.stderr)))
-    } else if out.status.success() {
-        Ok(lines)
-    } else {
-        Err(format!("{}, its last line {:?}", out.status, lines.lines().last()))
-    }
-}
-
-fn complain(name: &str, script: &str, expected: &str, given: &str) {
-    let path = format!("{SAVED}/{name}.script");
-    let saved = std::fs::create_dir_all(SAVED).and_then(|_| std::fs::write(&path, script));
-    println!("MISMATCH, {}", if saved.is_ok() { &path } else { "not saved" });
-    if script.len() <= SHORT {
-        print!("{script}");
-    }
-    let clip = |line: &str| line.chars().take(SHORT).collect::<String>();
-    println!("  expected {}\n  given    {}", clip(expected), clip(given));
-}
-
-// Plays a script; true when all its lines are as expected.
-fn plays(player: &str, script: &Script, name: &str) -> bool {
-    let text = script.text();
-    let given = match printed(player, &text) {
-        Ok(given) => given,
-        Err(failure) => {
-            complain(name, &text, "lines", &format!("the program fails: {failure}"));
-            return false;
-        }
-    };
-    let mut lines = given.lines();
-    for (at, entry) in script.entries.iter().enumerate() {
-        let Some(expected) = &entry.line else { continue };
-        let got = lines.next().unwrap_or("(nothing)");
-        if expected != got {
-            complain(name, &script.showing(at), expected, got);
-            return false;
-        }
-    }
-    let more = lines.next();
-    if let Some(more) = more {
-        complain(name, &text, "(no more lines)", more);
-    }
-    more.is_none()
-}
+const FOLDER: &str = "lists"; // of target: where a script that fails is kept
 
 // Scripts with known lines.
 fn check_worked(player: &str) -> bool {
@@ -117,7 +61,8 @@ fn check_worked(player: &str) -> bool {
         for (who, lines) in [("judge", Ok(case.judged())), ("program", printed(player, &case.script()))] {
             if lines.as_ref() != Ok(&case.lines()) {
                 println!("the {who} at '{}'", case.name);
-                complain(&format!("worked-{}", number + 1), &case.script(), &case.lines(), &format!("{lines:?}"));
+                let name = format!("worked-{}", number + 1);
+                played::complain(FOLDER, &name, &case.script(), &case.lines(), &format!("{lines:?}"));
                 good = false;
             }
         }
@@ -135,7 +80,7 @@ fn check_bad(player: &str) -> bool {
         let expected = format!("undo 1 depth 0\nbad script: line 2: {reason}\n");
         let lines = printed(player, &script);
         if lines.as_ref() != Ok(&expected) {
-            complain("bad", &script, &expected, &format!("{lines:?}"));
+            played::complain(FOLDER, "bad", &script, &expected, &format!("{lines:?}"));
             good = false;
         }
     }
@@ -149,7 +94,7 @@ fn run(player: &str, lists: u64, pairs: u64, seed: u64) -> bool {
     let mut mismatches = !check_worked(player) as u64 + !check_bad(player) as u64;
     let mut play = |script: &Script, mix: &mut Mix| {
         mix.scripts += 1;
-        mismatches += !plays(player, script, &format!("mismatch-{seed}-{}", mix.scripts)) as u64;
+        mismatches += !plays(player, script, FOLDER, &format!("mismatch-{seed}-{}", mix.scripts)) as u64;
         if mix.scripts % 100 == 0 {
             let seconds = start.elapsed().as_secs();
             println!("{} lists, {} pairs, {mismatches} mismatches, {seconds} s", mix.lists, mix.pairs);

@@ -4,67 +4,29 @@ use crate::blocks::Block;
 use crate::commands::Command;
 use crate::mix::Mix;
 use crate::plan;
+use crate::played::Script;
 use crate::question::Tables;
 use crate::random::Random;
 use crate::rules::Problem;
 
 const LONGEST: usize = 65_000; // bytes; the program reads fewer than 65,536
 
-pub struct Entry {
-    pub command: String,
-    pub line: Option<String>, // what is printed for it
-    before: usize,            // the place of its block's first command
-    lays: bool,               // sets the plan and the tables, asks nothing
-}
-
-#[derive(Default)]
-pub struct Script {
-    pub entries: Vec<Entry>,
-    bytes: usize,
-}
-
-impl Script {
-    fn push(&mut self, command: String, line: Option<String>, before: usize, lays: bool) {
-        self.bytes += command.len() + 1;
-        self.entries.push(Entry { command, line, before, lays });
-    }
-
-    pub fn text(&self) -> String {
-        self.entries.iter().map(|entry| format!("{}\n", entry.command)).collect()
-    }
-
-    // The shortest script that shows a question.
-    pub fn showing(&self, at: usize) -> String {
-        let entry = &self.entries[at];
-        let laid = self.entries[entry.before..at].iter().filter(|other| other.lays && other.before == entry.before);
-        laid.chain([entry]).map(|entry| format!("{}\n", entry.command)).collect()
-    }
-}
-
-fn tables(p: &Problem) -> Tables {
-    let (g, h, v) = (p.register, p.horizontal, p.vertical);
-    Tables {
-        numbers: [g.r, g.k, g.c, g.setup, h.r, h.c, v.r, v.c, p.period, p.limit],
-        buffers: p.buffers.iter().map(|b| [b.r, b.k, b.c]).collect(),
-    }
-}
-
 // The plan and the tables, and no session.
 pub fn as_it_is(p: &Problem) -> String {
     let plan = Command::Plan(p.marks.iter().map(|&marks| marks as u8).collect());
-    format!("{}\n{}\n", plan.text(), Command::Tables(tables(p)).text())
+    format!("{}\n{}\n", plan.text(), Command::Tables(Tables::from(p)).text())
 }
 
-type Laid = (Command, Option<String>);
+type Laid = (Command, Vec<String>);
 
 // The plan as a session's moves lay it, or as it is, with any depth in the record; the depth then.
 fn laid(r: &mut Random, p: &Problem) -> (Vec<Laid>, u32) {
     let marks: Vec<u8> = p.marks.iter().map(|&marks| marks as u8).collect();
-    let tables = Command::Tables(tables(p));
+    let tables = Command::Tables(Tables::from(p));
     if r.chance(50) || !plan::faults(p.width, p.height, &marks).is_empty() {
         let depth = r.pick(&[0, 0, 1, 256, 257, 65_535]);
         let plan = Command::Plan(marks);
-        return (vec![(plan, None), (Command::Depth(depth), None), (tables, None)], depth);
+        return (vec![(plan, vec![]), (Command::Depth(depth), vec![]), (tables, vec![])], depth);
     }
     let mut opened = marks.clone();
     let mut moves = Vec::new();
@@ -72,13 +34,13 @@ fn laid(r: &mut Random, p: &Problem) -> (Vec<Laid>, u32) {
         let cell = r.below(p.cells());
         opened[cell as usize] ^= r.below(4) as u8;
         let line = format!("move 0 depth {depth}");
-        moves.push((Command::Move(cell, marks[cell as usize] as u32), Some(line)));
+        moves.push((Command::Move(cell, marks[cell as usize] as u32), vec![line]));
     }
     let depth = moves.len() as u32;
-    let mut out = vec![(Command::Plan(opened), None)];
-    out.push((Command::Open(p.width, p.height), Some("open 0 depth 0".to_string())));
+    let mut out = vec![(Command::Plan(opened), vec![])];
+    out.push((Command::Open(p.width, p.height), vec!["open 0 depth 0".to_string()]));
     out.extend(moves);
-    out.push((tables, None));
+    out.push((tables, vec![]));
     (out, depth)
 }
 
@@ -86,7 +48,7 @@ fn laid(r: &mut Random, p: &Problem) -> (Vec<Laid>, u32) {
 pub fn add(script: &mut Script, block: &Block, r: &mut Random, mix: &mut Mix) -> Vec<Script> {
     let p = &block.problem;
     let (laying, depth) = laid(r, p);
-    let laying: Vec<(String, Option<String>)> = laying.into_iter().map(|(c, line)| (c.text(), line)).collect();
+    let laying: Vec<(String, Vec<String>)> = laying.into_iter().map(|(c, lines)| (c.text(), lines)).collect();
     let size: usize = laying.iter().map(|(command, _)| command.len() + 1).sum();
     let (mut full, mut before) = (Vec::new(), None);
     for asked in &block.asked {
@@ -98,12 +60,12 @@ pub fn add(script: &mut Script, block: &Block, r: &mut Random, mix: &mut Mix) ->
         }
         let start = *before.get_or_insert_with(|| {
             let start = script.entries.len();
-            for (command, line) in &laying {
-                script.push(command.clone(), line.clone(), start, true);
+            for (command, lines) in &laying {
+                script.push(command.clone(), lines.clone(), start, true);
             }
             start
         });
-        script.push(command, Some(line), start, false);
+        script.push(command, vec![line], start, false);
     }
     full
 }

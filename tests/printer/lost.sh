@@ -8,8 +8,9 @@ told "job --help on a full disk" 4 "" "standard output: $full (os error 28)" ont
 told "job --version on a full disk" 4 "" "standard output: $full (os error 28)" onto_full $job --version
 told "tools/route on a full disk" 4 "" "standard output: $full (os error 28)" onto_full tools/route examples/crossing.txt
 told "a picture on a full disk" 4 "" "standard output: $full (os error 28)" onto_full tools/route --picture examples/crossing.txt
-edited 's/^period .*/period 20/'
-told "none on a full disk" 4 "" "standard output: $full (os error 28)" onto_full tools/route "$work/bad.txt"
+told "none on a full disk" 4 "" "standard output: $full (os error 28)" onto_full tools/route examples/slow.txt
+told "a drawing of none on a full disk" 4 "$(tools/route examples/slow.txt)" "/dev/full: $full (os error 28)" \
+    tools/route --svg /dev/full examples/slow.txt
 edited 's/^limit .*/limit 64/'
 told "a refusal on a full disk" 4 "" "standard output: $full (os error 28)" onto_full tools/route "$work/bad.txt"
 told "a drawing on a full disk" 4 "$(tools/route examples/crossing.txt)" "/dev/full: $full (os error 28)" tools/route --svg /dev/full examples/crossing.txt
@@ -47,4 +48,5 @@ closed_pipe tools/route --picture examples/crossing.txt
 late() { (sleep 0.2; exec "$@") | true; return "${PIPESTATUS[0]}"; }
 told "job --help without a reader" 4 "" "" late $job --help
 told "tools/route without a reader" 4 "" "" late tools/route examples/crossing.txt
+told "none without a reader" 4 "" "" late tools/route examples/slow.txt
 told "tools/route --help without a reader" 4 "" "" late tools/route --help

@@ -93,7 +93,7 @@ bad_job "a text as a job" 'row . .\n' "the job ends after 8 bytes, at the marks 
 # ---- words and files
 usage="usage: job write [TEXT]
        job read [JOB]
-       job route PRINTER TEXT [--picture] [--svg FILE]
+       job route PRINTER PLAYER TEXT [--picture] [--svg FILE]
        job script TEXT SHEET
        job verdict PLAYER TEXT SHEET
        job --help
@@ -101,12 +101,12 @@ usage="usage: job write [TEXT]
 told "the tool without words" 2 "" "$usage" $job
 told "the tool with an unknown word" 2 "" "$usage" $job wrote
 told "the tool with too many words" 2 "" "$usage" $job write a b
-told "job route with an unknown option" 2 "" "$usage" $job route $printer examples/crossing.txt --pictures
+told "job route with an unknown option" 2 "" "$usage" $job route $printer $player examples/crossing.txt --pictures
 told "the tool's version" 0 "job $(cat tools/VERSION)" "" $job --version
 told "job write on a missing file" 4 "" "examples/missing.txt: No such file or directory (os error 2)" $job write examples/missing.txt
 told "job read on a folder" 4 "" "examples: Is a directory (os error 21)" $job read examples
 told "a file's name with an escape" 4 "" "no\\u{1b}.txt: No such file or directory (os error 2)" $job write $'no\e.txt'
 cp examples/strip.txt "$work/"$'caf\xe9.txt'
-told "a file's name that is no UTF-8" 0 "route 0 2 26 0" "" sh -c "$job route $printer $work/caf*.txt | head -n 1"
+told "a file's name that is no UTF-8" 0 "route 0 2 26 0" "" sh -c "$job route $printer $player $work/caf*.txt | head -n 1"
 $job --help >"$work/out"
 same_file "the tool's help" examples/README.md "$work/out"

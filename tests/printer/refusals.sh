@@ -33,8 +33,6 @@ refuse 3 "$(line '# row 7'): cell 127 (row 7, column 15) cuts the wire below, an
 refuse 4 "$(($(line '^buffer R 3') + 6)): 7 buffers are given, and at most 6 are taken" 's/^buffer R 3 .*/&\n&\n&\n&\n&\n&/; s/^\(row .*\)\.\( *# row 7\)/\1._\2/'
 told "1,026 visits" 3 "refused 8" "$here/long.txt: the best route has more than 1024 visits, and the program prints at most so many (refusal 8)" \
     tools/route $here/long.txt
-edited 's/^period .*/period 20/'
-told "no route" 1 none "" tools/route "$work/bad.txt"
 edited 's/^limit .*/limit 64/'
 told "a refused text on standard input" 3 "refused 4" "standard input:$(line '^limit'): limit 64 is outside 0 to 63 (refusal 4)" \
     sh -c "tools/route - <$work/bad.txt"

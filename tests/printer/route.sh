@@ -16,13 +16,13 @@ told "the example, from a pipe" 0 "$example" "" from_pipe
 same "the help's first line" "$usage" "$(tools/route --help | head -n 1)"
 same "the version" "tools/route $(cat tools/VERSION)" "$(tools/route --version | cut -d, -f1)"
 
-# ---- a repository of two crates, a prover that proves nothing, and few other commands
+# ---- a repository of few crates, a prover that proves nothing, and few other commands
 fake=$work/repository
 few=$work/commands
-mkdir -p "$fake/examples" "$fake/target/tools" "$fake"/crates/{plan,other,route_printer}/src "$few"
+mkdir -p "$fake/examples" "$fake/target/tools" "$fake"/crates/{plan,other,script,route_printer,session_player}/src "$few"
 cp -r tools "$fake/"
 cp examples/README.md "$fake/examples/"
-printf 'plan:\nother: plan\nroute_printer: io plan # and a comment\n' >"$fake/crates.txt"
+printf 'plan:\nother: plan\nscript:\nroute_printer: io plan # and a comment\nsession_player: plan script\n' >"$fake/crates.txt"
 for command in bash dirname cat awk wc find mkdir touch mv mktemp rm chmod cp; do
     ln -s "$(command -v $command)" "$few/$command"
 done
@@ -41,9 +41,12 @@ echo "logic=proved and more"
 echo "rt: plan proved (unchanged since it was last proved)"
 [ ! -e "$work/broken" ] || { echo "rt: route_printer NOT PROVED (exit 1, 3 s)"; exit 1; }
 echo "rt: route_printer proved (59 s)"
+echo "rt: script proved (1 s)"
+echo "rt: session_player proved (7 s)"
 mkdir -p target/bin
 [ -x target/bin/route_printer ] || cp "$PWD/$printer" target/bin/
-echo "rt: ok, 2 crates proved"
+[ -x target/bin/session_player ] || [ -e "$work/unbuilt" ] || cp "$PWD/$player" target/bin/
+echo "rt: ok, 4 crates proved"
 END
 chmod +x "$few/rt"
 told "no rustc" 4 "" "tools/build: no rustc, the Rust compiler (Debian: package rustc), which compiles tools/job; examples/crossing.job is a job without it" \
@@ -60,15 +63,20 @@ told "a missing text before the first proof" 4 "" "missing.txt: No such file or 
 same "proofs before a good text" 0 "$(calls)"
 same "the compiler's words" "rustc -O --edition 2021 -o target/tools/NEW/job tools/job/main.rs" "$(cat "$work/compiled")"
 log=target/log/tools_route.log
-wait="proving the planner, 2 parts; this takes several minutes the first time ($log has the prover's lines)"
+wait="proving the planner, 4 parts; this takes several minutes the first time ($log has the prover's lines)"
 told "the first run" 0 "$twice" "$wait
-[2 of 2] route_printer, 59 s" in_fake "$work/twice.txt"
-same "the prover's words" "rt check route_printer" "$(cat "$work/calls")"
+[2 of 4] route_printer, 59 s
+[3 of 4] script, 1 s
+[4 of 4] session_player, 7 s" in_fake "$work/twice.txt"
+same "the prover's words" "rt check route_printer session_player" "$(cat "$work/calls")"
 same "the log" "logic=proved and more
 rt: plan proved (unchanged since it was last proved)
 rt: route_printer proved (59 s)
-rt: ok, 2 crates proved" "$(cat "$fake/$log")"
+rt: script proved (1 s)
+rt: session_player proved (7 s)
+rt: ok, 4 crates proved" "$(cat "$fake/$log")"
 told "the second run" 0 "$twice" "" in_fake "$work/twice.txt"
+told "a run without a route" 1 "$(tools/route examples/slow.txt)" "" in_fake examples/slow.txt
 touch "$fake/crates/other/src/lib.rt"
 told "a run after a change of another crate" 0 "$twice" "" in_fake "$work/twice.txt"
 same "proofs up to here" 1 "$(calls)"
@@ -77,22 +85,33 @@ in_fake "$work/twice.txt" >"$work/out" 2>/dev/null
 same "proofs after a change" 2 "$(calls)"
 in_fake "$work/twice.txt" >"$work/out" 2>/dev/null
 same "proofs when nothing has changed since" 2 "$(calls)"
+touch "$fake/crates/script/src/lib.rt"
+in_fake "$work/twice.txt" >"$work/out" 2>/dev/null
+same "proofs after a change of the second program alone" 3 "$(calls)"
+rm "$fake/target/bin/session_player"
+touch "$work/unbuilt"
+in_fake "$work/twice.txt" >"$work/out" 2>"$work/err"
+same "status where the second program is not built" 4 $?
+same "what is said then" "tools/route: rt check route_printer session_player left no target/bin/session_player" "$(tail -n 1 "$work/err")"
+rm "$work/unbuilt"
+in_fake "$work/twice.txt" >"$work/out" 2>/dev/null
+same "proofs after the second program was missing" 5 "$(calls)"
 touch "$fake/tools/job/svg.rs"
 told "a run after a change of the tool" 0 "$twice" "" in_fake "$work/twice.txt"
 same "compilations after a change of the tool" 2 "$(wc -l <"$work/compiled")"
 touch "$fake/crates.txt" "$work/broken"
 told "a proof that fails" 4 "" "$wait
 route_printer NOT PROVED (exit 1, 3 s)
-tools/route: rt check route_printer failed; $log has the prover's lines" in_fake "$work/twice.txt"
+tools/route: rt check route_printer session_player failed; $log has the prover's lines" in_fake "$work/twice.txt"
 rm "$work/broken"
 in_fake "$work/twice.txt" >"$work/out" 2>/dev/null
-same "proofs after one that failed" 4 "$(calls)"
+same "proofs after one that failed" 7 "$(calls)"
 
 # ---- a program that fails, or answers about something else
 as_program() { # NAME MESSAGE SCRIPT
     printf '#!/bin/sh\n%s\n' "$3" >"$work/program"
     chmod +x "$work/program"
-    told "$1" 4 "" "program: $2" $job route "$work/program" examples/twice.txt
+    told "$1" 4 "" "program: $2" $job route "$work/program" $player examples/twice.txt
 }
 fit="its route does not fit the plan:"
 as_program "a program that cannot write" "it says: route_printer: standard output: No space left on device" "exec $PWD/$printer >/dev/full"
@@ -119,7 +138,7 @@ instead "a spare figure below zero" "it printed no answer, but 'route 1 4 24 -1\
 instead "a spare figure that is no number" "it printed no answer, but 'route 1 4 24 00\\n2 7\\n1 0\\n4 7\\n1 0\\n0 7'" "route 1 4 24 00"
 instead "three figures" "it printed no answer, but 'route 1 4 24\\n2 7\\n1 0\\n4 7\\n1 0\\n0 7'" "route 1 4 24"
 instead "five figures" "it printed no answer, but 'route 1 4 24 0 0\\n2 7\\n1 0\\n4 7\\n1 0\\n0 7'" "route 1 4 24 0 0"
-told "a missing program" 4 "" "missing: No such file or directory (os error 2)" $job route "$work/missing" examples/twice.txt
+told "a missing program" 4 "" "missing: No such file or directory (os error 2)" $job route "$work/missing" $player examples/twice.txt
 printf '#!/bin/sh\necho refused 4\n' >"$work/program"
 told "a refusal for which the text shows no reason" 3 "refused 4" "examples/twice.txt: a number is outside its range (refusal 4)" \
-    $job route "$work/program" examples/twice.txt
+    $job route "$work/program" $player examples/twice.txt

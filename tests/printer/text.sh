@@ -8,7 +8,8 @@ round() { # NAME JOB
 }
 round "the example" "$work/job"
 
-# Random jobs: what the tool reads, tools/route answers as the program does, and each refusal has its line.
+# Random jobs: what the tool reads, tools/route answers as the program does, and each refusal has its line. The texts without
+# a route are kept for none.sh.
 statuses=
 while read -r hex; do
     printf '%b' "$(echo "$hex" | sed 's/../\\x&/g')" >"$work/sample"
@@ -19,12 +20,12 @@ while read -r hex; do
         [ "$answer" != "refused 15" ] || fail "the tool reads a job that is refused with 15: $hex"
         case $answer in
         route*) status=0 message= ;;
-        none) status=1 message= ;;
+        none) status=1 message= && cp "$work/text" "$work/none.$checks" ;;
         *) status=3 message="text:[0-9]+: .* \(refusal ${answer#refused }\)" ;;
         esac
-        $job route $printer "$work/text" >"$work/out" 2>"$work/err"
+        $job route $printer $player "$work/text" >"$work/out" 2>"$work/err"
         same "status on $hex" $status $?
-        same "answer on $hex" "$answer" "$(grep -v '^#' "$work/out")"
+        same "answer on $hex" "$answer" "$(sed '/^#/d; s/^none: .*/none/' "$work/out")"
         [ $status != 0 ] || same "the spans on $hex" "" "$(table_sums "$work/out")"
         said=$(sed "s|$work/||g" "$work/err")
         [[ $said =~ ^$message$ ]] || fail "message on $hex: '$said'"

@@ -247,8 +247,8 @@ for words in "outside the plan" "not the sink" "not the source" "no uncut wire" 
     [[ $faults == *"$words"* ]] || fail "no random sheet met '$words'"
 done
 
-# ---- what is proved and built, and when: the repository of route.sh with another program
-mkdir -p "$fake/crates/session_player/src"
+# ---- what is proved and built, and when: the repository of route.sh with one program
+rm "$fake/target/bin/session_player"
 printf 'plan:\nsession_player: io plan\n' >"$fake/crates.txt"
 cat >"$few/rt" <<END
 echo "rt \$*" >>"$work/calls"

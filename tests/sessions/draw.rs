@@ -216,7 +216,7 @@ const NO_NUMBER: &str = "a number is missing";
 const TOO_LARGE: &str = "a number is too large";
 
 // Commands that are wrong at their last word, and what is said of them.
-pub const BAD: [(&str, &str); 24] = [
+pub const BAD: [(&str, &str); 27] = [
     ("jump", NO_COMMAND),
     ("Move", NO_COMMAND),
     ("moves", NO_COMMAND),
@@ -241,6 +241,9 @@ pub const BAD: [(&str, &str); 24] = [
     ("scratch 1000000", TOO_LARGE),
     ("scratch show", NO_NUMBER),
     ("route 1 1 0 0 2049", TOO_LARGE),
+    ("reasons", NO_COMMAND),
+    ("reason 3 1 0 show", NO_NUMBER),
+    ("reason 3 1 0 65536", TOO_LARGE),
 ];
 
 pub fn bad_command(r: &mut Random) -> Command {

@@ -4,7 +4,8 @@
 //   sessions script NUMBER SEED     prints one script of a run
 //   sessions text < SCRIPT          what the model gives for a script of good commands
 
-// The route question's answer is the brute force's: its random numbers, rules and search, as they are.
+// The route question's answer is the brute force's: its random numbers, rules and search, as they are. The reason's is
+// that of the reference of reasons.
 #[path = "../brute/random.rs"]
 mod random;
 #[allow(dead_code)]
@@ -13,12 +14,20 @@ mod rules;
 #[path = "../brute/search.rs"]
 mod search;
 
+#[path = "../reasons/explained.rs"]
+mod explained;
+#[path = "../reasons/sides.rs"]
+mod sides;
+#[path = "../reasons/why.rs"]
+mod why;
+
 mod calls;
 mod draw;
 mod make;
 mod mix;
 mod plan;
 mod player;
+mod program;
 mod question;
 mod reference;
 mod script;
@@ -28,9 +37,10 @@ mod worked;
 use make::Script;
 use mix::Mix;
 use player::Player;
+use program::printed;
 use random::Random;
-use std::io::{Read, Write};
-use std::process::{Command, ExitCode, Stdio};
+use std::io::Read;
+use std::process::ExitCode;
 use std::time::Instant;
 
 const MISMATCHES: u64 = 5; // then the run stops
@@ -40,27 +50,6 @@ const SAVED: &str = "target/sessions"; // where a script that fails is kept
 // The random numbers of one script.
 fn random(seed: u64, number: u64) -> Random {
     Random(Random(seed ^ number.wrapping_mul(0x9E37_79B9)).next())
-}
-
-// What the program prints for a script. One that hangs is ended by `timeout`.
-fn printed(player: &str, text: &str) -> Result<String, String> {
-    let mut child = Command::new("timeout")
-        .args(["20", player])
-        .stdin(Stdio::piped())
-        .stdout(Stdio::piped())
-        .stderr(Stdio::piped())
-        .spawn()
-        .map_err(|e| format!("it does not start: {e}"))?;
-    let _ = child.stdin.take().unwrap().write_all(text.as_bytes()); // the program reads all before it prints
-    let out = child.wait_with_output().map_err(|e| e.to_string())?;
-    let lines = String::from_utf8_lossy(&out.stdout).to_string();
-    if !out.stderr.is_empty() {
-        Err(format!("on standard error {:?}", String::from_utf8_lossy(&out.stderr)))
-    } else if out.status.success() {
-        Ok(lines)
-    } else {
-        Err(format!("{}, its last line {:?}", out.status, lines.lines().last()))
-    }
 }
 
 // A line, or of a long one only the word where two differ.

@@ -1,14 +1,16 @@
 // Random scripts: each command is drawn with the model's state in view, and played on the model at once.
 
 use crate::draw;
+use crate::explained::{Explained, LONGEST};
 use crate::mix::Mix;
 use crate::player::{Player, Trouble};
 use crate::question::{self, Answer, Question, SCRATCH};
 use crate::random::Random;
 use crate::script::{self, Command};
 use crate::stories::Kind;
+use crate::why::period_for;
 
-pub const LONGEST: usize = 45_000; // bytes, before a free layout; the program reads fewer than 65,536
+pub const MOST_BYTES: usize = 45_000; // of a script, before a free layout; the program reads fewer than 65,536
 
 pub struct Line {
     pub text: String,
@@ -40,7 +42,7 @@ impl Maker<'_> {
     // Adds a command. A question that is too large for the search is left out.
     pub fn put(&mut self, command: Command) -> Made {
         let size = command.text().len() + 3;
-        if self.bytes + size > LONGEST {
+        if self.bytes + size > MOST_BYTES {
             return Ok(());
         }
         match self.player.play(&command, self.mix) {
@@ -97,6 +99,18 @@ impl Maker<'_> {
         self.put(Command::Tables(tables))
     }
 
+    // The setup taken up until the least period is the longest there is, or one more: then few marks decide the reason.
+    fn lengthen(&mut self, q: &Question) -> Made {
+        let mut tables = self.player.tables.clone();
+        tables.numbers[3] = 0;
+        let p = question::problem(&self.player.session.plan, &tables, q);
+        let Ok((_, Some(slowest))) = Explained::of(&p, SCRATCH) else { return Ok(()) };
+        let wanted = LONGEST + self.r.pick(&[0, 0, 1]);
+        tables.numbers[3] = wanted.saturating_sub(period_for(slowest) as u32).min(LONGEST);
+        tables.numbers[8] = self.r.pick(&[tables.numbers[8], tables.numbers[8], LONGEST - 1, LONGEST]);
+        self.put(Command::Tables(tables))
+    }
+
     // Room for the visits: ample, or about as much as they need.
     fn room(&mut self, q: &mut Question) {
         if self.r.chance(65) {
@@ -123,19 +137,33 @@ impl Maker<'_> {
         }
     }
 
-    pub fn route(&mut self) -> Made {
+    // A route question, why there is none, or both.
+    fn ask(&mut self, q: Question) -> Made {
+        let turn = self.r.below(10);
+        if turn < 8 {
+            self.put(Command::Route(q))?;
+        }
+        if turn > 4 {
+            self.put(Command::Reason(q))?;
+        }
+        Ok(())
+    }
+
+    pub fn question(&mut self) -> Made {
         if let Some(q) = self.asked {
             if self.r.chance(75) {
                 self.look(&q, 60);
-                return self.put(Command::Route(q));
+                return self.ask(q);
             }
         }
         if self.r.chance(40) {
             self.new_tables()?;
         }
         let mut q = draw::question(&mut self.r, self.sides, self.large);
-        if self.r.chance(60) {
-            self.tighten(&q)?;
+        match self.r.below(20) {
+            0..12 => self.tighten(&q)?,
+            12 | 13 => self.lengthen(&q)?,
+            _ => {}
         }
         self.room(&mut q);
         if self.r.chance(20) {
@@ -143,7 +171,7 @@ impl Maker<'_> {
             self.put(Command::Scratch(n))?;
         }
         self.look(&q, 20);
-        self.put(Command::Route(q))?;
+        self.ask(q)?;
         if self.player.lent < SCRATCH && self.r.chance(80) {
             self.put(Command::Scratch(SCRATCH))?;
         }
@@ -159,7 +187,7 @@ impl Maker<'_> {
         let bad = draw::spoilt(&mut self.r, &good);
         self.put(Command::Tables(bad))?;
         let sink = if self.r.chance(30) { q.source } else { q.sink };
-        self.put(Command::Route(Question { sink, ..q }))?;
+        self.ask(Question { sink, ..q })?;
         self.put(Command::Tables(good))
     }
 }

@@ -1,9 +1,11 @@
 // What a run's calls were, so that a poor mix shows.
 
 use crate::calls::Record;
+use crate::explained::{Explained, Reason, LONGEST};
 use crate::plan::{Fault, BELOW, RIGHT};
 use crate::question::{Answer, Question};
-use crate::rules::{registers, Visit};
+use crate::rules::{registers, Problem, Visit};
+use crate::sides::Seen;
 use std::collections::BTreeMap;
 
 #[derive(Default)]
@@ -15,19 +17,21 @@ pub struct Mix {
 }
 
 // Every number of document 01 that a script can bring about.
-const NUMBERS: [(&str, &[u32]); 4] = [
+const NUMBERS: [(&str, &[u32]); 5] = [
     ("open", &[0, 1, 2, 3, 9]),
     ("move", &[0, 1, 2, 3, 9, 10, 11, 14]),
     ("undo", &[0, 1, 2, 3, 9, 10, 12, 13]),
     ("route", &[0, 1, 2, 3, 4, 5, 6, 7, 8]),
+    ("reason", &[0, 1, 2, 3, 4, 5, 6, 19]),
 ];
 
 // What may be at fault, in the order of the call; two at once show the order.
-const ORDERS: [(&str, &[&str]); 4] = [
+const ORDERS: [(&str, &[&str]); 5] = [
     ("open", &["grid", "length", "plan", "journal"]),
     ("move", &["grid", "length", "plan", "journal", "depth", "cell", "marks", "full"]),
     ("undo", &["grid", "length", "plan", "journal", "depth", "empty", "corrupt"]),
     ("route", &["grid", "length", "plan", "element", "ends", "scratch"]),
+    ("reason", &["grid", "length", "plan", "element", "ends", "scratch"]),
 ];
 
 // Two that cannot hold at once: depths that differ.
@@ -35,7 +39,9 @@ const APART: [(&str, &str); 4] = [("depth", "full"), ("depth", "empty"), ("depth
 
 const SLACKS: [&str; 4] = ["spare 0", "spare 1", "spare 2 to 9", "spare 10 and more"];
 
-const KINDS: [(&str, &[&str]); 11] = [
+const FAULTS: [&str; 12] = ["1", "2", "3", "4", "5", "6", "7 1", "7 2", "7 3", "7 4", "7 5", "7 6"];
+
+const KINDS: [(&str, &[&str]); 16] = [
     (
         "move",
         &[
@@ -60,16 +66,28 @@ const KINDS: [(&str, &[&str]); 11] = [
             "13: old and new marks",
         ],
     ),
-    ("route 4: fault", &["1", "2", "3", "4", "5", "6", "7 1", "7 2", "7 3", "7 4", "7 5", "7 6"]),
+    ("route 4: fault", &FAULTS),
     ("route", &["with registers", "with buffers", "that passes a cell twice", "on sides not the session's"]),
     ("route 0:", &SLACKS),
     ("route 8:", &SLACKS),
     ("route 8:", &["no words lent", "one word too few", "two words or more too few"]),
-    ("asked again,", &["the same answer", "another answer"]),
-    ("scratch words:", &["one too few", "just enough", "more than enough", "none"]),
-    ("show of", &["more than 1,024 journal bytes", "zeroed scratch words", "filled visits"]),
+    ("reason 0:", &["walled", "load", "period T + 1", "period up to 29,999", "period 30,000", "short"]),
+    ("reason", &["seen from both sides", "where no route is at 30,000", "on sides not the session's"]),
+    ("reason 4: fault", &FAULTS),
+    ("route asked again,", &ASKED),
+    ("reason asked again,", &ASKED),
+    ("route scratch words:", &WORDS),
+    ("reason scratch words:", &WORDS),
+    (
+        "show of",
+        &["more than 1,024 journal bytes", "zeroed scratch words", "filled visits", "filled visits after a reason"],
+    ),
     ("", &["1 by 1", "32 by 32", "1 by 32", "32 by 1", "second sessions", "bad scripts", "free layout", "restored"]),
 ];
+
+const ASKED: [&str; 2] = ["the same answer", "another answer"];
+
+const WORDS: [&str; 4] = ["one too few", "just enough", "more than enough", "none"];
 
 const PLACES: [&str; 4] =
     ["before any opening", "after a refused opening", "in step with the reference model", "after tampering"];
@@ -95,7 +113,7 @@ fn numbers(call: &str, list: &[u32]) -> Vec<String> {
 }
 
 fn places() -> Vec<String> {
-    ["move", "undo", "route"].iter().flat_map(|call| kinds(call, &PLACES)).collect()
+    ["move", "undo", "route", "reason"].iter().flat_map(|call| kinds(call, &PLACES)).collect()
 }
 
 impl Mix {
@@ -172,17 +190,38 @@ impl Mix {
         }
     }
 
-    // A route call that is lent so many scratch words.
-    pub fn words(&mut self, q: &Question, lent: u32, answer: &Answer) {
+    pub fn reason(&mut self, p: &Problem, answer: &Explained, seen: &Seen, record: Record) {
+        let told = match answer {
+            Explained::Because(Reason::Walled) => "walled",
+            Explained::Because(Reason::Load) => "load",
+            Explained::Because(Reason::Short) => "short",
+            Explained::Because(Reason::Period(LONGEST)) => "period 30,000",
+            Explained::Because(Reason::Period(t)) if *t == p.period + 1 => "period T + 1",
+            Explained::Because(Reason::Period(_)) => "period up to 29,999",
+            Explained::RouteExists => return self.add("reason 19"),
+            Explained::Refused(..) => {
+                return answer.fault().iter().for_each(|place| self.add(&format!("reason 4: fault {place}")))
+            }
+        };
+        self.add("reason 0");
+        self.add(&format!("reason 0: {told}"));
+        self.add_if(seen.none_below && seen.route.is_some(), "reason seen from both sides");
+        self.add_if(seen.none_longest, "reason where no route is at 30,000");
+        self.add_if((p.width, p.height) != (record.width, record.height), "reason on sides not the session's");
+    }
+
+    // A route or reason call with its number; so many scratch words are lent.
+    pub fn words(&mut self, call: &str, q: &Question, lent: u32, number: u32) {
         let need = 256 * q.width as u64 * q.height as u64;
         let lent = lent as u64;
-        match answer {
-            Answer::Refused(faults, _) if faults[0].0 == 6 => {
-                self.add_if(lent + 1 == need, "scratch words: one too few");
-                self.add_if(lent == 0, "scratch words: none");
+        let mut add = |holds: bool, class: &str| self.add_if(holds, &format!("{call} scratch words: {class}"));
+        match number {
+            1..6 => {}
+            6 => {
+                add(lent + 1 == need, "one too few");
+                add(lent == 0, "none");
             }
-            Answer::Refused(..) => {}
-            _ => self.add(if lent == need { "scratch words: just enough" } else { "scratch words: more than enough" }),
+            _ => add(true, if lent == need { "just enough" } else { "more than enough" }),
         }
     }
 

@@ -1,20 +1,21 @@
 // What the program prints for each command: by the calls' own rules, and by the reference model while nothing was tampered with.
 
 use crate::calls::{number, Record, Session};
+use crate::explained::Explained;
 use crate::reference::Reference;
 use crate::mix::Mix;
 use crate::question::{self, Answer, Question, Tables, SCRATCH};
-use crate::script::Command;
+use crate::script::{shown_words, Command};
 use crate::search::TooLarge;
+use crate::sides;
 use std::collections::BTreeMap;
 
 const FILL: u8 = 7; // the journal's bytes before the first call
-const UNUSED: u16 = 65_535; // the words before a route call
 const VISITS: usize = 2_048; // visit words that there are
 
 pub enum Trouble {
     TooLarge,       // a question that the search cannot answer within its bound: it is left out
-    Models(String), // the reference model and the calls' rules differ: one of the two is wrong
+    Models(String), // two halves of the model differ: one of them is wrong
 }
 
 impl Trouble {
@@ -33,8 +34,9 @@ pub struct Player {
     pub in_step: bool,          // record, plan and journal are the reference model's
     pub tables: Tables,
     pub lent: u32,    // scratch words
-    zeroed: usize,    // scratch words that the last route call left zero
-    filled: Vec<u16>, // visit words that it filled
+    zeroed: usize,    // scratch words that the last route or reason call left zero
+    filled: Vec<u16>, // visit words that the last route call filled
+    explained: bool,  // a reason call came after it
     refused: bool, // the last opening was
     opened: bool,
     asked: BTreeMap<String, String>, // questions since the last opening, with their answers
@@ -51,6 +53,7 @@ impl Player {
             lent: SCRATCH,
             zeroed: 0,
             filled: Vec::new(),
+            explained: false,
             refused: false,
             opened: false,
             asked: BTreeMap::new(),
@@ -161,13 +164,35 @@ impl Player {
         }
         self.zeroed = answer.zeroed(q) as usize;
         self.filled = answer.filled().iter().map(|&word| word as u16).collect();
-        mix.words(q, self.lent, &answer);
+        self.explained = false;
+        mix.words("route", q, self.lent, answer.number());
         let text = answer.text(&self.tables, q);
-        let before = self.asked.insert(format!("{q:?} {:?} {}", self.tables, self.lent), text.clone());
-        if let Some(before) = before {
-            mix.add(if before == text { "asked again, the same answer" } else { "asked again, another answer" });
+        Ok(self.told("route", q, answer.number(), text, mix))
+    }
+
+    // A question's line; and whether it was asked before.
+    fn told(&mut self, name: &str, q: &Question, number: u32, text: String, mix: &mut Mix) -> Vec<String> {
+        let question = format!("{name} {q:?} {:?} {}", self.tables, self.lent);
+        if let Some(before) = self.asked.insert(question, text.clone()) {
+            mix.add(&format!("{name} asked again, {} answer", if before == text { "the same" } else { "another" }));
         }
-        Ok(vec![format!("route {} depth {} {text}", answer.number(), self.session.record.depth)])
+        vec![format!("{name} {number} depth {} {text}", self.session.record.depth)]
+    }
+
+    // The brute force's search of routes must agree, as far as it goes.
+    fn reason(&mut self, q: &Question, mix: &mut Mix) -> Result<Vec<String>, Trouble> {
+        let p = question::problem(&self.session.plan, &self.tables, q);
+        let (answer, _) = Explained::of(&p, self.lent).map_err(|_: TooLarge| Trouble::TooLarge)?;
+        let seen = sides::seen(&p, &answer, question::STATES).map_err(Trouble::Models)?;
+        self.note_place("reason", mix);
+        if let Explained::Refused(faults, _) = &answer {
+            mix.faults("reason", faults);
+        }
+        mix.reason(&p, &answer, &seen, self.session.record);
+        self.zeroed = answer.zeroed(&p) as usize;
+        self.explained = true;
+        mix.words("reason", q, self.lent, answer.number());
+        Ok(self.told("reason", q, answer.number(), answer.text(&p), mix))
     }
 
     pub fn answer(&self, q: &Question) -> Result<Answer, Trouble> {
@@ -177,18 +202,15 @@ impl Player {
     fn show(&self, mix: &mut Mix) -> Vec<String> {
         let list = |name: &str, bytes: &[u8]| bytes.iter().fold(name.to_string(), |text, b| text + &format!(" {b}"));
         let s = &self.session;
-        let mut scratch = vec![0; self.zeroed];
-        scratch.resize(SCRATCH as usize, UNUSED);
-        let mut visits = self.filled.clone();
-        visits.resize(VISITS, UNUSED);
         mix.add_if(s.lent > 1_024, "show of more than 1,024 journal bytes");
         mix.add_if(self.zeroed > 0, "show of zeroed scratch words");
         mix.add_if(!self.filled.is_empty(), "show of filled visits");
+        mix.add_if(!self.filled.is_empty() && self.explained, "show of filled visits after a reason");
         vec![
             list("plan", &s.plan),
             list("journal", &s.journal[..s.lent]),
-            "scratch".to_string() + &runs(&scratch),
-            "visits".to_string() + &runs(&visits),
+            shown_words("scratch", &vec![0; self.zeroed], SCRATCH as usize),
+            shown_words("visits", &self.filled, VISITS),
         ]
     }
 
@@ -199,6 +221,7 @@ impl Player {
             Command::Move(cell, marks) => return self.set(*cell, *marks as u8, mix),
             Command::Undo => return self.undo(mix),
             Command::Route(q) => return self.route(q, mix),
+            Command::Reason(q) => return self.reason(q, mix),
             Command::Show => return Ok(self.show(mix)),
             Command::Bad(_, reason) => return Ok(vec![reason.to_string()]),
             Command::Scratch(n) => self.lent = *n,
@@ -214,12 +237,4 @@ impl Player {
         self.in_step = self.is_the_ledgers();
         Ok(Vec::new())
     }
-}
-
-// Words as the program shows them: a run of N equal words W is `W * N`.
-fn runs(words: &[u16]) -> String {
-    words.chunk_by(|a, b| a == b).fold(String::new(), |text, run| match run.len() {
-        1 => text + &format!(" {}", run[0]),
-        n => text + &format!(" {} * {n}", run[0]),
-    })
 }

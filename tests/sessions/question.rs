@@ -5,7 +5,7 @@ use crate::plan::{self, Fault};
 use crate::rules::{self, legal, registers, Buffer, Problem, Register, Visit, Wire};
 use crate::search::{self, TooLarge};
 
-const STATES: usize = 10_000; // the most states that one search may follow
+pub const STATES: usize = 10_000; // the most states that one search may follow
 
 pub const SCRATCH: u32 = 262_144; // scratch words that there are
 
@@ -37,7 +37,7 @@ pub struct Best {
     pub slack: u64,
 }
 
-fn problem(plan: &[u8], t: &Tables, q: &Question) -> Problem {
+pub fn problem(plan: &[u8], t: &Tables, q: &Question) -> Problem {
     let n = t.numbers;
     Problem {
         width: q.width,
@@ -54,22 +54,44 @@ fn problem(plan: &[u8], t: &Tables, q: &Question) -> Problem {
     }
 }
 
+impl From<&Problem> for Tables {
+    fn from(p: &Problem) -> Tables {
+        let (g, h, v) = (p.register, p.horizontal, p.vertical);
+        Tables {
+            numbers: [g.r, g.k, g.c, g.setup, h.r, h.c, v.r, v.c, p.period, p.limit],
+            buffers: p.buffers.iter().map(|b| [b.r, b.k, b.c]).collect(),
+        }
+    }
+}
+
+// Refusals 1 to 5: all that is at fault, in order.
+pub fn faults(p: &Problem) -> Vec<Fault> {
+    let plan: Vec<u8> = p.marks.iter().map(|&marks| marks as u8).collect();
+    let mut out = plan::faults(p.width, p.height, &plan);
+    if p.fault().is_some() {
+        out.push((4, "element"));
+    }
+    if p.ends_fail() {
+        out.push((5, "ends"));
+    }
+    out
+}
+
+// And 6: so many scratch words are lent.
+pub fn faults_with(p: &Problem, scratch: u32) -> Vec<Fault> {
+    let mut out = faults(p);
+    if (scratch as u64) < 256 * p.width as u64 * p.height as u64 {
+        out.push((6, "scratch"));
+    }
+    out
+}
+
 // `scratch` words are lent.
 pub fn answer(plan: &[u8], t: &Tables, scratch: u32, q: &Question) -> Result<Answer, TooLarge> {
     let p = problem(plan, t, q);
-    let mut faults = plan::faults(q.width, q.height, plan);
-    let element = p.fault();
-    if element.is_some() {
-        faults.push((4, "element"));
-    }
-    if p.ends_fail() {
-        faults.push((5, "ends"));
-    }
-    if (scratch as u64) < 256 * q.width as u64 * q.height as u64 {
-        faults.push((6, "scratch"));
-    }
+    let faults = faults_with(&p, scratch);
     if !faults.is_empty() {
-        return Ok(Answer::Refused(faults, element));
+        return Ok(Answer::Refused(faults, p.fault()));
     }
     let Some(route) = search::best(&p, STATES)? else { return Ok(Answer::None) };
     let slack = legal(&p, &route).expect("the search's route is legal").slack(&p);

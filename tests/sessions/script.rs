@@ -15,6 +15,7 @@ pub enum Command {
     Tables(Tables), // two commands: tables, buffers
     Scratch(u32),
     Route(Question),
+    Reason(Question), // its room is of no account
     Show,
     Bad(&'static str, &'static str), // a command that is no command, its wrong word comes last; and what is said of it
 }
@@ -42,13 +43,14 @@ impl Command {
             }
             Command::Scratch(n) => numbers("scratch", &[*n]),
             Command::Route(q) => numbers("route", &[q.width, q.height, q.source, q.sink, q.room]),
+            Command::Reason(q) => numbers("reason", &[q.width, q.height, q.source, q.sink]),
             Command::Show => "show".to_string(),
             Command::Bad(text, _) => text.to_string(),
         }
     }
 
     pub fn is_call(&self) -> bool {
-        matches!(self, Command::Open(..) | Command::Move(..) | Command::Undo | Command::Route(_))
+        matches!(self, Command::Open(..) | Command::Move(..) | Command::Undo | Command::Route(_) | Command::Reason(_))
     }
 }
 
@@ -89,6 +91,13 @@ pub fn read(text: &str) -> Option<Vec<Command>> {
                 sink: next()?,
                 room: next()?,
             }),
+            "reason" => Command::Reason(Question {
+                width: next()?,
+                height: next()?,
+                source: next()?,
+                sink: next()?,
+                room: 0,
+            }),
             "show" => Command::Show,
             _ => return None,
         });
@@ -124,4 +133,16 @@ pub fn write(commands: &[Command], free: bool, r: &mut Random) -> (String, Vec<u
         }
     }
     (text, ends)
+}
+
+const UNUSED: u16 = 65_535; // what words hold that no call has written
+
+// So many words as `show` prints them, the first of them written: a run of N equal words W is `W * N`.
+pub fn shown_words(name: &str, written: &[u16], n: usize) -> String {
+    let mut words = written.to_vec();
+    words.resize(n, UNUSED);
+    words.chunk_by(|a, b| a == b).fold(name.to_string(), |text, run| match run.len() {
+        1 => text + &format!(" {}", run[0]),
+        n => text + &format!(" {} * {n}", run[0]),
+    })
 }

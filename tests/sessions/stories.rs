@@ -2,7 +2,7 @@
 // session.
 
 use crate::draw;
-use crate::make::{Made, Maker, LONGEST};
+use crate::make::{Made, Maker, MOST_BYTES};
 use crate::plan;
 use crate::player::Player;
 use crate::question::Question;
@@ -25,7 +25,7 @@ impl Maker<'_> {
             match self.r.below(10) {
                 0..4 => self.set()?,
                 4..8 => self.put(Command::Undo)?,
-                _ => self.route()?,
+                _ => self.question()?,
             }
         }
         Ok(())
@@ -141,7 +141,7 @@ impl Maker<'_> {
 
     // A second session with only the standing moves: all alike.
     fn second_session(&mut self) -> Made {
-        if self.bytes + 15_000 > LONGEST {
+        if self.bytes + 15_000 > MOST_BYTES {
             return Ok(()); // it might not go in whole
         }
         let Some(reference) = self.player.reference.clone().filter(|_| self.player.in_step) else { return Ok(()) };
@@ -175,6 +175,7 @@ impl Maker<'_> {
         self.put(Command::Show)?;
         for q in asked {
             self.put(Command::Route(*q))?;
+            self.put(Command::Reason(*q))?;
         }
         Ok(())
     }
@@ -192,7 +193,7 @@ impl Maker<'_> {
                 self.put(Command::Undo)?;
             }
             if self.r.chance(2) {
-                self.route()?;
+                self.question()?;
             }
             tried += 1;
         }
@@ -227,24 +228,24 @@ impl Maker<'_> {
 
     fn body(&mut self, kind: Kind) -> Made {
         let n = self.r.within(120, 320);
-        let (mut undos, mut routes, mut tampers, mut openings) = (25, 15, 0, 0);
+        let (mut undos, mut questions, mut tampers, mut openings) = (25, 15, 0, 0);
         match kind {
             Kind::Reference => undos = self.r.pick(&[10, 25, 35, 48]),
             Kind::Climb => return self.climb(),
             Kind::Tamper => tampers = 14,
             Kind::Openings => (tampers, openings) = (4, 8),
-            Kind::Large => (routes, tampers) = (6, 3),
-            Kind::Questions => routes = 40,
+            Kind::Large => (questions, tampers) = (6, 3),
+            Kind::Questions => questions = 40,
         }
         for _ in 0..n {
             let turn = self.r.below(100);
             if turn < undos {
                 self.put(Command::Undo)?;
-            } else if turn < undos + routes {
-                self.route()?;
-            } else if turn < undos + routes + tampers {
+            } else if turn < undos + questions {
+                self.question()?;
+            } else if turn < undos + questions + tampers {
                 self.tampered_calls()?;
-            } else if turn < undos + routes + tampers + openings {
+            } else if turn < undos + questions + tampers + openings {
                 self.refused_opening()?;
                 self.opening()?;
             } else {

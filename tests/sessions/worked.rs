@@ -1,4 +1,4 @@
-// Scripts with known lines, worked out by hand from document 01: the model must give them, and so must the program.
+// Scripts with known lines, worked out by hand from documents 01 and 02: the model must give them, and so must the program.
 
 pub struct Case {
     pub name: &'static str,
@@ -22,7 +22,7 @@ fn journal(entries: &[[u8; 4]]) -> String {
     list("journal", &bytes)
 }
 
-// Words that no route call has touched.
+// Words that no call has touched.
 const UNTOUCHED: &str = "scratch 65535 * 262144\nvisits 65535 * 2048\n";
 
 const STRIP: &str = "plan 3 0 2 0 tables 1 2 1 1 2 3 2 3 25 63 open 3 1 ";
@@ -54,6 +54,33 @@ fn routes() -> Case {
     case("document 01's routes, by moves", &script, lines)
 }
 
+// R4 and R7, and what moves make of them.
+fn reasons() -> Case {
+    let script = STRIP.to_string()
+        + "reason 3 1 0 2 move 1 1 reason 3 1 0 2 move 1 5 reason 3 1 0 2 undo reason 3 1 0 2 undo reason 3 1 0 2 "
+        + "tables 1 2 1 1 2 3 2 3 11 63 reason 3 1 0 2 tables 1 2 1 1 2 3 2 3 26 3 reason 3 1 0 2 "
+        + "move 0 4 reason 3 1 0 2 undo tables 1 2 1 29989 2 3 2 3 11 63 reason 3 1 0 2 tables 1 2 1 29990 2 3 2 3 11 63 reason 3 1 0 2 undo";
+    let lines = "open 0 depth 0\n\
+        reason 19 depth 0 zeroed 768\n\
+        move 0 depth 1\n\
+        reason 0 depth 1 period 26 zeroed 768\n\
+        move 0 depth 2\n\
+        reason 0 depth 2 walled zeroed 768\n\
+        undo 0 depth 1\n\
+        reason 0 depth 1 period 26 zeroed 768\n\
+        undo 0 depth 0\n\
+        reason 19 depth 0 zeroed 768\n\
+        reason 0 depth 0 period 12 zeroed 768\n\
+        reason 0 depth 0 load zeroed 768\n\
+        move 0 depth 1\n\
+        reason 0 depth 1 walled zeroed 768\n\
+        undo 0 depth 0\n\
+        reason 0 depth 0 period 30000 zeroed 768\n\
+        reason 0 depth 0 short zeroed 768\n\
+        undo 12 depth 0\n";
+    case("reasons, by moves", &script, lines)
+}
+
 // 256 moves and one more, all undone and one more.
 fn full() -> Case {
     let mut script = STRIP.to_string();
@@ -79,12 +106,13 @@ fn full() -> Case {
     case("256 moves and one more", &script, &lines)
 }
 
-// What a route call leaves in the words, by how many of them are lent: nothing after 6; zeros in the first 768 of three
-// cells after an answer and after 8; the visits filled by an answer alone.
+// What a call leaves in the words, by how many of them are lent: nothing after 6; zeros in the first 768 of three cells
+// after an answer, after 8, 19 and a reason; the visits filled by a route's answer alone, and left by a reason.
 fn words() -> Case {
     let script = STRIP.to_string()
         + "scratch 767 route 3 1 0 2 6 show scratch 768 route 3 1 0 2 6 show scratch 800 route 3 1 0 2 5 show "
-        + "scratch 0 route 3 1 2 2 6 show";
+        + "scratch 0 route 3 1 2 2 6 show scratch 768 route 3 1 0 2 6 scratch 767 reason 3 1 0 2 show "
+        + "scratch 768 reason 3 1 0 2 show tables 1 2 1 1 2 3 2 3 11 63 scratch 769 reason 3 1 0 2 show";
     let plan = format!("plan 0 2 0\n{}", journal(&[]));
     let zeroed = "scratch 0 * 768 65535 * 261376\n";
     let lines = format!(
@@ -93,7 +121,11 @@ fn words() -> Case {
          route 0 depth 0 figures 1 2 50 26 visits 2 7 1 7 0 7 zeroed 768\n\
          {plan}{zeroed}visits 2 7 1 7 0 7 65535 * 2042\n\
          route 8 depth 0 figures 1 2 50 26 visits zeroed 768\n{plan}{zeroed}visits 65535 * 2048\n\
-         route 5 depth 0 figures 0 0 0 0 visits zeroed 0\n{plan}{UNTOUCHED}"
+         route 5 depth 0 figures 0 0 0 0 visits zeroed 0\n{plan}{UNTOUCHED}\
+         route 0 depth 0 figures 1 2 50 26 visits 2 7 1 7 0 7 zeroed 768\n\
+         reason 6 depth 0 zeroed 0\n{plan}scratch 65535 * 262144\nvisits 2 7 1 7 0 7 65535 * 2042\n\
+         reason 19 depth 0 zeroed 768\n{plan}{zeroed}visits 2 7 1 7 0 7 65535 * 2042\n\
+         reason 0 depth 0 period 12 zeroed 768\n{plan}{zeroed}visits 2 7 1 7 0 7 65535 * 2042\n"
     );
     case("scratch and visit words", &script, &lines)
 }
@@ -127,6 +159,7 @@ pub fn cases() -> Vec<Case> {
     let undone = format!("undo 0 depth 0\nplan 0 2 0\n{}{UNTOUCHED}", journal(&[]));
     vec![
         routes(),
+        reasons(),
         full(),
         words(),
         buffers(),

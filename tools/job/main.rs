@@ -1,6 +1,6 @@
 // Plan texts, jobs, routes and sheets: a text to job bytes and back, the route printer's answer with its words and
-// drawings, the session player's verdict on a sheet in words. examples/README.md is its help. Nothing here decides a route
-// or a verdict: target/bin/route_printer and target/bin/session_player, which are proved, do.
+// drawings, in words the session player's verdict on a sheet and why there is no route. examples/README.md is its help.
+// Nothing here decides any of that: target/bin/route_printer and target/bin/session_player, which are proved, do.
 
 mod answer;
 mod bytes;
@@ -11,6 +11,7 @@ mod files;
 mod job;
 mod picture;
 mod program;
+mod reasons;
 mod refusals;
 mod route;
 mod script;
@@ -31,7 +32,7 @@ use text::{Lines, Wrong};
 
 const USAGE: &str = "usage: job write [TEXT]
        job read [JOB]
-       job route PRINTER TEXT [--picture] [--svg FILE]
+       job route PRINTER PLAYER TEXT [--picture] [--svg FILE]
        job script TEXT SHEET
        job verdict PLAYER TEXT SHEET
        job --help
@@ -81,8 +82,8 @@ fn run(words: &[OsString]) -> Result<u8, Failure> {
         ["--version"] => files::print(format!("job {VERSION}").as_bytes()).map(|()| DONE),
         ["write"] | ["write", _] => write(&Source::new(words.get(1))),
         ["read"] | ["read", _] => read(&Source::new(words.get(1))),
-        ["route", _, _, ..] => match route::drawings(&words[3..]) {
-            Some(drawings) => route::run(&words[1], &Source::new(words.get(2)), &drawings),
+        ["route", _, _, _, ..] => match route::drawings(&words[4..]) {
+            Some(drawings) => route::run(&words[1], &words[2], &Source::new(words.get(3)), &drawings),
             None => failure(TEXT, USAGE.to_string()),
         },
         ["script", _, _] => verdict::write(&Source::new(words.get(1)), &Source::new(words.get(2))),

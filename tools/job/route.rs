@@ -1,4 +1,4 @@
-// Asks the proved program for the route of a plan text, and shows what it printed.
+// Asks the proved program for the route of a plan text, and shows what it printed; where there is none, another tells why.
 
 use crate::answer::{self, Answer, Route};
 use crate::files::{self, failure, Failure, Source, DONE, FAILED, NONE};
@@ -6,7 +6,7 @@ use crate::job::{Job, CODE_REGISTER};
 use crate::program::printed;
 use crate::spans::{self, Span};
 use crate::words::{shown, shown_name};
-use crate::{bytes, picture, read_text, refusals, svg};
+use crate::{bytes, picture, read_text, reasons, refusals, svg};
 use std::ffi::{OsStr, OsString};
 
 #[derive(Default)]
@@ -59,7 +59,7 @@ fn fitting(route: &Route, job: &Job) -> Result<Vec<Span>, String> {
     Ok(spans)
 }
 
-pub fn run(printer: &OsStr, from: &Source, drawings: &Drawings) -> Result<u8, Failure> {
+pub fn run(printer: &OsStr, player: &OsStr, from: &Source, drawings: &Drawings) -> Result<u8, Failure> {
     let (job, lines) = read_text(from)?;
     let text = printed(printer, &bytes::encode(&job))?;
     let no_answer = |what: String| failure(FAILED, format!("{}: {what}", shown_name(printer)));
@@ -74,7 +74,8 @@ pub fn run(printer: &OsStr, from: &Source, drawings: &Drawings) -> Result<u8, Fa
             Ok(DONE)
         }
         Some(Answer::None) => {
-            draw(&from.name(), &text, &job, None, drawings)?;
+            let sheet = format!("none: {}\n", reasons::asked(player, &job)?);
+            draw(&from.name(), &sheet, &job, None, drawings)?;
             Ok(NONE)
         }
         Some(Answer::Refused(number)) => {

@@ -1,4 +1,5 @@
-// The session player's script that asks for the verdict on a sheet; crates/session_player/src/main.rt tells the format.
+// The session player's scripts: one asks for the verdict on a sheet, one why there is no route.
+// crates/session_player/src/main.rt tells the format.
 
 use crate::answer::Visit;
 use crate::job::Job;
@@ -18,17 +19,26 @@ fn counted(numbers: Vec<u32>, each: usize) -> impl Iterator<Item = u32> {
     std::iter::once((numbers.len() / each) as u32).chain(numbers)
 }
 
-pub fn judging(job: &Job, visits: &[Visit]) -> String {
+// The plan and the tables, then the command that asks about them.
+fn asking(job: &Job, name: &str, more: impl Iterator<Item = u32>) -> String {
     let marks = job.marks.iter().take(PLAN).map(|&marks| marks.min(MARK)).collect();
     let tables = job.register.iter().chain(&job.horizontal).chain(&job.vertical).chain([&job.period, &job.limit]);
     let buffers = job.buffers.iter().take(BUFFERS).flatten().copied().collect();
-    let words = visits.iter().flat_map(|visit| [visit.cell, visit.code]).collect();
     let asked = [job.width, job.height, job.source, job.sink];
     [
         command("plan", counted(marks, 1)),
         command("tables", tables.copied()),
         command("buffers", counted(buffers, 3)),
-        command("judge", asked.into_iter().chain(counted(words, 1))),
+        command(name, asked.into_iter().chain(more)),
     ]
     .concat()
+}
+
+pub fn judging(job: &Job, visits: &[Visit]) -> String {
+    let words = visits.iter().flat_map(|visit| [visit.cell, visit.code]).collect();
+    asking(job, "judge", counted(words, 1))
+}
+
+pub fn explaining(job: &Job) -> String {
+    asking(job, "reason", std::iter::empty())
 }

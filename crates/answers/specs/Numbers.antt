@@ -1,13 +1,14 @@
--- The number and the figures that document 01 gives for each case of a route's answer, and the words it fills; the numbers of a verdict and of a comparison (document 02, C-11).
+-- The number and the figures that document 01 gives for each case of a route's answer, and the words it fills; the numbers of a verdict, of a comparison and of a reason (document 02, C-11 and C-13).
 use Prim.Native.Nat.{ℕ, _+_, _*_}
 use lib.IntN.{pos}
 use Rattle.answers.specs.declared.answer.Figures.{Figures}
 use Rattle.answers.specs.declared.answer.Refusal.{Refusal}
-use Rattle.answers.specs.declared.answer.Refusal.the-variants.{Grid, Length, Mark, Element, Ends, Scratch, NoRoute, RouteList, NoneLegal}
+use Rattle.answers.specs.declared.answer.Refusal.the-variants.{Grid, Length, Mark, Element, Ends, Scratch, NoRoute, RouteList, NoneLegal, RouteExists}
 use Rattle.answers.specs.declared.answer.Answer.{Answer}
 use Rattle.answers.specs.declared.answer.Answer.the-variants.{Found, NoRoom, Refused}
 use Rattle.answers.specs.declared.verdicts.Verdict.{Verdict}
 use Rattle.answers.specs.declared.verdicts.Comparison.{Comparison}
+use Rattle.answers.specs.declared.explained.Explained.{Explained}
 
 abbrev pub refusalNumber : Refusal → ℕ
 refusalNumber Grid = 1
@@ -19,6 +20,7 @@ refusalNumber Scratch = 6
 refusalNumber NoRoute = 7
 refusalNumber RouteList = 17
 refusalNumber NoneLegal = 18
+refusalNumber RouteExists = 19
 
 abbrev pub answerNumber : Answer → ℕ
 answerNumber (Found f) = 0
@@ -50,3 +52,7 @@ abbrev pub comparisonNumber : Comparison → ℕ
 comparisonNumber Comparison.First = 0
 comparisonNumber Comparison.Second = 0
 comparisonNumber (Comparison.Refused r) = refusalNumber r
+
+abbrev pub explainedNumber : Explained → ℕ
+explainedNumber (Explained.Because reason) = 0
+explainedNumber (Explained.Refused r) = refusalNumber r

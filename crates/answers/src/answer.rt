@@ -31,6 +31,8 @@ pub enum Refusal {
     RouteList,
     // neither of two lists is legal
     NoneLegal,
+    // asked why there is no route, but there is one
+    RouteExists,
 }
 
 pub struct Figures {
@@ -49,7 +51,7 @@ pub enum Answer {
 }
 
 impl Refusal {
-    // Document 01's number, 1 to 7, or document 02's, 17 and 18.
+    // Document 01's number, 1 to 7, or document 02's, 17 to 19.
     pub fn number(self) -> u16
         ensures { λ r. ⌜ r ≡ refusalNumber self ⌝ }
     {
@@ -63,6 +65,7 @@ impl Refusal {
             Refusal::NoRoute => 7,
             Refusal::RouteList => 17,
             Refusal::NoneLegal => 18,
+            Refusal::RouteExists => 19,
         }
     }
 }

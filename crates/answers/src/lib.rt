@@ -2,6 +2,7 @@
 // The checks of tables (refusal 4) and ends (refusal 5). Document 01, "Elements" and "Calls and what they leave".
 mod answer;
 mod ends;
+mod explained;
 mod records;
 mod tables;
 mod verdicts;
@@ -11,6 +12,8 @@ pub use answer::Fault;
 pub use answer::Figures;
 pub use answer::Refusal;
 pub use ends::ends_fault;
+pub use explained::Explained;
+pub use explained::Reason;
 pub use records::BufferList;
 pub use records::BufferRecord;
 pub use records::RegisterRecord;

@@ -15,7 +15,9 @@ use Rattle.job.specs.Fields.{tableNumbers}
 use Rattle.bench_entry.specs.Words.{resultNumbers, lengthsRight}
 use Rattle.bench_entry.specs.Effect.{answerFault, figureWords}
 use Rattle.bench_entry.specs.Judged.{foundWords}
+use Rattle.bench_entry.specs.Explained.{whyWords}
 use Rattle.bench_entry.specs.declared.found.Found.{Found}
+use Rattle.bench_entry.specs.declared.why.Why.{Why}
 
 -- five stores from the start
 five-set : (xs : List ℕ) (a b c d e : ℕ) → length xs ≡ 5 → set (set (set (set (set xs 0 a) 1 b) 2 c) 3 d) 4 e ≡ a ∷ b ∷ c ∷ d ∷ e ∷ []
@@ -34,6 +36,10 @@ stored a xs f k m e g n h = rw (n, e, g) (five-set xs _ _ _ _ _ h)
 pub found-stored : (f : Found) (xs : List ℕ) → length xs ≡ 5 → set (set (set (set (set xs 0 (f .accepted)) 1 (f .visit)) 2 (f .fault)) 3 (f .element)) 4 (f .slack) ≡ foundWords f
 unfolding foundWords
 found-stored f xs h = five-set xs _ _ _ _ _ h
+
+pub why-stored : (w : Why) (xs : List ℕ) → length xs ≡ 5 → set (set (set (set (set xs 0 (w .reason)) 1 (w .period)) 2 (w .element)) 3 0) 4 0 ≡ whyWords w
+unfolding whyWords
+why-stored w xs h = five-set xs _ _ _ _ _ h
 
 -- right lengths, read off their test
 pub right-lengths : (t b f : ℕ) → lengthsRight t b f ≡ true → (tableNumbers ≤ t) × (f ≡ resultNumbers)

@@ -1,3 +1,4 @@
 pub mod Words
 pub mod Effect
 pub mod Judged
+pub mod Explained

@@ -1,4 +1,4 @@
--- What both entries share: the lengths, the question that numbers and words make, and the place of refusal 4. The tables' words are in the job's order.
+-- What the entries share: the lengths, the question that numbers and words make, and the place of refusal 4. The tables' words are in the job's order.
 use Prim.Native.Nat.{ℕ, _+_, _/_, _%_}
 use mathlib.Core.Bool.{Bool, _&&_}
 use mathlib.Core.List.{List}
@@ -8,7 +8,7 @@ use Rattle.answers.specs.declared.records.BufferList.{BufferList}
 use Rattle.answers.specs.declared.answer.Fault.{Fault}
 use Rattle.answers.specs.declared.answer.Fault.the-variants.{Period, Limit, Horizontal, Vertical, Register, Count, Buffer}
 use Rattle.answers.specs.declared.answer.Refusal.{Refusal}
-use Rattle.answers.specs.declared.answer.Refusal.the-variants.{Grid, Length, Mark, Element, Ends, Scratch, NoRoute, RouteList, NoneLegal}
+use Rattle.answers.specs.declared.answer.Refusal.the-variants.{Grid, Length, Mark, Element, Ends, Scratch, NoRoute, RouteList, NoneLegal, RouteExists}
 use Rattle.job.specs.Fields.{tablesOf, tableNumbers, bufferListOf}
 use Rattle.question.specs.Question.{Question, questionOf}
 
@@ -47,3 +47,4 @@ refusalFault Scratch = 0
 refusalFault NoRoute = 0
 refusalFault RouteList = 0
 refusalFault NoneLegal = 0
+refusalFault RouteExists = 0

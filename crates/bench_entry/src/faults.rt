@@ -31,5 +31,6 @@ pub fn refusal_fault(refusal: Refusal) -> u32
         Refusal::NoRoute => 0,
         Refusal::RouteList => 0,
         Refusal::NoneLegal => 0,
+        Refusal::RouteExists => 0,
     }
 }

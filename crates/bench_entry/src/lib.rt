@@ -1,4 +1,4 @@
-// The benchmark's own entries to the route call and to the verdict, on numbers and lent words; not offered to anyone else.
+// The benchmark's own entries to the route call, to the verdict and to the reasons, on numbers and lent words; not offered to anyone else.
 // Each has the whole promise of its call. That the areas lent are as long as said and lie apart is the caller's duty.
 ghost use Prim.Native.Nat.{_≤_};
 ghost use mathlib.Core.Path.{_≡_};
@@ -13,13 +13,16 @@ use crate::words::read_buffers;
 use job::tables_of;
 use router::route_with;
 
+mod explain;
 mod faults;
 mod figures;
 mod found;
 mod judge;
 mod lengths;
+mod why;
 mod words;
 
+pub use explain::bench_explain;
 pub use judge::bench_judge;
 
 // The best route. Returns document 01's number, 0 to 8. `tables` holds ten words: register R K C setup, horizontal R C,

@@ -1,5 +1,5 @@
 // The planner's calls for outsiders. Nothing is required of what they lend; every answer is stated for every input.
-// The calls on route lists, `judge`, `compare` and `better`, are in route_lists.rt.
+// The calls on route lists, `judge`, `compare` and `better`, are in route_lists.rt; `explain` is in explaining.rt.
 ghost use Rattle.answers.specs.Lists.{listOf};
 ghost use Rattle.router.specs.Route.{questionOf, Routed};
 ghost use Rattle.session.specs.Steps.{stateOf, Opened, Moved, Undone};
@@ -10,19 +10,23 @@ use session::set_marks_at;
 use session::undo_at;
 
 mod buffers;
+mod explaining;
 mod route_lists;
 
 pub use answers::Answer;
 pub use answers::BufferRecord;
 pub use answers::Comparison;
+pub use answers::Explained;
 pub use answers::Fault;
 pub use answers::Figures;
+pub use answers::Reason;
 pub use answers::Refusal;
 pub use answers::RegisterRecord;
 pub use answers::Tables;
 pub use answers::Verdict;
 pub use answers::VisitFault;
 pub use answers::WireRecord;
+pub use explaining::explain;
 pub use route_lists::better;
 pub use route_lists::compare;
 pub use route_lists::judge;

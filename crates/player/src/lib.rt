@@ -1,9 +1,12 @@
 // What a session player holds beside the lent bytes and words, and the commands of its script that call nothing.
 mod commands;
+mod fresh;
 mod net;
 mod state;
 mod words;
 
+pub use fresh::UNUSED;
+pub use fresh::refill;
 pub use net::Net;
 pub use net::read_net;
 pub use state::Player;

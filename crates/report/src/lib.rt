@@ -8,7 +8,7 @@ pub use answer::write_element;
 pub use answer::write_fault;
 pub use answer::write_figures;
 pub use answer::write_slack;
-pub use words::run_end;
 pub use words::smaller;
 pub use words::write_runs;
 pub use words::write_words;
+pub use words::write_zeroed;

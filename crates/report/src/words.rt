@@ -42,6 +42,22 @@ pub fn run_end(words: &[u16], start: usize) -> usize
     i
 }
 
+// How many words from the first on are zero.
+fn zeros(words: &[u16]) -> usize {
+    if words.len() == 0 {
+        return 0;
+    }
+    if words[0] != 0 {
+        return 0;
+    }
+    run_end(words, 0)
+}
+
+// The end of a call's line: how many scratch words it zeroed.
+pub fn write_zeroed(scratch: &[u16]) -> bool {
+    write_text(b" zeroed") && write_number(zeros(scratch) as u64) && write_text(b"\n")
+}
+
 // A run: its word, and after a star how many there are if there is more than one.
 fn write_run(word: u16, times: usize) -> bool {
     if !write_number(word as u64) {

@@ -31,7 +31,7 @@ module _ (q : Question) (scratch visits : List ℕ) where
         first-five q _ five ∙ rw (lt-ltb (length scratch) _ (rw (cells-asked q passes five) at h))
 
     module _ (room : length (q .marks) * cellWords ≤ length scratch) where
-      all-passed : checks q (length scratch) ≡ passes
+      pub all-passed : checks q (length scratch) ≡ passes
       unfolding checks
       all-passed = first-five q _ five ∙ rw (le-ltb (length scratch) _ (rw (cells-asked q passes five) at room))
 

@@ -1,2 +1,3 @@
 pub mod Route
 pub mod Ready
+pub mod Least

@@ -13,14 +13,11 @@ use answers::Figures;
 use answers::Refusal;
 use costs::COSTS;
 use emission::emit;
-use layout::ARRIVAL;
 use layout::CELL_WORDS;
-use layout::LABELS;
-use layout::TRAIL;
 use problem::Problem;
 use rows::clear;
 use search::Reached;
-use search::search;
+use search::search_anew;
 
 // The words that a route of so many gets of those lent: all of its own, or none.
 fn words_for(need: usize, lent: usize) -> usize
@@ -81,15 +78,13 @@ pub fn route_ready(
     requires { ⌜ Ready p (now plan) × (Room (length (now plan)) (now scratch) × CostsOf (p .elements) (now costs)) ⌝ }
     ensures { λ r. ⌜ RouteDone p (now (plan .entry)) (now (scratch .entry)) (now (scratch .exit)) (now (visits .entry)) (now (visits .exit)) r ⌝ }
 {
-    let n = plan.len();
-    clear(scratch, 0, n * ARRIVAL);
-    clear(scratch, n * LABELS, n * TRAIL);
-    let reached = search(plan, scratch, p, costs);
+    let reached = search_anew(plan, scratch, p, costs);
     match reached {
         Reached::Sink(registers, steps, count) => {
             return write_route(plan, scratch, p, costs, visits, registers, steps, count);
         }
         Reached::Nothing => {
+            let n = plan.len();
             clear(scratch, 0, n * CELL_WORDS);
             return Answer::Refused(Refusal::NoRoute);
         }

@@ -2,6 +2,11 @@ pub mod Order
 pub mod View
 pub mod Figures
 pub mod Beginning
+pub mod Carrying
 pub mod Dominance
+pub mod Relaxed
+pub mod Chains
 pub mod Document01
+pub mod Looser
+pub mod LeftOut
 pub mod Slack

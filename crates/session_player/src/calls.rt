@@ -7,6 +7,7 @@ use player::Turn;
 use player::ended;
 use player::next;
 use player::read_net;
+use player::refill;
 use report::smaller;
 use report::write_call;
 use route_call::Call;
@@ -21,9 +22,6 @@ use streams::write_text;
 
 // The largest number of a script.
 const MAX: u16 = 65535;
-
-// What the words hold before a route call.
-const UNUSED: u16 = 65535;
 
 // The line of a session call, and its record kept.
 fn stepped(name: &[u8], step: SessionStep, c: Cursor, p: Player) -> Turn {
@@ -77,14 +75,6 @@ pub fn undo(c: Cursor, p: Player, plan: &mut [u8], journal: &mut [u8]) -> Turn {
     let s = p.session;
     let step = undo_at(s, &mut plan[0..n], &mut journal[0..m]);
     stepped(b"undo", step, c, p)
-}
-
-fn refill(words: &mut [u16]) {
-    let mut i = 0;
-    while i < words.len() {
-        words[i] = UNUSED;
-        i += 1;
-    }
 }
 
 // Calls with fresh words, and writes the line.

@@ -1,13 +1,13 @@
 // The lines that are printed. Each function says whether all was written.
 use answers::Answer;
 use report::filled;
-use report::run_end;
 use report::smaller;
 use report::write_call;
 use report::write_fault;
 use report::write_figures;
 use report::write_runs;
 use report::write_words;
+use report::write_zeroed;
 use script::NO_NUMBER;
 use script::TOO_LARGE;
 use streams::write_number;
@@ -34,17 +34,6 @@ pub fn write_line(name: &[u8], words: &[u16]) -> bool {
     write_text(name) && write_runs(words) && write_text(b"\n")
 }
 
-// How many words from the first on are zero.
-fn zeros(words: &[u16]) -> usize {
-    if words.len() == 0 {
-        return 0;
-    }
-    if words[0] != 0 {
-        return 0;
-    }
-    run_end(words, 0)
-}
-
 // The line of a route call, from its answer and the words that it was lent.
 pub fn write_route(answer: Answer, depth: u16, scratch: &[u16], visits: &[u16]) -> bool {
     write_call(b"route", answer.number(), depth)
@@ -53,9 +42,7 @@ pub fn write_route(answer: Answer, depth: u16, scratch: &[u16], visits: &[u16]) 
         && write_figures(answer)
         && write_text(b" visits")
         && write_words(visits, filled(answer))
-        && write_text(b" zeroed")
-        && write_number(zeros(scratch) as u64)
-        && write_text(b"\n")
+        && write_zeroed(scratch)
 }
 
 fn write_reason(bad: u8) -> bool {

@@ -1,4 +1,6 @@
 pub mod Bounds
+pub mod Changed
 pub mod Checked
+pub mod Relaxed
 pub mod Signed
 pub mod SlackLaws

@@ -1,9 +1,11 @@
 // The elements. Fields are private: an element comes from its checking constructor, or is the all-zero one.
 ghost use mathlib.Core.Path.{_≡_};
+ghost use mathlib.Core.List.{map};
 ghost use Prim.Native.Nat.{_+_, _*_, _≤_};
 ghost use Rattle.timing.specs.Ranges.{loadMax, sumMost};
 ghost use Rattle.timing.specs.Valid.{Valid};
 ghost use Rattle.timing.specs.Slack.{slackOf};
+ghost use Rattle.timing.specs.Relaxed.{atPeriod, relaxedWire, relaxedBuffer, relaxedRegister, relaxed};
 ghost use Rattle.timing.specs.Formulas.{wireDelay, gateDelay, wireLoad, bufferDriver, bufferLoad, registerDriver, registerLoad, setupDelay};
 ghost use Rattle.timing.specs.Elements.{WireInRange, DriverInRange, RegisterInRange, checkedWire, checkedBuffer, checkedRegister, wireOf, bufferOf, registerOf};
 use crate::units::HalfTicks;
@@ -78,6 +80,47 @@ impl Elements {
         let register = self.register;
         register.driver().after(load, delay).slack(self.period)
     }
+
+    // The same tables with another period, in ticks.
+    pub fn at_period(self, period: u16) -> Elements
+        ensures { λ r. ⌜ r ≡ atPeriod period self ⌝ }
+    {
+        let mut e = self;
+        e.period = period;
+        e
+    }
+
+    // The same tables with every delay left out, and every load too unless `loads`.
+    pub fn relaxed(self, loads: bool) -> Elements
+        ensures { λ r. ⌜ r ≡ relaxed loads self ⌝ }
+    {
+        let horizontal = self.horizontal;
+        let vertical = self.vertical;
+        let register = self.register;
+        let given = self.buffers;
+        let buffers = relaxed_buffers(given, loads);
+        let mut e = self;
+        e.horizontal = horizontal.relaxed(loads);
+        e.vertical = vertical.relaxed(loads);
+        e.register = register.relaxed(loads);
+        e.buffers = buffers;
+        e
+    }
+}
+
+fn relaxed_buffers(
+    buffers: [Buffer; Elements::BUFFERS_MAX],
+    loads: bool,
+) -> [Buffer; Elements::BUFFERS_MAX]
+    ensures { λ r. ⌜ r ≡ map (relaxedBuffer loads) buffers ⌝ }
+{
+    let mut relaxed = buffers;
+    let mut i = 0;
+    while i < Elements::BUFFERS_MAX {
+        relaxed[i] = buffers[i].relaxed(loads);
+        i += 1;
+    }
+    relaxed
 }
 
 impl Wire {
@@ -124,6 +167,15 @@ impl Wire {
         ensures { λ r. ⌜ r .0 ≡ wireLoad self ⌝ }
     {
         self.load
+    }
+
+    fn relaxed(self, loads: bool) -> Wire
+        ensures { λ r. ⌜ r ≡ relaxedWire loads self ⌝ }
+    {
+        Wire {
+            resistance: Resistance(0),
+            load: self.load.kept(loads),
+        }
     }
 }
 
@@ -198,6 +250,18 @@ impl Buffer {
     {
         self.load
     }
+
+    fn relaxed(self, loads: bool) -> Buffer
+        ensures { λ r. ⌜ r ≡ relaxedBuffer loads self ⌝ }
+    {
+        Buffer {
+            driver: Driver {
+                resistance: Resistance(0),
+                delay: 0,
+            },
+            load: self.load.kept(loads),
+        }
+    }
 }
 
 impl Register {
@@ -259,6 +323,19 @@ impl Register {
         ensures { λ r. ⌜ r .0 ≡ registerLoad self ⌝ }
     {
         self.load
+    }
+
+    fn relaxed(self, loads: bool) -> Register
+        ensures { λ r. ⌜ r ≡ relaxedRegister loads self ⌝ }
+    {
+        Register {
+            driver: Driver {
+                resistance: Resistance(0),
+                delay: 0,
+            },
+            load: self.load.kept(loads),
+            setup: 0,
+        }
     }
 
     // The delay with which a span starts at this register.

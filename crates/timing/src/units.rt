@@ -1,6 +1,7 @@
 // Units. A load is never added to a delay: each has its own type.
 ghost use mathlib.Core.Path.{_≡_};
 ghost use Prim.Native.Nat.{_+_, _*_, _≤_};
+ghost use mathlib.Core.Bool.{cond};
 ghost use lib.Dec.{leb, ltb};
 ghost use Rattle.timing.specs.Ranges.{periodMax};
 ghost use Rattle.timing.specs.Slack.{slackOf};
@@ -32,6 +33,13 @@ impl Load {
         ensures { λ r. ⌜ r ≡ leb (self .0) (limit .0) ⌝ }
     {
         self.0 <= limit.0
+    }
+
+    // The load, or none.
+    pub fn kept(self, keep: bool) -> Load
+        ensures { λ r. ⌜ r .0 ≡ cond keep (self .0) 0 ⌝ }
+    {
+        if keep { self } else { Load(0) }
     }
 }
 

@@ -1,7 +1,9 @@
-// Refusal 5, and the numbers and figures of answers, verdicts and comparisons.
+// Refusal 5, and the numbers and figures of answers, verdicts, comparisons and reasons.
 use answers::Answer;
 use answers::Comparison;
+use answers::Explained;
 use answers::Figures;
+use answers::Reason;
 use answers::Refusal;
 use answers::Verdict;
 use answers::VisitFault;
@@ -41,4 +43,11 @@ pub fn verdicts() {
     expect(Comparison::Second.number() == 0);
     expect(Comparison::Refused(Refusal::RouteList).number() == 17);
     expect(Comparison::Refused(Refusal::NoneLegal).number() == 18);
+}
+
+pub fn reasons() {
+    expect(Explained::Because(Reason::WalledOff).number() == 0);
+    expect(Explained::Because(Reason::Period(12)).number() == 0);
+    expect(Explained::Refused(Refusal::Scratch).number() == 6);
+    expect(Explained::Refused(Refusal::RouteExists).number() == 19);
 }

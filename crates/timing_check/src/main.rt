@@ -18,4 +18,5 @@ fn main() {
     answer::ends();
     answer::answers();
     answer::verdicts();
+    answer::reasons();
 }

@@ -1,17 +1,20 @@
--- The refusals that the questions share.
+-- What the questions share: refusals, and scratch words that are zeroed.
 use Prim.Native.Nat.{ℕ, _*_}
 use mathlib.Core.Bool.{Bool, true, false}
 use mathlib.Core.List.{List}
 use mathlib.Core.Path.{_≡_, refl}
 use native.Mathlib.Omega.{arith}
 use borrow.Author.Tests.{ne-eqb}
-use lib.ListN.{length}
+use lib.ListN.{length, take, replicate, length-replicate}
+use lib.Seq.{take-at}
 use Rattle.plan.specs.Plan.{cells}
 use Rattle.plan.specs.Check.{gridFault, lengthFault, checkedPlan}
 use Rattle.answers.specs.declared.answer.Refusal.{Refusal}
-use Rattle.question.specs.Question.{Question, Check, passes, fails, afterPlan, orElse, questionChecks}
+use Rattle.question.specs.Question.{Question, cellsAsked, Check, passes, fails, afterPlan, orElse, questionChecks}
 use Rattle.question.proofs.Checks.{passed}
-use Rattle.session_model.specs.Asks.Asking.{Asking, asked, listChecks}
+use Rattle.layout.specs.Layout.{cellWords}
+use Rattle.router.specs.Route.{zeroed, scratchAfter}
+use Rattle.session_model.specs.Asks.Asking.{Asking, asked, listChecks, zeroedWords, zeros}
 
 -- sides that are no sides of the plan's bytes: refused with 2, whatever the checks after it
 pub other-sides : (a : Asking) (marks : List ℕ) (rest : Check) → gridFault (a .width) (a .height) ≡ false → (length marks ≡ a .width * a .height → ⊥) → questionChecks (asked a marks) rest ≡ fails Refusal.Length
@@ -26,3 +29,8 @@ lists-good q bad e = go bad (passed q _ e .after)
     go : (b : Bool) → orElse b Refusal.RouteList passes ≡ passes → b ≡ false
     go false h = refl
     go true h = absurd (let z : _≡_ {A = ℕ} 0 1 = cc in omega arith)
+
+-- after the checks, the words taken as zeroed are all zero, whatever the scratch words held
+pub zeros-taken : (q : Question) (scratch : List ℕ) → take (zeroedWords passes q) (scratchAfter passes q scratch) ≡ zeros q
+unfolding zeroedWords scratchAfter zeroed zeros
+zeros-taken q scratch = take-at (replicate (cellsAsked q * cellWords) 0) _ (zeroedWords passes q) (length-replicate {A = ℕ} (cellsAsked q * cellWords) 0)

@@ -5,7 +5,7 @@ use mathlib.Core.Path.{_≡_, refl}
 use native.Mathlib.Omega.{arith}
 use borrow.Author.Tests.{le-leb, lt-leb}
 use lib.Dec.{T}
-use lib.ListN.{length, take, replicate, length-replicate}
+use lib.ListN.{length, take}
 use lib.Seq.{take-at}
 use Rattle.rules.specs.Rules.{Rules}
 use Rattle.rules.specs.Legal.{Route, legal}
@@ -15,11 +15,12 @@ use Rattle.answers.specs.declared.answer.Answer.{Answer}
 use Rattle.answers.specs.declared.answer.Refusal.{Refusal}
 use Rattle.emission.proofs.Visits.{written-length}
 use Rattle.verdict.proofs.Accepted.{legal-visits}
-use Rattle.router.specs.Route.{Question, rulesAsked, cellsAsked, cellWords, Check, passes, fails, checks, figuresOf, answerAfter, answerUnder, answerOf, visitsAfter, visitsUnder, visitsOf, zeroed, scratchAfter, scratchOf}
+use Rattle.router.specs.Route.{Question, rulesAsked, Check, passes, fails, checks, figuresOf, answerAfter, answerUnder, answerOf, visitsAfter, visitsUnder, visitsOf, scratchAfter, scratchOf}
 use Rattle.router.proofs.Passed.{asked-best, asked-none}
 use Rattle.router.proofs.Demand2.{Demand2, demand-2}
-use Rattle.session_model.specs.Asks.Asking.{asked}
-use Rattle.session_model.specs.Asks.Route.{RouteAsk, RouteReply, AlikeRoutes, zeroedWords, routeGives, zeros, bestReply, checkedReply, routeReply, RouteAnswered, isRefused, noRoute, noRoom, isFound}
+use Rattle.session_model.specs.Asks.Asking.{asked, zeroedWords, zeros}
+use Rattle.session_model.specs.Asks.Route.{RouteAsk, RouteReply, AlikeRoutes, routeGives, bestReply, checkedReply, routeReply, RouteAnswered, isRefused, noRoute, noRoom, isFound}
+use Rattle.session_model.proofs.Replies.Asking.{zeros-taken}
 
 -- a legal route has visits, so that its words are two for each step and two more
 pub written-words : (R : Rules) (r : Route) → T (legal R r) → length (written r) ≡ 2 * (steps r + 1)
@@ -37,11 +38,6 @@ module _ (q : Question) (scratch room : ℕ) where
 
 -- What the call hands back and fills is that reply: its answer and visits are demand 2's.
 module _ (q : Question) (scratch visits : List ℕ) where
-  -- after the checks, the words taken as zeroed are all zero, whatever the scratch words held
-  zeros-taken : take (zeroedWords passes q) (scratchAfter passes q scratch) ≡ zeros q
-  unfolding zeroedWords scratchAfter zeroed zeros
-  zeros-taken = take-at (replicate (cellsAsked q * cellWords) 0) _ (zeroedWords passes q) (length-replicate {A = ℕ} (cellsAsked q * cellWords) 0)
-
   refused-answered : (r : Refusal) → checks q (length scratch) ≡ fails r → RouteAnswered q (length scratch) (length visits) (routeGives q scratch visits)
   unfolding routeGives answerOf answerUnder answerAfter visitsOf visitsUnder visitsAfter scratchOf scratchAfter zeroedWords
   refused-answered r e = rw e (isRefused r e)
@@ -56,7 +52,7 @@ module _ (q : Question) (scratch visits : List ℕ) where
 
     passed-answered : RouteAnswered q (length scratch) (length visits) (routeGives q scratch visits)
     unfolding routeGives scratchOf
-    passed-answered = rw (pass, zeros-taken) (by-demand (demand-2 q scratch visits pass))
+    passed-answered = rw (pass, zeros-taken q scratch) (by-demand (demand-2 q scratch visits pass))
 
   pub route-answered : RouteAnswered q (length scratch) (length visits) (routeGives q scratch visits)
   route-answered = go (checks q (length scratch)) refl

@@ -4,15 +4,15 @@ use mathlib.Core.Bool.{cond}
 use mathlib.Core.List.{List, []}
 use mathlib.Core.Path.{_≡_}
 use lib.Dec.{T, leb}
-use lib.ListN.{length, take, replicate}
+use lib.ListN.{length, take}
 use Rattle.rules.specs.Legal.{Route, legal}
 use Rattle.rules.specs.Ranking.{steps, written, IsBest}
 use Rattle.best.specs.Best.{Outcome, found, none, best}
 use Rattle.answers.specs.Numbers.{filledWords}
 use Rattle.answers.specs.declared.answer.Answer.{Answer}
 use Rattle.answers.specs.declared.answer.Refusal.{Refusal}
-use Rattle.router.specs.Route.{Question, rulesAsked, cellsAsked, cellWords, Check, passes, fails, checks, figuresOf, answerOf, scratchOf, visitsOf}
-use Rattle.session_model.specs.Asks.Asking.{Asking}
+use Rattle.router.specs.Route.{Question, rulesAsked, Check, passes, fails, checks, figuresOf, answerOf, scratchOf, visitsOf}
+use Rattle.session_model.specs.Asks.Asking.{Asking, zeroedWords, zeros}
 
 -- the call is lent scratch words and visits, too
 pub record RouteAsk : Type 0 where
@@ -34,11 +34,6 @@ pub record AlikeRoutes (a b : RouteAsk) : Type 0 where
 
 -- What the call gives: its contract (router/specs/Route.antt).
 
--- scratch words that are zeroed: once the checks have passed, whatever the answer
-unfoldable pub zeroedWords : Check → Question → ℕ
-zeroedWords passes q = cellsAsked q * cellWords
-zeroedWords (fails r) q = 0
-
 unfoldable pub routeGives : Question → List ℕ → List ℕ → RouteReply
 routeGives q scratch visits =
     record {
@@ -48,9 +43,6 @@ routeGives q scratch visits =
     }
 
 -- What the model gives: from the lengths of what is lent alone, by the executable definition of the best route. `scratch` and `room`: the words lent for scratch and visits.
-
-unfoldable pub zeros : Question → List ℕ
-zeros q = replicate (cellsAsked q * cellWords) 0
 
 unfoldable pub bestReply : Question → ℕ → Outcome → RouteReply
 bestReply q room (found r) =

@@ -4,8 +4,8 @@ use mathlib.Core.Path.{_≡_}
 use native.Mathlib.Omega.{arith}
 use lib.ListN.{length, length-set}
 use borrow.Author.Needs.{needs}
-use Rattle.session_player.proofs.calls.refill.Statement.{statement}
-use Rattle.session_player.proofs.calls.refill.Tie as tie
+use Rattle.player.proofs.fresh.refill.Statement.{statement}
+use Rattle.player.proofs.fresh.refill.Tie as tie
 
 abbrev Inv-loop : tie.InvT-loop
 Inv-loop words₀ i₀ words i = (length words ≡ length words₀) × (i ≤ length words)

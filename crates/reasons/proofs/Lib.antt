@@ -1,0 +1,9 @@
+pub mod Routed
+pub mod Order
+pub mod Smallest
+pub mod Periods
+pub mod Values
+pub mod Probes
+pub mod Refusals
+pub mod Meaning
+pub mod Explained

@@ -1,0 +1,62 @@
+-- The whole effect of `explain`, for every input: document 02, C-13. It says what the answer is and what the scratch words hold afterwards; the plan is only read.
+-- The definition computes, by the best route under looser tables; proofs/Explained.antt says what each reason means, in the words of document 02.
+use Prim.Native.Nat.{ℕ}
+use mathlib.Core.Bool.{Bool, true, false, cond}
+use mathlib.Core.List.{List}
+use mathlib.Core.Path.{_≡_}
+use lib.Dec.{leb}
+use lib.ListN.{length}
+use Rattle.plan.specs.Plan.{Plan, planOf}
+use Rattle.timing.specs.declared.elements.Elements.{Elements}
+use Rattle.timing.specs.Ranges.{periodMin, periodMax}
+use Rattle.timing.specs.Relaxed.{atPeriod, relaxed}
+use Rattle.rules.specs.Rules.{Rules, rulesOf}
+use Rattle.budget.specs.Emission.{firstFrom}
+use Rattle.best.specs.Best.{found, none, best}
+use Rattle.answers.specs.Tables.{elementsOf}
+use Rattle.answers.specs.declared.answer.Refusal.{Refusal}
+use Rattle.answers.specs.declared.explained.Reason.{Reason}
+use Rattle.answers.specs.declared.explained.Explained.{Explained}
+use Rattle.question.specs.Question.{Question, Check, passes, fails}
+use Rattle.router.specs.Route.{checks, scratchOf}
+
+-- whether a legal route exists
+unfoldable pub routed : Rules → Bool
+routed R = elim (best R) [ found r ↦ true | none ↦ false ]
+
+-- and with another period
+unfoldable pub routedAt : Plan → Elements → ℕ → ℕ → ℕ → Bool
+routedAt p e a b t = routed (rulesOf p (atPeriod t e) a b)
+
+-- the first of 1, 2, .. 30,000 at which a route exists; 30,001 for none
+unfoldable pub smallestPeriod : Plan → Elements → ℕ → ℕ → ℕ
+smallestPeriod p e a b = firstFrom (routedAt p e a b) periodMin periodMax
+
+unfoldable pub periodReason : ℕ → Reason
+periodReason t = cond (leb t periodMax) (Reason.Period t) Reason.TooShort
+
+-- walled off: no route even where nothing has a delay or a load; load: none where nothing has a delay
+unfoldable pub reasonFor : Plan → Elements → ℕ → ℕ → Reason
+reasonFor p e a b =
+    elim (routed (rulesOf p (relaxed false e) a b)) [
+      | false ↦ Reason.WalledOff
+      | true ↦ elim (routed (rulesOf p (relaxed true e) a b)) [ false ↦ Reason.Load | true ↦ periodReason (smallestPeriod p e a b) ]
+    ]
+
+-- 19 where a route exists
+unfoldable pub explainedFor : Plan → Elements → ℕ → ℕ → Explained
+explainedFor p e a b =
+    elim (routed (rulesOf p e a b)) [ true ↦ Explained.Refused Refusal.RouteExists | false ↦ Explained.Because (reasonFor p e a b) ]
+
+unfoldable pub explainedAfter : Check → Question → Explained
+explainedAfter passes q = explainedFor (planOf (q .width) (q .height) (q .marks)) (elementsOf (q .tables) (q .buffers)) (q .source) (q .sink)
+explainedAfter (fails r) q = Explained.Refused r
+
+-- the answer; `scratch` is how many words are lent
+unfoldable pub explainedOf : Question → ℕ → Explained
+explainedOf q scratch = explainedAfter (checks q scratch) q
+
+-- Both: what the call answers, and what it leaves in the scratch words, which is what a route call leaves.
+pub record Explaining (q : Question) (scratch scratch′ : List ℕ) (r : Explained) : Type 0 where
+  pub answer : r ≡ explainedOf q (length scratch)
+  pub scratchLeft : scratch′ ≡ scratchOf q scratch

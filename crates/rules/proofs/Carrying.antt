@@ -1,0 +1,157 @@
+-- The carrying law: where wires, sites, limit and bounds allow no less and loads and delays are no more, every legal route stays legal, its codes renamed.
+-- Idea: with the same cells and the renamed codes, load and delay stay no more than they were, and every test bounds them from above.
+use Prim.Native.Nat.{ℕ, _*_, _+_, _≤_}
+use mathlib.Core.List.{[], _∷_}
+use mathlib.Core.Path.{_≡_, refl, ap, _∙_, subst}
+use native.Mathlib.Nat.{mul-le-mul}
+use native.Mathlib.Omega.{arith}
+use lib.Dec.{T}
+use Rattle.timing.specs.declared.elements.Wire.{Wire}
+use Rattle.timing.specs.declared.elements.Driver.{Driver}
+use Rattle.timing.specs.declared.elements.Buffer.{Buffer}
+use Rattle.timing.specs.Formulas.{wireDelay, gateDelay, bufferDriver}
+use Rattle.rules.specs.Rules.{Stage, Rules}
+use Rattle.rules.specs.Legal.{Route, arrive, buffered, closing, mayStand, legal}
+use Rattle.rules.specs.Carrying.{NotWorse, Quicker, NotWorseWire, NotWorseBuffer, Buffering, Carries, renamedVisit, renamed}
+use Rattle.rules.proofs.View.{Reached, Ending, ends, passes, buffers, closes, LegalRoute, starts, route-view, route-test}
+
+pub renamed-id : (r : Route) → renamed (λ c. c) r ≡ r
+unfolding renamed renamedVisit
+renamed-id [] = refl
+renamed-id (v ∷ vs) = ap (λ (r : Route). v ∷ r) (renamed-id vs)
+
+module _ {rename : ℕ → ℕ} {R Q : Rules} (k : Carries rename R Q) where
+  module _ {s t : Stage} (d : NotWorse s t) where
+    arrive-carries : (from to : ℕ) → T (R .linked from to) → NotWorse (arrive Q from s to) (arrive R from t to)
+    unfolding arrive
+    arrive-carries from to h =
+        let w = k .wires from to h in
+        record { load = omega (arith, w .load, d .load); delay = omega (arith, w .delay (s .load) (t .load) (d .load), d .delay) }
+
+    buffered-carries : (cell code : ℕ) → Buffering code → T (mayStand R cell code) → NotWorse (buffered Q s (rename code)) (buffered R t code)
+    unfolding buffered
+    buffered-carries cell code f h =
+        let b = k .buffers cell code f h in
+        record { load = b .load; delay = omega (arith, b .delay (s .load) (t .load) (d .load), d .delay) }
+
+    closing-carries : (cell : ℕ) → closing Q s cell ≤ closing R t cell
+    unfolding closing
+    closing-carries cell = omega (arith, k .closers cell (s .load) (t .load) (d .load), d .delay)
+
+    reached-carries : {from cell : ℕ} → Reached R from t cell → Reached Q from s cell
+    reached-carries {from} {cell} h =
+        record {
+          inPlan = omega (arith, h .inPlan, k .cells);
+          wired = k .linked from cell (h .wired);
+          light = omega (arith, arrive-carries from cell (h .wired) .load, h .light, k .limit);
+        }
+
+  -- `s` and `t` are the stages after the last visit before the ending, under Q and under R
+  pub ending-carries : {from span : ℕ} {t : Stage} {vs : Route} → Ending R from span t vs → (s : Stage) → NotWorse s t → Ending Q from span s (renamed rename vs)
+  unfolding renamed renamedVisit
+  ending-carries (ends {from = from} {span = span} {v = v} h) s d =
+      let a = arrive-carries d from (v .cell) (h .reached .wired) in
+      ends
+      {span = span}
+      {v = renamedVisit rename v}
+      (record {
+        reached = reached-carries d (h .reached);
+        atSource = h .atSource ∙ k .source;
+        code = ap rename (h .code) ∙ k .register;
+        closed = omega (arith, closing-carries a (v .cell), h .closed, k .bound span);
+      })
+  ending-carries (passes {from = from} {v = v} h e) s d =
+      passes
+      {v = renamedVisit rename v}
+      (record {
+        reached = reached-carries d (h .reached);
+        code = ap rename (h .code) ∙ k .none;
+        stands = k .stands (v .cell) (v .code) (h .stands);
+      })
+      (ending-carries e _ (arrive-carries d from (v .cell) (h .reached .wired)))
+  ending-carries (buffers {from = from} {v = v} h e) s d =
+      let f : Buffering (v .code) = record { someGate = h .someGate; noRegister = h .noRegister } in
+      let a = buffered-carries (arrive-carries d from (v .cell) (h .reached .wired)) (v .cell) (v .code) f (h .stands) in
+      buffers
+      {v = renamedVisit rename v}
+      (record {
+        reached = reached-carries d (h .reached);
+        someGate = k .buffering (v .code) f .someGate;
+        noRegister = k .buffering (v .code) f .noRegister;
+        stands = k .stands (v .cell) (v .code) (h .stands);
+        lightAfter = omega (arith, a .load, h .lightAfter, k .limit);
+      })
+      (ending-carries e _ a)
+  ending-carries (closes {from = from} {span = span} {v = v} h e) s d =
+      let a = arrive-carries d from (v .cell) (h .reached .wired) in
+      closes
+      {span = span}
+      {v = renamedVisit rename v}
+      (record {
+        reached = reached-carries d (h .reached);
+        code = ap rename (h .code) ∙ k .register;
+        stands = k .stands (v .cell) (v .code) (h .stands);
+        lightAfter = omega (arith, k .fresh .load, h .lightAfter, k .limit);
+        closed = omega (arith, closing-carries a (v .cell), h .closed, k .bound span);
+      })
+      (ending-carries e _ (k .fresh))
+
+  pub legal-carries : (r : Route) → T (legal R r) → T (legal Q (renamed rename r))
+  unfolding renamed renamedVisit
+  legal-carries r h = go (route-view R r h)
+    where
+      go : {r : Route} → LegalRoute R r → T (legal Q (renamed rename r))
+      go (starts {v = v} {vs = vs} f e) =
+          route-test
+          (starts
+          {v = renamedVisit rename v}
+          (record {
+            atSink = f .atSink ∙ k .sink;
+            code = ap rename (f .code) ∙ k .register;
+            inPlan = omega (arith, f .inPlan, k .cells, k .sink);
+            light = omega (arith, f .light, k .start .load, k .limit);
+          })
+          (subst (λ (c : ℕ). Ending Q c 0 (Q .start) (renamed rename vs)) (k .sink) (ending-carries e (Q .start) (k .start))))
+
+-- No renaming
+
+pub legal-eases : {R Q : Rules} → Carries (λ c. c) R Q → (r : Route) → T (legal R r) → T (legal Q r)
+legal-eases {R} {Q} k r h = subst (λ (q : Route). T (legal Q q)) (renamed-id r) (legal-carries k r h)
+
+-- The formulas grow with the load, so every rules carry their own routes.
+
+pub wire-grows : (w : Wire) → NotWorseWire w w
+unfolding wireDelay
+wire-grows w = record { load = omega arith; delay = λ l m h. mul-le-mul {n₂ = w .resistance .0} {m₂ = 2 * m + w .load .0} (omega arith) (omega arith) }
+
+pub driver-grows : (g : Driver) → Quicker g g
+unfolding gateDelay
+driver-grows g l m h =
+    let grown : g .resistance .0 * l ≤ g .resistance .0 * m = mul-le-mul {n₂ = g .resistance .0} {m₂ = m} (omega arith) h in
+    omega arith
+
+pub buffer-grows : (b : Buffer) → NotWorseBuffer b b
+buffer-grows b = record { load = omega arith; delay = driver-grows (bufferDriver b) }
+
+pub stage-same : (s : Stage) → NotWorse s s
+stage-same s = record { load = omega arith; delay = omega arith }
+
+pub carries-self : (R : Rules) → Carries (λ c. c) R R
+carries-self R =
+    record {
+      cells = omega arith;
+      source = refl;
+      sink = refl;
+      limit = omega arith;
+      linked = λ a b h. h;
+      wires = λ a b h. wire-grows (R .wire a b);
+      none = refl;
+      register = refl;
+      buffering = λ code f. f;
+      stands = λ cell code h. h;
+      buffers = λ cell code f h. buffer-grows (R .buffer code);
+      start = stage-same (R .start);
+      fresh = stage-same (R .fresh);
+      closers = λ cell. driver-grows (R .closer cell);
+      bound = λ span. omega arith;
+    }

@@ -1,0 +1,124 @@
+-- Document 01's rules with looser tables carry the routes of the stricter ones. Looser are a longer period, and tables with no loads than those with no delays (document 02, C-13).
+use Prim.Native.Nat.{ℕ, zero, suc, _-_, _≤_}
+use mathlib.Core.Bool.{Bool, true, false, cond}
+use mathlib.Core.List.{List, [], _∷_, map}
+use mathlib.Core.Path.{_≡_, refl, sym}
+use native.Mathlib.Omega.{arith}
+use lib.ListN.{getD}
+use Rattle.plan.specs.Plan.{Plan}
+use Rattle.plan.specs.Joined.{horizontal}
+use Rattle.timing.specs.declared.elements.Wire.{Wire}
+use Rattle.timing.specs.declared.elements.Buffer.{Buffer}
+use Rattle.timing.specs.declared.elements.Elements.{Elements}
+use Rattle.timing.specs.Formulas.{wireDelay, wireLoad, gateDelay, bufferDriver, bufferLoad, registerDriver, registerLoad, setupDelay}
+use Rattle.timing.specs.Elements.{wireOf, bufferOf, registerOf, driverOf}
+use Rattle.timing.specs.Relaxed.{atPeriod, relaxedWire, relaxedBuffer, relaxedRegister, relaxed}
+use Rattle.rules.specs.Rules.{wireBetween, siteOf, rulesOf}
+use Rattle.rules.specs.Legal.{isEnd, mayStand}
+use Rattle.rules.specs.Carrying.{Quicker, NotWorseWire, NotWorseBuffer, Carries}
+use Rattle.rules.proofs.Carrying.{wire-grows, driver-grows, buffer-grows}
+
+-- buffer number i, as `rulesOf` reads it
+abbrev pub bufferAt : Elements → ℕ → Buffer
+bufferAt e i = getD (e .buffers) i (bufferOf 0 0 0)
+
+-- Tables e are no stricter than d, in any number
+
+pub record Looser (d e : Elements) : Type 0 where
+  pub period : d .period ≤ e .period
+  pub limit : d .limit .0 ≤ e .limit .0
+  pub horizontal : NotWorseWire (e .horizontal) (d .horizontal)
+  pub vertical : NotWorseWire (e .vertical) (d .vertical)
+  pub load : registerLoad (e .register) ≤ registerLoad (d .register)
+  pub setup : setupDelay (e .register) ≤ setupDelay (d .register)
+  pub driver : Quicker (registerDriver (e .register)) (registerDriver (d .register))
+  pub count : d .count ≡ e .count
+  pub buffers : (i : ℕ) → NotWorseBuffer (bufferAt e i) (bufferAt d i)
+
+pub looser-carries : (p : Plan) {d e : Elements} (from to : ℕ) → Looser d e → Carries (λ c. c) (rulesOf p d from to) (rulesOf p e from to)
+unfolding rulesOf siteOf wireBetween mayStand isEnd
+looser-carries p {d} {e} from to k =
+    record {
+      cells = omega arith;
+      source = refl;
+      sink = refl;
+      limit = k .limit;
+      linked = λ a b h. h;
+      wires = λ a b h. wire (horizontal p a b);
+      none = refl;
+      register = refl;
+      buffering = λ code f. f;
+      stands = λ cell code h. rw (sym (k .count)) h;
+      buffers = λ cell code f h. k .buffers (code - 1);
+      start = record { load = k .load; delay = k .setup };
+      fresh = record { load = k .load; delay = k .setup };
+      closers = λ cell. k .driver;
+      bound = λ span. omega (arith, k .period);
+    }
+  where
+    wire : (across : Bool) → NotWorseWire (cond across (e .horizontal) (e .vertical)) (cond across (d .horizontal) (d .vertical))
+    wire true = k .horizontal
+    wire false = k .vertical
+
+-- The tables with something left out, element by element
+
+pub buffer-at : (loads : Bool) (bs : List Buffer) (i : ℕ) → getD (map (relaxedBuffer loads) bs) i (bufferOf 0 0 0) ≡ relaxedBuffer loads (getD bs i (bufferOf 0 0 0))
+unfolding relaxedBuffer bufferOf bufferLoad
+buffer-at true [] i = refl
+buffer-at false [] i = refl
+buffer-at loads (b ∷ bs) zero = refl
+buffer-at loads (b ∷ bs) (suc i) = buffer-at loads bs i
+
+pub wire-load : (loads : Bool) (w : Wire) → wireLoad (relaxedWire loads w) ≡ cond loads (wireLoad w) 0
+unfolding relaxedWire wireOf wireLoad
+wire-load loads w = refl
+
+pub wire-quick : (loads : Bool) (w : Wire) (load : ℕ) → wireDelay (relaxedWire loads w) load ≡ 0
+unfolding relaxedWire wireOf wireDelay
+wire-quick loads w load = omega arith
+
+pub buffer-load : (loads : Bool) (b : Buffer) → bufferLoad (relaxedBuffer loads b) ≡ cond loads (bufferLoad b) 0
+unfolding relaxedBuffer bufferOf bufferLoad
+buffer-load loads b = refl
+
+pub buffer-quick : (loads : Bool) (b : Buffer) (load : ℕ) → gateDelay (bufferDriver (relaxedBuffer loads b)) load ≡ 0
+unfolding relaxedBuffer bufferOf driverOf bufferDriver gateDelay
+buffer-quick loads b load = omega arith
+
+-- Looser tables
+
+pub later-looser : (e : Elements) (t u : ℕ) → t ≤ u → Looser (atPeriod t e) (atPeriod u e)
+unfolding atPeriod
+later-looser e t u h =
+    record {
+      period = h;
+      limit = omega arith;
+      horizontal = wire-grows (e .horizontal);
+      vertical = wire-grows (e .vertical);
+      load = omega arith;
+      setup = omega arith;
+      driver = driver-grows (registerDriver (e .register));
+      count = refl;
+      buffers = λ i. buffer-grows (bufferAt e i);
+    }
+
+bare-wire : (w : Wire) → NotWorseWire (relaxedWire false w) (relaxedWire true w)
+bare-wire w = record { load = omega (arith, wire-load false w); delay = λ l m h. omega (arith, wire-quick false w l) }
+
+bare-buffer : (b : Buffer) → NotWorseBuffer (relaxedBuffer false b) (relaxedBuffer true b)
+bare-buffer b = record { load = omega (arith, buffer-load false b); delay = λ l m h. omega (arith, buffer-quick false b l) }
+
+pub bare-looser : (e : Elements) → Looser (relaxed true e) (relaxed false e)
+unfolding relaxed relaxedRegister registerOf registerLoad registerDriver setupDelay
+bare-looser e =
+    record {
+      period = omega arith;
+      limit = omega arith;
+      horizontal = bare-wire (e .horizontal);
+      vertical = bare-wire (e .vertical);
+      load = omega arith;
+      setup = omega arith;
+      driver = driver-grows (driverOf 0 0);
+      count = refl;
+      buffers = λ i. rw (buffer-at true (e .buffers) i, buffer-at false (e .buffers) i) (bare-buffer (bufferAt e i));
+    }

@@ -1,0 +1,101 @@
+// Jobs with known lines, worked out by hand from documents 01 and 02: the reference must give them, and so must the
+// program.
+
+use crate::rules::{Buffer, Problem, Register, Wire};
+
+pub struct Case {
+    pub name: &'static str,
+    pub problem: Problem,
+    pub told: &'static str, // the line without the depth
+}
+
+fn strip(period: u32) -> Problem {
+    let wire = Wire { r: 2, c: 3 };
+    Problem {
+        width: 3,
+        height: 1,
+        marks: vec![0, 2, 0],
+        register: Register { r: 1, k: 2, c: 1, setup: 1 },
+        horizontal: wire,
+        vertical: wire,
+        period,
+        limit: 63,
+        source: 0,
+        sink: 2,
+        buffers: vec![],
+    }
+}
+
+fn limited(limit: u32) -> Problem {
+    Problem { limit, ..strip(26) }
+}
+
+fn buffered(period: u32) -> Problem {
+    Problem { buffers: vec![Buffer { r: 1, k: 1, c: 1 }], ..strip(period) }
+}
+
+fn marked(marks: [u32; 3], p: Problem) -> Problem {
+    Problem { marks: marks.to_vec(), ..p }
+}
+
+fn setup(setup: u32, p: Problem) -> Problem {
+    Problem { register: Register { setup, ..p.register }, ..p }
+}
+
+fn two_rows(period: u32) -> Problem {
+    Problem { height: 2, marks: vec![0, 1, 0, 0, 2, 0], vertical: Wire { r: 0, c: 0 }, ..strip(period) }
+}
+
+// Two cells; the one step takes an odd half-tick, nothing else takes time.
+fn step(setup: u32, period: u32) -> Problem {
+    let register = Register { setup, ..Register::default() };
+    let horizontal = Wire { r: 1, c: 1 };
+    Problem { width: 2, height: 1, marks: vec![0, 0], register, horizontal, limit: 1, period, sink: 1, ..strip(1) }
+}
+
+pub fn cases() -> Vec<Case> {
+    let exists = "19 zeroed 768";
+    let list = vec![
+        ("R1", strip(26), exists),
+        ("R2", strip(25), exists),
+        ("R3", strip(12), exists),
+        ("R4", strip(11), "0 period 12 zeroed 768"),
+        ("R5", limited(7), exists),
+        ("R6", limited(6), exists),
+        ("R7", limited(3), "0 load zeroed 768"),
+        ("R8", buffered(22), exists),
+        ("R9", buffered(21), exists),
+        ("R10", buffered(26), exists),
+        ("R11: the whole strip closes at 52", marked([0, 1, 0], strip(25)), "0 period 26 zeroed 768"),
+        ("R12", marked([0, 3, 0], buffered(22)), exists),
+        ("R13", two_rows(12), "19 zeroed 1536"),
+        ("R13 a tick shorter", two_rows(11), "0 period 12 zeroed 1536"),
+        ("R11 with a buffer, and no tap", marked([0, 0, 0], buffered(21)), "0 period 22 zeroed 768"),
+        ("R4 at T 1", strip(1), "0 period 12 zeroed 768"),
+        ("R7 at T 1: load comes first", Problem { period: 1, ..limited(3) }, "0 load zeroed 768"),
+        ("load 4 just fits", limited(4), exists),
+        ("C(reg) 1 above L 0", limited(0), "0 load zeroed 768"),
+        ("the wire from 0 cut", marked([4, 2, 0], strip(11)), "0 walled zeroed 768"),
+        ("the wire from 1 cut, and C(reg) above L", marked([0, 6, 0], limited(0)), "0 walled zeroed 768"),
+        ("blocked cells only", marked([1, 1, 1], strip(11)), "0 period 26 zeroed 768"),
+        ("setup 29,989: a span closes at 60,000", setup(29_989, strip(11)), "0 period 30000 zeroed 768"),
+        ("the same at T 29,999", setup(29_989, strip(29_999)), "0 period 30000 zeroed 768"),
+        ("the same at T 30,000", setup(29_989, strip(30_000)), exists),
+        ("setup 29,990: 60,002 is over 60,000", setup(29_990, strip(30_000)), "0 short zeroed 768"),
+        ("setup 30,000, the load limit too low", setup(30_000, limited(3)), "0 load zeroed 768"),
+        ("setup 12 above T 11: a span closes at 46", setup(12, strip(11)), "0 period 23 zeroed 768"),
+        ("one half-tick", step(0, 1), "19 zeroed 512"),
+        ("eleven half-ticks", step(5, 5), "0 period 6 zeroed 512"),
+        ("59,999 half-ticks", step(29_999, 29_999), "0 period 30000 zeroed 512"),
+        ("60,001 half-ticks", step(30_000, 30_000), "0 short zeroed 512"),
+        ("width 0", Problem { width: 0, ..strip(11) }, "1 zeroed 0"),
+        ("two rows of one byte too few", Problem { height: 2, ..strip(11) }, "2 zeroed 0"),
+        ("a 4 in the last column", marked([0, 2, 4], strip(11)), "3 zeroed 0"),
+        ("T 0", strip(0), "4 fault 1 zeroed 0"),
+        ("T 30,001", strip(30_001), "4 fault 1 zeroed 0"),
+        ("setup 30,001", setup(30_001, strip(11)), "4 fault 5 zeroed 0"),
+        ("equal ends", Problem { source: 2, ..strip(11) }, "5 zeroed 0"),
+        ("equal ends and T 0", Problem { source: 2, ..strip(0) }, "4 fault 1 zeroed 0"),
+    ];
+    list.into_iter().map(|(name, problem, told)| Case { name, problem, told }).collect()
+}
