@@ -43,12 +43,16 @@ fn closing(p: &Problem, list: &[Visit]) -> u64 {
 fn tune(p: &mut Problem, list: &mut [Visit], miss: u64) {
     let wanted = miss + 2 * p.period as u64;
     let mut at = 2;
-    while closing(p, list) > wanted {
-        list[at].1 = 0;
-        at += 1;
-    }
+    let mut shorten = |p: &Problem, list: &mut [Visit]| {
+        while closing(p, list) > wanted {
+            list[at].1 = 0;
+            at += 1;
+        }
+    };
+    shorten(p, list);
     if (wanted - closing(p, list)) % 2 == 1 {
-        p.vertical.r = 2;
+        p.vertical.r = 2; // an odd delay more, which may be too much
+        shorten(p, list);
     }
     p.register.setup = ((wanted - closing(p, list)) / 2) as u32;
 }
