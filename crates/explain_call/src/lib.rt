@@ -1,4 +1,8 @@
 // The session player's command that asks why there is no route, and what it prints.
+ghost use mathlib.Core.Path.{_≡_};
+ghost use lib.ListN.{length, take};
+ghost use Rattle.question.specs.Question.{questionOf};
+ghost use Rattle.reasons.specs.Reasons.{explainedOf};
 use answers::Explained;
 use answers::Reason;
 use player::Net;
@@ -33,14 +37,15 @@ fn write_explained(explained: Explained) -> bool {
     }
 }
 
-// The call on the first words, and its line; whether it was written.
-fn asked(net: Net, p: Player, plan: &[u8], scratch: &mut [u16]) -> bool {
-    refill(scratch);
+// The call on the first bytes of the plan and the first scratch words.
+fn explained_of(net: Net, p: Player, plan: &[u8], scratch: &mut [u16]) -> Explained
+    ensures { λ r. ⌜ r ≡ explainedOf (questionOf (take (p .plan) (now (plan .entry))) (net .width) (net .height) (p .tables) (p .list) (net .source) (net .sink)) (length (take (p .scratch) (now (scratch .entry)))) ⌝ }
+{
     let n = smaller(p.plan, plan.len());
     let s = smaller(p.scratch, scratch.len());
     let tables = p.tables;
     let list = p.list;
-    let explained = explain_with(
+    explain_with(
         &plan[0..n],
         net.width,
         net.height,
@@ -49,7 +54,13 @@ fn asked(net: Net, p: Player, plan: &[u8], scratch: &mut [u16]) -> bool {
         net.source,
         net.sink,
         &mut scratch[0..s],
-    );
+    )
+}
+
+// The call with fresh words, and its line; whether it was written.
+fn asked(net: Net, p: Player, plan: &[u8], scratch: &mut [u16]) -> bool {
+    refill(scratch);
+    let explained = explained_of(net, p, plan, scratch);
     write_call(b"reason", explained.number(), p.session.depth)
         && write_explained(explained)
         && write_zeroed(scratch)

@@ -7,3 +7,4 @@ pub mod Probes
 pub mod Refusals
 pub mod Meaning
 pub mod Explained
+pub mod Numbers

@@ -20,7 +20,8 @@ use Rattle.rules.proofs.Document01.{no-gate-stands}
 use Rattle.rules.proofs.Carrying.{legal-eases}
 use Rattle.rules.proofs.Relaxed.{Timeless, legal-fitting, legal-fits, SameLoads, fits-alike}
 use Rattle.rules.proofs.Chains.{Weightless, chainRoute, chain-legal, legal-chain}
-use Rattle.rules.proofs.Looser.{bufferAt, looser-carries, buffer-at, wire-load, wire-quick, buffer-quick, buffer-load, later-looser, bare-looser}
+use Rattle.timing.proofs.Relaxed.{buffer-at, wire-load, wire-quick, buffer-quick, buffer-load}
+use Rattle.rules.proofs.Looser.{bufferAt, looser-carries, later-looser, bare-looser}
 
 module _ (p : Plan) (e : Elements) (from to : ℕ) where
   -- the rules with these tables

@@ -1,7 +1,6 @@
 -- Document 01's rules with looser tables carry the routes of the stricter ones. Looser are a longer period, and tables with no loads than those with no delays (document 02, C-13).
-use Prim.Native.Nat.{ℕ, zero, suc, _-_, _≤_}
+use Prim.Native.Nat.{ℕ, _-_, _≤_}
 use mathlib.Core.Bool.{Bool, true, false, cond}
-use mathlib.Core.List.{List, [], _∷_, map}
 use mathlib.Core.Path.{_≡_, refl, sym}
 use native.Mathlib.Omega.{arith}
 use lib.ListN.{getD}
@@ -10,8 +9,9 @@ use Rattle.plan.specs.Joined.{horizontal}
 use Rattle.timing.specs.declared.elements.Wire.{Wire}
 use Rattle.timing.specs.declared.elements.Buffer.{Buffer}
 use Rattle.timing.specs.declared.elements.Elements.{Elements}
-use Rattle.timing.specs.Formulas.{wireDelay, wireLoad, gateDelay, bufferDriver, bufferLoad, registerDriver, registerLoad, setupDelay}
-use Rattle.timing.specs.Elements.{wireOf, bufferOf, registerOf, driverOf}
+use Rattle.timing.specs.Formulas.{registerDriver, registerLoad, setupDelay}
+use Rattle.timing.specs.Elements.{bufferOf, registerOf, driverOf}
+use Rattle.timing.proofs.Relaxed.{buffer-at, wire-load, wire-quick, buffer-load, buffer-quick}
 use Rattle.timing.specs.Relaxed.{atPeriod, relaxedWire, relaxedBuffer, relaxedRegister, relaxed}
 use Rattle.rules.specs.Rules.{wireBetween, siteOf, rulesOf}
 use Rattle.rules.specs.Legal.{isEnd, mayStand}
@@ -59,31 +59,6 @@ looser-carries p {d} {e} from to k =
     wire : (across : Bool) → NotWorseWire (cond across (e .horizontal) (e .vertical)) (cond across (d .horizontal) (d .vertical))
     wire true = k .horizontal
     wire false = k .vertical
-
--- The tables with something left out, element by element
-
-pub buffer-at : (loads : Bool) (bs : List Buffer) (i : ℕ) → getD (map (relaxedBuffer loads) bs) i (bufferOf 0 0 0) ≡ relaxedBuffer loads (getD bs i (bufferOf 0 0 0))
-unfolding relaxedBuffer bufferOf bufferLoad
-buffer-at true [] i = refl
-buffer-at false [] i = refl
-buffer-at loads (b ∷ bs) zero = refl
-buffer-at loads (b ∷ bs) (suc i) = buffer-at loads bs i
-
-pub wire-load : (loads : Bool) (w : Wire) → wireLoad (relaxedWire loads w) ≡ cond loads (wireLoad w) 0
-unfolding relaxedWire wireOf wireLoad
-wire-load loads w = refl
-
-pub wire-quick : (loads : Bool) (w : Wire) (load : ℕ) → wireDelay (relaxedWire loads w) load ≡ 0
-unfolding relaxedWire wireOf wireDelay
-wire-quick loads w load = omega arith
-
-pub buffer-load : (loads : Bool) (b : Buffer) → bufferLoad (relaxedBuffer loads b) ≡ cond loads (bufferLoad b) 0
-unfolding relaxedBuffer bufferOf bufferLoad
-buffer-load loads b = refl
-
-pub buffer-quick : (loads : Bool) (b : Buffer) (load : ℕ) → gateDelay (bufferDriver (relaxedBuffer loads b)) load ≡ 0
-unfolding relaxedBuffer bufferOf driverOf bufferDriver gateDelay
-buffer-quick loads b load = omega arith
 
 -- Looser tables
 

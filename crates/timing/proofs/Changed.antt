@@ -27,8 +27,3 @@ module _ {A : Type 0} (f : A → A) where
   pub map-length : (xs : List A) → length (map f xs) ≡ length xs
   map-length [] = refl
   map-length (x ∷ xs) = ap suc (map-length xs)
-
-  pub map-at : (d e : A) (i : ℕ) (xs : List A) → i < length xs → getD (map f xs) i d ≡ f (getD xs i e)
-  map-at d e i [] h = absurd (omega arith)
-  map-at d e zero (x ∷ xs) h = refl
-  map-at d e (suc i) (x ∷ xs) h = map-at d e i xs (omega arith)

@@ -1,10 +1,12 @@
--- Tables with something left out are checked tables too.
-use Prim.Native.Nat.{ℕ, _≤_}
+-- Tables with something left out: what their elements cost, and that they are checked tables too.
+use Prim.Native.Nat.{ℕ, zero, suc, _≤_}
 use mathlib.Core.Bool.{Bool, true, false, cond}
 use mathlib.Core.Path.{_≡_, refl, _∙_}
+use mathlib.Core.List.{List, [], _∷_, map}
 use native.Mathlib.Omega.{arith}
+use lib.ListN.{getD}
 use Rattle.timing.specs.Ranges.{loadMax, periodMin, periodMax}
-use Rattle.timing.specs.Formulas.{wireLoad, bufferLoad, registerLoad}
+use Rattle.timing.specs.Formulas.{wireDelay, wireLoad, gateDelay, bufferDriver, bufferLoad, registerLoad}
 use Rattle.timing.specs.Elements.{WireInRange, BufferInRange, RegisterInRange, wireOf, driverOf, bufferOf, registerOf}
 use Rattle.timing.specs.Relaxed.{atPeriod, relaxedWire, relaxedBuffer, relaxedRegister, relaxed}
 use Rattle.timing.specs.Valid.{Valid}
@@ -12,7 +14,32 @@ use Rattle.timing.specs.declared.elements.Wire.{Wire}
 use Rattle.timing.specs.declared.elements.Buffer.{Buffer}
 use Rattle.timing.specs.declared.elements.Register.{Register}
 use Rattle.timing.specs.declared.elements.Elements.{Elements}
-use Rattle.timing.proofs.Changed.{map-length, map-at}
+use Rattle.timing.proofs.Changed.{map-length}
+
+-- Element by element: which loads stay, and that nothing takes time
+
+pub buffer-at : (loads : Bool) (bs : List Buffer) (i : ℕ) → getD (map (relaxedBuffer loads) bs) i (bufferOf 0 0 0) ≡ relaxedBuffer loads (getD bs i (bufferOf 0 0 0))
+unfolding relaxedBuffer bufferOf bufferLoad
+buffer-at true [] i = refl
+buffer-at false [] i = refl
+buffer-at loads (b ∷ bs) zero = refl
+buffer-at loads (b ∷ bs) (suc i) = buffer-at loads bs i
+
+pub wire-load : (loads : Bool) (w : Wire) → wireLoad (relaxedWire loads w) ≡ cond loads (wireLoad w) 0
+unfolding relaxedWire wireOf wireLoad
+wire-load loads w = refl
+
+pub wire-quick : (loads : Bool) (w : Wire) (load : ℕ) → wireDelay (relaxedWire loads w) load ≡ 0
+unfolding relaxedWire wireOf wireDelay
+wire-quick loads w load = omega arith
+
+pub buffer-load : (loads : Bool) (b : Buffer) → bufferLoad (relaxedBuffer loads b) ≡ cond loads (bufferLoad b) 0
+unfolding relaxedBuffer bufferOf bufferLoad
+buffer-load loads b = refl
+
+pub buffer-quick : (loads : Bool) (b : Buffer) (load : ℕ) → gateDelay (bufferDriver (relaxedBuffer loads b)) load ≡ 0
+unfolding relaxedBuffer bufferOf driverOf bufferDriver gateDelay
+buffer-quick loads b load = omega arith
 
 pub own-period : (e : Elements) → atPeriod (e .period) e ≡ e
 unfolding atPeriod
@@ -66,5 +93,5 @@ module _ (loads : Bool) where
         register = register-fits _ (v .register);
         count = v .count;
         places = map-length (relaxedBuffer loads) (e .buffers) ∙ v .places;
-        buffers = λ i h. rw (map-at (relaxedBuffer loads) (bufferOf 0 0 0) (bufferOf 0 0 0) i (e .buffers) (omega (arith, v .places))) (buffer-fits _ (v .buffers i h));
+        buffers = λ i h. rw (buffer-at loads (e .buffers) i) (buffer-fits _ (v .buffers i h));
       }

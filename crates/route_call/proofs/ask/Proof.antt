@@ -1,26 +1,9 @@
 -- The parts lent are the first words, as many as there are.
-use Prim.Native.Nat.{ℕ, _-_, min}
-use mathlib.Core.Bool.{Bool, true, false}
-use mathlib.Core.List.{List}
-use mathlib.Core.Path.{_≡_, refl, sym, _∙_}
-use native.Mathlib.Omega.{arith}
-use lib.Dec.{leb}
-use lib.ListN.{length, take}
-use lib.Seq.{take-all}
+use mathlib.Core.Path.{_∙_}
 use borrow.Author.Needs.{needs}
-use borrow.Author.Tests.{leb-true, leb-false}
+use Rattle.report.proofs.Lent.{lent}
 use Rattle.route_call.proofs.ask.Statement.{statement}
 use Rattle.route_call.proofs.ask.Tie as tie
-
-lent : (k r : ℕ) (words : List ℕ) → r ≡ min k (length words) → take (r - 0) words ≡ take k words
-lent k r words e = go (leb k (length words)) refl
-  where
-    go : (b : Bool) → leb k (length words) ≡ b → take (r - 0) words ≡ take k words
-    go true t = let h = leb-true k (length words) t in let same : r - 0 ≡ k = omega arith in rw same
-    go false t =
-        let h = leb-false k (length words) t in
-        let all : r - 0 ≡ length words = omega arith in
-        take-all (r - 0) words (omega arith) ∙ sym (take-all k words (omega arith))
 
 smaller-requires : tie.Need-smaller-requires
 smaller-requires c κs = search needs
