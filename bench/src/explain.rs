@@ -4,7 +4,7 @@
 use crate::ours::{Ours, Why};
 use crate::peer::Plain;
 use crate::plans::{self, FULL};
-use crate::problem::{BLOCKED, Problem, TAP};
+use crate::problem::{BLOCKED, CUT_BELOW, CUT_RIGHT, Problem, TAP};
 use crate::verdict::{ms, times};
 use std::hint::black_box;
 use std::time::Duration;
@@ -41,7 +41,20 @@ pub fn more() -> Vec<(&'static str, Problem)> {
     let mut long = plans::serpentine(FULL, 29000);
     long.marks.iter_mut().for_each(|m| *m &= !TAP);
     long.horizontal.r = 4;
-    vec![("open, L 2", light), ("comb, two tips near the sink blocked", comb), ("serpentine, no taps, R 4", long)]
+    // one span, and then without delays on the wires and no way to the source
+    let mut bare = plans::open(FULL, 250);
+    bare.marks.iter_mut().for_each(|m| *m &= !TAP);
+    let mut walled = bare.clone();
+    walled.marks[walled.source] |= CUT_RIGHT | CUT_BELOW;
+    (walled.horizontal.r, walled.vertical.r) = (0, 0);
+    vec![
+        ("open, L 2", light),
+        ("comb, two tips near the sink blocked", comb),
+        ("serpentine, no taps, R 4", long),
+        ("open, no taps", bare),
+        ("open, no taps, wires R 0, source cut off", walled),
+        ("open, wires R 0, heavy register", plans::heavy_register(1)),
+    ]
 }
 
 fn at_period(p: &Problem, period: u16) -> Problem {
@@ -88,27 +101,6 @@ fn right(p: &Problem, why: Why, peer: &mut Plain) -> bool {
         }
 }
 
-/// The searches that crates/reasons makes for such an answer.
-fn searches(p: &Problem, why: Why) -> u32 {
-    match why.words[0] {
-        PERIOD => {
-            let (mut low, mut high, mut count) = (p.period as u32, PERIOD_MAX as u32, 2);
-            while low + 1 < high {
-                let middle = low + (high - low) / 2;
-                if why.words[1] <= middle {
-                    high = middle
-                } else {
-                    low = middle
-                }
-                count += 1;
-            }
-            count
-        }
-        TOO_SHORT => 3,
-        _ => 4,
-    }
-}
-
 /// The answer; none where the scratch words are not left as they should be.
 fn ask(ours: &mut Ours, p: &Problem) -> Option<Why> {
     let used = 256 * p.cells();
@@ -118,20 +110,20 @@ fn ask(ours: &mut Ours, p: &Problem) -> Option<Why> {
     (ours.scratch[..used].iter().all(|&w| w == 0) && ours.scratch[used] == 9).then_some(why)
 }
 
-/// Least time of the question on a plan that has a route: one search. None where that is not the answer.
-fn one_search(ours: &mut Ours, p: &Problem, budget: Duration) -> Option<Duration> {
+/// Least time of the question on a plan that has a route. None where that is not the answer.
+fn routed(ours: &mut Ours, p: &Problem, budget: Duration) -> Option<Duration> {
     let exists = Why { number: 19, words: [0; 5] };
     (ask(ours, p)? == exists).then(|| times(budget, || ours.explain(black_box(p))).0)
 }
 
-/// One line. False where the reason is wrong, or it takes too long and is not the ladder.
+/// One line. False where the reason is wrong or takes too long.
 fn line(name: &str, table: Option<&Problem>, p: &Problem, ours: &mut Ours, peer: &mut Plain, budget: Duration) -> bool {
     let Some(why) = ask(ours, p).filter(|&why| right(p, why, peer)) else {
         println!("MISMATCH: {name}: {:?}", ask(ours, p));
         return false;
     };
     let (least, median) = times(budget, || ours.explain(black_box(p)));
-    let search = match table.filter(|p| joined(p)).map(|p| one_search(ours, p, budget)) {
+    let with_route = match table.filter(|p| joined(p)).map(|p| routed(ours, p, budget)) {
         None => "-".into(),
         Some(Some(d)) => format!("{:.3}", ms(d)),
         Some(None) => {
@@ -145,15 +137,10 @@ fn line(name: &str, table: Option<&Problem>, p: &Problem, ours: &mut Ours, peer:
         PERIOD => format!("period {}", why.words[1]),
         _ => "too short".into(),
     };
-    let ladder = name.starts_with("ladder");
-    let mark = match (least > MOST, ladder) {
-        (false, _) => "",
-        (true, true) => " above the limit: one search alone is",
-        (true, false) => " TOO SLOW",
-    };
-    let (count, least_ms, median) = (searches(p, why), ms(least), ms(median));
-    println!("| {name} | {} | {reason} | {count} | {least_ms:.3} | {median:.3} | {search} |{mark}", p.period);
-    least <= MOST || ladder
+    let mark = if least > MOST { " TOO SLOW" } else { "" };
+    let (least_ms, median) = (ms(least), ms(median));
+    println!("| {name} | {} | {reason} | {least_ms:.3} | {median:.3} | {with_route} |{mark}", p.period);
+    least <= MOST
 }
 
 /// The table's plans by name, then `more`.
@@ -161,12 +148,12 @@ pub fn run(table: &[(&str, &Problem)], budget: Duration) -> bool {
     println!();
     println!(
         "Why there is no route, in ms, limit {} ms: the table's plans with T 1, or as they are where walled off, and \
-         some more. one search: asked at the table's T, where a route exists (19).",
+         some more. 19: asked at the table's T, where a route exists.",
         MOST.as_millis()
     );
     println!();
-    println!("| plan | T | reason | searches | least | median | one search |");
-    println!("|---|---|---|---|---|---|---|");
+    println!("| plan | T | reason | least | median | 19 |");
+    println!("|---|---|---|---|---|---|");
     let (mut ours, mut peer) = (Ours::new(), Plain::new());
     let mut ok = true;
     for (name, p) in table {

@@ -6,7 +6,7 @@
 //!     route_bench verdict                  the verdict on lists of up to a million visits, and a plain judge on the same
 //!     route_bench stack                    bytes of stack that a call takes
 //!     route_bench names                    the names of the table's plans
-//!     route_bench once PLAN SIDE [N]       N calls of a side (ours, noroom, peer, tuned, explain, search), for a profiler
+//!     route_bench once PLAN SIDE [N]       N calls of a side (ours, noroom, peer, tuned, explain, exists), for a profiler
 //!     route_bench judge LIST VISITS SIDE [N]    N verdicts of a side (ours, peer) on a list by its place, for a profiler
 //!
 //! The status is not 0 where the two differ in the number of registers, a figure, a verdict or a reason is not what it
@@ -249,7 +249,7 @@ fn growth(budget: Duration) -> bool {
 }
 
 /// Calls of one side on one plan of the table, for a profiler. explain: why there is no route, on its version without one
-/// or on one of the plans beside the table; search: the same question on the plan as it is, where a route exists.
+/// or on one of the plans beside the table; exists: the same question on the plan as it is, where a route exists.
 fn once(name: &str, side: &str, count: u64) -> bool {
     let mut all = table_plans().into_iter().map(|p| (p.name, p.problem)).collect::<Vec<_>>();
     if side == "explain" {
@@ -266,11 +266,11 @@ fn once(name: &str, side: &str, count: u64) -> bool {
         let p = black_box(&problem);
         match side {
             "explain" => drop(black_box(sides.ours.explain(p))),
-            "search" if sides.ours.explain(p).number != 19 => {
+            "exists" if sides.ours.explain(p).number != 19 => {
                 println!("no route on {name}");
                 return false;
             }
-            "search" => {}
+            "exists" => {}
             "peer" => drop(black_box(sides.peer.route(p))),
             "tuned" => drop(black_box(sides.tuned.route(p))),
             "noroom" => drop(black_box(sides.ours.no_room(p))),

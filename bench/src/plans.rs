@@ -186,3 +186,16 @@ pub fn ladder(side: usize, period: u16) -> Problem {
     p.buffers = [(0, 7), (1, 4), (3, 2), (7, 1), (15, 0)].map(|(r, c)| Buffer { r, k: 0, c }).to_vec();
     p
 }
+
+/// Taps everywhere, and wires that weigh and do not delay: a span comes far at once and must be driven often to close. The
+/// tables are those of a plan that a hill climb found, slow for a search by delay.
+pub fn heavy_register(period: u16) -> Problem {
+    let mut p = open(FULL, period);
+    (p.source, p.sink) = (758, 4);
+    p.register = Register { r: 165, k: 190, c: 7, setup: 49 };
+    (p.horizontal, p.vertical) = (Wire { r: 0, c: 4 }, Wire { r: 0, c: 1 });
+    p.buffers = [(0, 382, 63), (1, 0, 6), (62, 0, 0), (3, 4, 4), (2, 5, 5), (1, 977, 3)]
+        .map(|(r, k, c)| Buffer { r, k, c })
+        .to_vec();
+    p
+}

@@ -1,5 +1,5 @@
 -- The codes at one cell, by the words: which tests of the code say that a visit goes on, and the first code out of them.
-use Prim.Native.Nat.{ℕ, zero, suc, _+_, _-_, _*_, _≤_, _<_}
+use Prim.Native.Nat.{ℕ, zero, suc, _+_, _*_, _≤_, _<_}
 use mathlib.Core.Path.{_≡_, refl}
 use mathlib.Core.Bool.{Bool, true, false, not, _&&_}
 use mathlib.Core.List.{List}
@@ -12,12 +12,9 @@ use lib.IntN.{pos}
 use lib.ListN.{length, getD}
 use lib.Signed.{leZ}
 use Rattle.timing.specs.declared.elements.Elements.{Elements}
-use Rattle.timing.specs.Formulas.{gateDelay, bufferDriver, bufferLoad, registerDriver}
-use Rattle.timing.specs.Ranges.{loadMax, buffersMax}
+use Rattle.timing.specs.Formulas.{gateDelay, bufferLoad, registerDriver}
 use Rattle.timing.specs.Slack.{slackOf}
 use Rattle.timing.proofs.SlackLaws.{slack-below}
-use Rattle.timing.specs.Elements.{DriverInRange}
-use Rattle.timing.specs.Valid.{Valid}
 use Rattle.rules.specs.Rules.{Rules, rulesOf, noGate, registerCode}
 use Rattle.rules.specs.Legal.{mayStand}
 use Rattle.plan.proofs.Truth.{split, both, snd, decided, is-true, is-false, of-true, of-false}
@@ -34,26 +31,13 @@ use Rattle.rows.specs.Rows.{viewOf}
 use Rattle.problem.specs.declared.Problem.{Problem}
 use Rattle.table.specs.Problem.{planFor, rulesFor, budgetOf}
 use Rattle.costs.specs.Costs.{bufferAt}
+use Rattle.costs.proofs.Checked.{buffer-load-most}
 use Rattle.table.specs.ArrivalRow.{takesBuffers}
 use Rattle.table.proofs.ArrivalRow.{takes-site, site-takes}
 use Rattle.table.proofs.Views.{budget-at, buffer-named, limit-named}
 use Rattle.choice.specs.declared.State.{State}
 use Rattle.choice.specs.Choice.{delayMost}
 use Rattle.choice.specs.Codes.{CodeAsks, goesAt, drives, FirstBuffer, FirstCode}
-
--- a checked buffer and register
-
-pub buffer-driver-fits : {e : Elements} → Valid e → (i : ℕ) → i < buffersMax → DriverInRange (bufferDriver (bufferAt e i))
-unfolding bufferDriver bufferAt
-buffer-driver-fits v i h = v .buffers i h .driver
-
-pub buffer-load-most : {e : Elements} → Valid e → (i : ℕ) → i < buffersMax → bufferLoad (bufferAt e i) ≤ loadMax
-unfolding bufferLoad bufferAt
-buffer-load-most v i h = v .buffers i h .load
-
-pub register-driver-fits : {e : Elements} → Valid e → DriverInRange (registerDriver (e .register))
-unfolding registerDriver
-register-driver-fits v = v .register .driver
 
 -- the table's words have 16 bits if all words have
 pub budget-bounded : (n : ℕ) (words : List ℕ) → ((k : ℕ) → getD words k 0 ≤ delayMost) → (c l : ℕ) → budgetOf n words c l ≤ delayMost

@@ -33,7 +33,7 @@ use Rattle.choice.specs.declared.State.{State}
 use Rattle.choice.specs.declared.Choice.{Choice}
 use Rattle.choice.specs.Choice.{delayMost, placeAt, Goes, ChosenAmong}
 use Rattle.choice.specs.Codes.{CodeAsks, TryAsks, goesAt, FirstCode, leftLoad, leftDelay, leftSlack, Left}
-use Rattle.choice.proofs.Codes.{buffer-load-most}
+use Rattle.costs.proofs.Checked.{buffer-load-most}
 
 -- a visit that goes on passes a wire
 pub goes-linked : (R : Rules) (m : Labels) (A : Table) (from : State) (c code : ℕ) → Goes R m A from c code → T (R .linked (from .cell) c)

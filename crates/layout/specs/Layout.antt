@@ -69,3 +69,21 @@ slotLow = 65
 -- in a slot: the layer, the high 16 bits
 abbrev pub slotHigh : ℕ
 slotHigh = 66
+
+-- While the first period is sought the words hold other things. From 0 on stand the rows of the least delays, one a cell.
+
+-- the states that wait
+abbrev pub queueAt : ℕ
+queueAt = 64
+
+-- where each state waits
+abbrev pub placesAt : ℕ
+placesAt = 128
+
+-- the least delay with which a span closes at each cell
+abbrev pub closesAt : ℕ
+closesAt = 192
+
+-- a word that only says when it is worth looking for the next close
+abbrev pub hintAt : ℕ
+hintAt = 193

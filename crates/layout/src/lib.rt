@@ -51,3 +51,17 @@ pub const SLOT_LOW: usize = 65;
 
 // In a slot: the layer, the high 16 bits.
 pub const SLOT_HIGH: usize = 66;
+
+// While the first period is sought (crate `earliest`) the words hold other things. From 0 on stand the rows of the least delays, one a cell.
+
+// The states that wait.
+pub const QUEUE: usize = 64;
+
+// Where each state waits.
+pub const PLACES: usize = 128;
+
+// The least delay with which a span closes at each cell.
+pub const CLOSES: usize = 192;
+
+// A word that only says when it is worth looking for the next close.
+pub const HINT: usize = 193;

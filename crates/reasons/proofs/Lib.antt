@@ -4,6 +4,7 @@ pub mod Smallest
 pub mod Periods
 pub mod Values
 pub mod Probes
+pub mod Passes
 pub mod Refusals
 pub mod Meaning
 pub mod Explained

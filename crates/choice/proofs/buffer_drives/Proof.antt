@@ -9,7 +9,7 @@ use Rattle.timing.specs.Elements.{bufferOf, driverOf}
 use Rattle.timing.specs.Formulas.{gateDelay, bufferDriver, bufferLoad}
 use Rattle.costs.specs.Costs.{bufferAt}
 use Rattle.choice.specs.Codes.{drives}
-use Rattle.choice.proofs.Codes.{buffer-driver-fits, buffer-load-most}
+use Rattle.costs.proofs.Checked.{buffer-driver-fits, buffer-load-most}
 use Rattle.choice.proofs.buffer_drives.Statement.{statement}
 use Rattle.choice.proofs.buffer_drives.Tie as tie
 

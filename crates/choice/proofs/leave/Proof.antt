@@ -13,7 +13,7 @@ use Rattle.rules.specs.Rules.{noGate, registerCode}
 use Rattle.budget.proofs.Visit.{registers-closed, registers-kept}
 use Rattle.costs.specs.Costs.{bufferAt}
 use Rattle.choice.specs.Codes.{leftLoad, leftDelay, leftSlack}
-use Rattle.choice.proofs.Codes.{buffer-driver-fits}
+use Rattle.costs.proofs.Checked.{buffer-driver-fits}
 use Rattle.choice.proofs.leave.Statement.{statement}
 use Rattle.choice.proofs.leave.Tie as tie
 

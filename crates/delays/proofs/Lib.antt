@@ -1,0 +1,5 @@
+pub mod Cuts
+pub mod Closes
+pub mod Idles
+pub mod Waiting
+pub mod Easing

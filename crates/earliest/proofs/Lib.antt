@@ -1,0 +1,3 @@
+pub mod NoRoute
+pub mod Passing
+pub mod Parts

@@ -1,0 +1,5 @@
+pub mod Opens
+pub mod Eases
+pub mod Buffers
+pub mod Arriving
+pub mod Stepping

@@ -1,0 +1,4 @@
+pub mod Opens
+pub mod Eases
+pub mod Arrive
+pub mod Spread
