@@ -37,7 +37,7 @@ pub eased-in : {n limit cell load delay : ℕ} {old : List ℕ} {count : ℕ} {n
 eased-in {load = load} e light = omega (arith, lesser-min (e .row load (omega arith) light))
 
 -- The words after a close is written: no row, no word of the queue, no other close is touched.
-pub record Closed (n cell close : ℕ) (old new : List ℕ) : Type 0 where
+pub record CloseSet (n cell close : ℕ) (old new : List ℕ) : Type 0 where
   pub same : length new ≡ length old
   pub low : (k : ℕ) → k < n * closesAt → getD new k 0 ≡ getD old k 0
   pub here : closesOf n new cell ≡ close
@@ -45,7 +45,7 @@ pub record Closed (n cell close : ℕ) (old new : List ℕ) : Type 0 where
   pub rest : KeptFrom (n * cellWords) old new
 
 module _ (n cell close : ℕ) (inside : cell < n) where
-  pub closed-set : (old : List ℕ) → n * cellWords ≤ length old → Closed n cell close old (set old (n * closesAt + cell) close)
+  pub closed-set : (old : List ℕ) → n * cellWords ≤ length old → CloseSet n cell close old (set old (n * closesAt + cell) close)
   closed-set old room =
       record {
         same = length-set old (n * closesAt + cell) close;
@@ -56,7 +56,7 @@ module _ (n cell close : ℕ) (inside : cell < n) where
       }
 
   -- and the hint
-  pub closed-hint : (old new : List ℕ) (x : ℕ) → Closed n cell close old new → Closed n cell close old (set new (n * hintAt) x)
+  pub closed-hint : (old new : List ℕ) (x : ℕ) → CloseSet n cell close old new → CloseSet n cell close old (set new (n * hintAt) x)
   closed-hint old new x w =
       record {
         same = length-set new (n * hintAt) x ∙ w .same;
@@ -220,7 +220,7 @@ module _ (p : Problem) (marks : List ℕ) where
           opened c l k f = rw (f .is, f .now) (opens-worse p marks t cell load delay l delay o (f .heavy) (omega arith))
 
     -- A close is written, and then rows are eased. The span that starts there may be among them.
-    module _ (old : List ℕ) (count : ℕ) (mid : List ℕ) (cell close : ℕ) (g : Ground p marks old count) (w : Closed n cell close old mid) where
+    module _ (old : List ℕ) (count : ℕ) (mid : List ℕ) (cell close : ℕ) (g : Ground p marks old count) (w : CloseSet n cell close old mid) where
       row : (c l : ℕ) → c < n → l ≤ limit → viewOf mid c l ≡ viewOf old c l
       row c l h k = w .low (c * rowWords + l) (omega (arith, limit-row g))
 

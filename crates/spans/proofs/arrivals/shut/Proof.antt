@@ -11,7 +11,7 @@ use Rattle.problem.specs.declared.Problem.{Problem}
 use Rattle.delays.specs.Delays.{latest, closesOf, Eased}
 use Rattle.spans.specs.Eases.{Ground, Eases}
 use Rattle.spans.specs.Arrive.{ShutAsks, ShutIn}
-use Rattle.spans.proofs.Eases.{Closed, closed-set, closed-hint, ground-space, eases-self, eased-eases, eased-in, ground-closed, close-then}
+use Rattle.spans.proofs.Eases.{CloseSet, closed-set, closed-hint, ground-space, eases-self, eased-eases, eased-in, ground-closed, close-then}
 use Rattle.spans.proofs.arrivals.shut.Statement.{statement}
 use Rattle.spans.proofs.arrivals.shut.Tie as tie
 
@@ -27,10 +27,10 @@ module _ (p : Problem) (marks : List ℕ) (t : ℕ) (old : List ℕ) (count cell
   still h = (eases-self p marks t old count (asks .ground), h)
 
   module _ (most : close ≤ latest) (less : close < closesOf n old cell) where
-    written : Closed n cell close old (set old (n * closesAt + cell) close)
+    written : CloseSet n cell close old (set old (n * closesAt + cell) close)
     written = closed-set n cell close (asks .inside) old (asks .ground .room)
 
-    module _ (mid : List ℕ) (w : Closed n cell close old mid) where
+    module _ (mid : List ℕ) (w : CloseSet n cell close old mid) where
       mid-ground : Ground p marks mid count
       mid-ground = ground-closed p marks t old count mid cell close (asks .ground) w
 
