@@ -1,4 +1,4 @@
--- Document 01's rules: `best` is their best route, or none; its figures fit 32 bits.
+-- Document 01's rules: `best` is their best route, by registers, or none; its figures fit 32 bits.
 use Prim.Native.Nat.{ℕ, _+_, _*_, _≤_, _<_}
 use mathlib.Core.Path.{_≡_}
 use mathlib.Core.Logic.{_↔_}
@@ -6,43 +6,43 @@ use native.Mathlib.Nat.{mul-le-mul}
 use native.Mathlib.Omega.{arith}
 use lib.Dec.{T}
 use Rattle.plan.specs.Plan.{Plan, cells, Sized}
-use Rattle.plan.proofs.Joined.{joined-in}
 use Rattle.timing.specs.declared.elements.Elements.{Elements}
 use Rattle.timing.specs.Valid.{Valid}
 use Rattle.rules.specs.Rules.{rulesOf}
 use Rattle.rules.specs.Legal.{Route, legal}
 use Rattle.rules.specs.Ranking.{registers, steps, latency, IsBest}
-use Rattle.rules.proofs.Document01.{rules-cellCount, rules-limit, rules-linked, rules-bound}
-use Rattle.budget.proofs.Document01.{rules-lawful}
+use Rattle.rules.proofs.Document01.{rules-cellCount}
+use Rattle.budget.proofs.Short.{mostSteps, mostWeight}
+use Rattle.budget.proofs.Document01.{rules-lawful, rules-from, steps-most, weight-most, rules-cost}
 use Rattle.best.specs.Rows.{Bounded}
 use Rattle.best.specs.Best.{found, none, best}
-use Rattle.best.proofs.Best.{best-is, best-none, best-most, best-steps-fit}
+use Rattle.best.proofs.Best.{best-is, best-none, best-most}
 
 module _ (p : Plan) (e : Elements) (from to : ℕ) where
   pub rules-bounded : Bounded (rulesOf p e from to)
-  rules-bounded =
-      record { fromPlan = λ c n h. rw (rules-cellCount p e from to) (joined-in p c n (rw (rules-linked p e from to c n) at h) .0) }
+  rules-bounded = record { fromPlan = rules-from p e from to }
 
   module _ (valid : Valid e) where
-    pub rules-best : (r : Route) → (best (rulesOf p e from to) ≡ found r) ↔ IsBest (rulesOf p e from to) r
-    rules-best = best-is (rulesOf p e from to) (rules-lawful p e from to valid) rules-bounded
+    pub rules-best : (r : Route) → (best (rulesOf p e from to) ≡ found r) ↔ IsBest registers (rulesOf p e from to) r
+    rules-best = best-is (rulesOf p e from to) (rules-lawful p e from to valid) rules-bounded registers 1 (rules-cost p e from to)
 
     pub rules-none : (best (rulesOf p e from to) ≡ none) ↔ ((r : Route) → T (legal (rulesOf p e from to) r) → ⊥)
-    rules-none = best-none (rulesOf p e from to) (rules-lawful p e from to valid) rules-bounded
+    rules-none = best-none (rulesOf p e from to) (rules-lawful p e from to valid) rules-bounded registers 1 (rules-cost p e from to)
 
     -- 32 · 32 cells at most
-    module _ (sized : Sized p) (r : Route) (h : IsBest (rulesOf p e from to) r) where
+    module _ (sized : Sized p) (r : Route) (h : IsBest registers (rulesOf p e from to) r) where
       cells-most : rulesOf p e from to .cellCount ≤ 1024
       unfolding cells
       cells-most = rw (rules-cellCount p e from to) (mul-le-mul {n₂ = 32} {m₂ = 32} (sized .narrow) (sized .low))
 
+      most : (steps r ≤ mostSteps (rulesOf p e from to) (rulesOf p e from to .fifos)) × (registers r + 1 ≤ mostWeight (rulesOf p e from to) 0 (rulesOf p e from to .fifos))
+      most = best-most (rulesOf p e from to) (rules-lawful p e from to valid) rules-bounded registers 1 (rules-cost p e from to) r h
+
       pub registers-fit : registers r ≤ 1024
-      registers-fit = omega (arith, best-most (rulesOf p e from to) (rules-lawful p e from to valid) rules-bounded r h .1, cells-most)
+      registers-fit = omega (arith, most .1, weight-most p e from to valid cells-most)
 
       pub steps-fit : steps r < 4294967296
-      steps-fit =
-          best-steps-fit (rulesOf p e from to) (rules-lawful p e from to valid) rules-bounded r h cells-most
-          (omega (arith, rules-limit p e from to, valid .limit)) (omega (arith, rules-bound p e from to 0, valid .most))
+      steps-fit = omega (arith, most .0, steps-most p e from to valid cells-most)
 
       pub latency-fits : latency (e .period) r < 4294967296
       unfolding latency

@@ -1,7 +1,10 @@
-pub mod Sums
 pub mod Rows
 pub mod Labels
+pub mod Start
+pub mod Next
 pub mod Bounds
+pub mod Watch
 pub mod Search
+pub mod Sides
 pub mod Best
 pub mod Document01

@@ -1,18 +1,16 @@
 -- Rows hold their table: a layer of rows is the layer of the table.
 use Prim.Native.Nat.{ℕ, zero, suc, _+_, _-_, _≤_, _<_, max}
 use mathlib.Core.Path.{_≡_, refl, sym, ap, _∙_}
-use mathlib.Core.Bool.{Bool}
 use mathlib.Core.List.{List, []}
 use mathlib.Core.Logic.{_⊎_, inl, inr}
 use native.Mathlib.Omega.{arith}
-use lib.Dec.{leb, leb→le}
 use lib.ListN.{getD}
 use Rattle.timing.specs.Formulas.{wireDelay}
 use Rattle.rules.specs.Rules.{Rules}
 use Rattle.plan.proofs.Truth.{split}
-use Rattle.budget.specs.Table.{Table, maxBelow, loadAt, arrival, given, layer}
+use Rattle.budget.specs.Table.{Table, Seeds, maxBelow, loadAt, arrival, given, layer}
 use Rattle.budget.proofs.Max.{only-test, only-value}
-use Rattle.budget.proofs.Active.{max-most, max-same, given-row}
+use Rattle.budget.proofs.Active.{max-most, max-same, arrival-past, given-row}
 use Rattle.best.specs.Rows.{Rows, listFrom, tableOf, rowsOf, layerRows, Bounded}
 
 -- a table is 0 outside of the plan and above the load limit
@@ -60,17 +58,18 @@ pub empty-zero : (c l : ℕ) → tableOf [] c l ≡ 0
 unfolding tableOf
 empty-zero c l = refl
 
-module _ (R : Rules) (bounded : Bounded R) (seed : ℕ → Bool) where
-  -- a budget is positive only on arrival within the limit, so a cell gives only over a wire, at a load within the limit
-  arrival-fits : (bound : ℕ) (A : Table) (n l : ℕ) → 0 < arrival R seed bound A n l → l ≤ R .limit
-  unfolding arrival
-  arrival-fits bound A n l h = leb→le l (R .limit) (only-test (leb l (R .limit)) _ 0 h)
-
+module _ (R : Rules) (bounded : Bounded R) (seed : Seeds) where
+  -- a cell gives only over a wire, at a load within the limit
   given-inside : (bound : ℕ) (A : Table) (n c l : ℕ) → 0 < given R (arrival R seed bound A) n c l → (c < R .cellCount) × (l ≤ R .limit)
   unfolding given loadAt
-  given-inside bound A n c l h =
-      let some : 0 < arrival R seed bound A n (loadAt R c n l) - wireDelay (R .wire c n) l = only-value (R .linked c n) _ 0 h in
-      (bounded .fromPlan c n (only-test (R .linked c n) _ 0 h), omega (arith, arrival-fits bound A n (loadAt R c n l) (omega arith)))
+  given-inside bound A n c l h = (bounded .fromPlan c n (only-test (R .linked c n) _ 0 h), go (split (loadAt R c n l) (R .limit)))
+    where
+      some : 0 < arrival R seed bound A n (loadAt R c n l) - wireDelay (R .wire c n) l
+      some = only-value (R .linked c n) _ 0 h
+
+      go : (loadAt R c n l ≤ R .limit) ⊎ (R .limit < loadAt R c n l) → l ≤ R .limit
+      go (inl q) = omega arith
+      go (inr q) = absurd (omega (arith, some, arrival-past R seed bound A n (loadAt R c n l) q))
 
   pub layer-inside : (bound : ℕ) (A : Table) → Inside R A → Inside R (layer R seed bound A)
   unfolding layer
@@ -83,33 +82,32 @@ module _ (R : Rules) (bounded : Bounded R) (seed : ℕ → Bool) where
           let in-range = given-inside bound A n c l h in
           absurd (out (in-range .0) (in-range .1))
 
-  module _ (rows : Rows) (inside : Inside R (tableOf rows)) where
+  module _ (f : ℕ) (rows : Rows) (inside : Inside R (tableOf rows)) where
     abbrev arrivals : Table
-    arrivals = arrival R seed (R .bound 0) (tableOf rows)
+    arrivals = arrival R seed (R .bound 0 f) (tableOf rows)
 
     arrivals-at : (n l : ℕ) → n < R .cellCount → tableOf (rowsOf R arrivals) n l ≡ arrivals n l
-    arrivals-at n l h = go (split l (R .limit)) (split (arrivals n l) 0)
+    arrivals-at n l h = go (split l (R .limit))
       where
-        go : (l ≤ R .limit) ⊎ (R .limit < l) → (arrivals n l ≤ 0) ⊎ (0 < arrivals n l) → tableOf (rowsOf R arrivals) n l ≡ arrivals n l
-        go (inl k) z = rows-at R arrivals n l h k
-        go (inr k) (inl z) = omega (arith, rows-inside R arrivals n l (λ a b. omega arith))
-        go (inr k) (inr z) = absurd (omega (arith, arrival-fits (R .bound 0) (tableOf rows) n l z))
+        go : (l ≤ R .limit) ⊎ (R .limit < l) → tableOf (rowsOf R arrivals) n l ≡ arrivals n l
+        go (inl k) = rows-at R arrivals n l h k
+        go (inr k) = omega (arith, rows-inside R arrivals n l (λ a b. omega arith), arrival-past R seed (R .bound 0 f) (tableOf rows) n l k)
 
-    pub layer-rows : (c l : ℕ) → tableOf (layerRows R seed rows) c l ≡ layer R seed (R .bound 0) (tableOf rows) c l
+    pub layer-rows : (c l : ℕ) → tableOf (layerRows R seed f rows) c l ≡ layer R seed (R .bound 0 f) (tableOf rows) c l
     unfolding layerRows layer
     layer-rows c l = go (split (R .cellCount) c) (split (suc (R .limit)) l)
       where
         F : Table
         F c l = max (tableOf rows c l) (maxBelow (R .cellCount) (λ n. given R (tableOf (rowsOf R arrivals)) n c l))
 
-        out : (c < R .cellCount → l ≤ R .limit → ⊥) → tableOf (layerRows R seed rows) c l ≡ layer R seed (R .bound 0) (tableOf rows) c l
-        out f = rows-inside R F c l f ∙ sym (layer-inside (R .bound 0) (tableOf rows) inside c l f)
+        out : (c < R .cellCount → l ≤ R .limit → ⊥) → tableOf (layerRows R seed f rows) c l ≡ layer R seed (R .bound 0 f) (tableOf rows) c l
+        out h = rows-inside R F c l h ∙ sym (layer-inside (R .bound 0 f) (tableOf rows) inside c l h)
 
-        go : (R .cellCount ≤ c) ⊎ (c < R .cellCount) → (suc (R .limit) ≤ l) ⊎ (l < suc (R .limit)) → tableOf (layerRows R seed rows) c l ≡ layer R seed (R .bound 0) (tableOf rows) c l
+        go : (R .cellCount ≤ c) ⊎ (c < R .cellCount) → (suc (R .limit) ≤ l) ⊎ (l < suc (R .limit)) → tableOf (layerRows R seed f rows) c l ≡ layer R seed (R .bound 0 f) (tableOf rows) c l
         go (inl h) k = out (λ a b. omega arith)
         go (inr h) (inl k) = out (λ a b. omega arith)
         go (inr h) (inr k) = rows-at R F c l h (omega arith) ∙ ap (max (tableOf rows c l)) (max-same (R .cellCount) _ _ (λ n i. given-row R arrivals (tableOf (rowsOf R arrivals)) n (λ l. arrivals-at n l i) c l))
 
-  pub layer-rows-inside : (rows : Rows) → Inside R (tableOf (layerRows R seed rows))
+  pub layer-rows-inside : (f : ℕ) (rows : Rows) → Inside R (tableOf (layerRows R seed f rows))
   unfolding layerRows
-  layer-rows-inside rows = rows-inside R _
+  layer-rows-inside f rows = rows-inside R _

@@ -1,223 +1,270 @@
--- The search as computed is right: each turn is one of the theory's, and adds to the sum of the budgets or to the number of seeds; so the fuel is enough.
--- The steps never exceed the sum of the budgets, nor the waves the number of labels.
+-- The search of one side as computed is right: each turn is one of the theory's, and adds to the sum of the budgets or to the number of seeds; so the fuel is enough.
 use Prim.Native.Nat.{ℕ, zero, suc, _+_, _≤_, _<_}
-use mathlib.Core.Path.{_≡_, refl, sym, _∙_}
-use mathlib.Core.Bool.{Bool, true, false, not, cond}
+use mathlib.Core.Path.{_≡_, refl, sym, _∙_, fun-ext, subst}
+use mathlib.Core.Bool.{Bool, true, false, not, _&&_, cond}
 use mathlib.Core.List.{List, []}
 use mathlib.Core.Logic.{_⊎_, inl, inr}
-use mathlib.Core.Option.{Option}
 use native.Mathlib.Omega.{arith}
 use borrow.Author.Tests.{ltb-true, ltb-false}
-use lib.Dec.{T, ltb, T-not}
-use Rattle.rules.specs.Rules.{Rules}
-use Rattle.plan.proofs.Truth.{decided, split}
-use Rattle.budget.specs.Table.{Table, layer}
-use Rattle.budget.specs.Done.{NotAfter, Least, Labels, Labelled, Lawful, seedAt}
-use Rattle.budget.specs.Search.{FromSink, Searching, Next, Relabelled, IdleUntil, NonePending}
+use lib.Dec.{T, eqb, ltb, T-not, eqb→eq, ltb→lt, lt→ltb}
+use Rattle.rules.specs.Rules.{Rules, registerCode, fifoCode, isClosing}
+use Rattle.plan.proofs.Truth.{both, fst, snd, of-true, of-false, eq→eqb, decided, split}
+use Rattle.rules.proofs.View.{register-closing, fifo-closing, side-same}
+use Rattle.budget.specs.Table.{Table, Represents, budgetSum, layer}
+use Rattle.budget.specs.Done.{NotAfter, Done, Open, Least, After, Labels, Covers, Labelled, Lawful, seedAt}
+use Rattle.budget.specs.Search.{Searching, Next, Relabelled, IdleUntil, AllSeeds, renewed}
 use Rattle.budget.proofs.Active.{layer-least}
-use Rattle.budget.proofs.Search.{Arrived, next-table}
-use Rattle.budget.proofs.Turns.{search-start, layer-found, layer-turn, pending-turn, wave-turn, none-turn}
 use Rattle.budget.proofs.Done.{not-after-trans}
-use Rattle.best.specs.Rows.{Rows, tableOf, layerRows, budgetSum, Bounded}
-use Rattle.best.specs.Labels.{Label, labelsListed, relabel, isPending, isOfWave, nextPending, firstOfWave}
-use Rattle.best.specs.Search.{Found, figures, nothing, Turn, ends, goesOn, layerTurn, quietTurn, turn, searchFrom, mostSteps, mostTurns, search}
-use Rattle.best.proofs.Sums.{total-same}
+use Rattle.budget.proofs.Search.{Arrived, seed-view, seed-test, not-before, label-enough, next-table}
+use Rattle.budget.proofs.Sums.{total-same}
+use Rattle.budget.proofs.Turns.{search-start, layer-turn, jump-turn, all-turn, all-labels}
+use Rattle.budget.proofs.Turns.{layer-least as least-figures}
+use Rattle.best.specs.Rows.{Rows, tableOf, layerRows, Bounded}
+use Rattle.best.specs.Labels.{Label, labelsListed, byCode, places, nextLabel}
+use Rattle.best.specs.Search.{Labelling, Found, figures, nothing, Turn, ends, goesOn, atSink, relabelled, layerTurn, quietTurn, turn, searchFrom, mostTurns, startLabels, searchSide}
 use Rattle.best.proofs.Rows.{Inside, empty-zero, layer-inside, layer-rows, layer-rows-inside}
-use Rattle.best.proofs.Labels.{none-known, relabelled, LeastOf, at, empty, least-below, Pending, OfWave, pending-view, pending-test, wave-view, wave-test}
-use Rattle.best.proofs.Bounds.{done-in-plan, budgets-most, seeds, seeds-most, seeds-more, seeds-grow, fewers, fewers-most, fewers-more, fewers-grow}
+use Rattle.best.proofs.Labels.{after-placed, relabel-right}
+use Rattle.best.proofs.Start.{start-known, start-source}
+use Rattle.best.proofs.Next.{FirstPlace, at, empty, WaitsBelow, next-first}
+use Rattle.best.proofs.Bounds.{budgets-most, seeds, seeds-most, seeds-more, seeds-grow}
+use Rattle.best.proofs.Watch.{Watching, HandsOver, watching-start, watching-layer, watching-later, watching-all}
 
--- what the search answers is right
-pub data Right (R : Rules) : Found → Type 0 where
-  least : {k s q : ℕ} {list : List Label} → Labelled R k q (labelsListed list) → Least R k s (R .sink) (R .start .load) (R .start .delay) → s ≤ mostSteps R → k ≤ R .cellCount → Right R (figures k s list)
-  never : ((p q : ℕ) → FromSink R p q → ⊥) → Right R nothing
+-- What the search of side f answers is right: from the sink, the least figures, with the labels up to them; or all labels, those of the FIFOs before it too, and no ending from the sink.
+pub data Right (R : Rules) (f : ℕ) (exits : List Label) : Found → Type 0 where
+  least : {k s q : ℕ} {m : Labelling} → f ≡ 0 → Labelled R f k q (byCode (m .registers) exits) → Least R f (R .weight f + k) s (R .sink) (R .start .load) (R .start .delay) → Right R f exits (figures k s m)
+  never : {m : Labelling} → (f ≡ 0 → (w t : ℕ) → Done R f w t (R .sink) (R .start .load) (R .start .delay) → ⊥) → ((w t : ℕ) → Labelled R f w t (byCode (m .registers) exits)) → HandsOver R f (m .watched) → Right R f exits (nothing m)
 
 -- between two turns
-record Ready (R : Rules) (k s : ℕ) (rows : Rows) (list : List Label) : Type 0 where
-  pub now : Searching R k s (tableOf rows) (labelsListed list)
+record Ready (R : Rules) (law : Lawful R) (f : ℕ) (exits : List Label) (k s : ℕ) (rows : Rows) (m : Labelling) : Type 0 where
+  pub now : Searching R f k s (tableOf rows) (byCode (m .registers) exits)
   pub inside : Inside R (tableOf rows)
-  pub steps : s ≤ budgetSum R (tableOf rows)
-  pub stamps : (c : ℕ) → T (labelsListed list .known c) → labelsListed list .steps c ≤ budgetSum R (tableOf rows)
-  pub waves : k ≤ fewers R (labelsListed list) k
+  pub early : f ≡ 0 → tableOf rows (R .sink) (R .start .load) ≤ R .start .delay
+  pub watch : Watching R law f k s (m .watched)
 
 -- what a turn adds to
-abbrev work : Rules → ℕ → ℕ → Rows → List Label → ℕ
-work R k s rows list = budgetSum R (tableOf rows) + seeds R (labelsListed list) k s
+abbrev work : Rules → List Label → ℕ → ℕ → Rows → Labelling → ℕ
+work R exits k s rows m = budgetSum R (tableOf rows) + seeds (places R) (byCode (m .registers) exits) k s
 
-data Turned (R : Rules) (before : ℕ) : Turn → Type 0 where
-  ended : {x : Found} → Right R x → Turned R before (ends x)
-  moved : {k s : ℕ} {rows : Rows} {list : List Label} → Ready R k s rows list → before < work R k s rows list → Turned R before (goesOn k s rows list)
+data Turned (R : Rules) (law : Lawful R) (f : ℕ) (exits : List Label) (before : ℕ) : Turn → Type 0 where
+  ended : {x : Found} → Right R f exits x → Turned R law f exits before (ends x)
+  moved : {k s : ℕ} {rows : Rows} {m : Labelling} → Ready R law f exits k s rows m → before < work R exits k s rows m → Turned R law f exits before (goesOn k s rows m)
 
-module _ (R : Rules) (law : Lawful R) (bounded : Bounded R) (k s : ℕ) (rows : Rows) (list : List Label) (ready : Ready R k s rows list) where
+-- a code has the labels of a code that closes a span
+record Shut (registers exits : List Label) (code : ℕ) : Type 0 where
+  pub other : ℕ
+  pub shut : T (isClosing other)
+  pub same : byCode registers exits code ≡ byCode registers exits other
+
+shut-code : (registers exits : List Label) (code : ℕ) → Shut registers exits code
+unfolding byCode
+shut-code registers exits code = go (eqb code registerCode) refl
+  where
+    go : (b : Bool) → eqb code registerCode ≡ b → Shut registers exits code
+    go true e = record { other = registerCode; shut = register-closing registerCode refl; same = rw e refl }
+    go false e = record { other = fifoCode; shut = fifo-closing fifoCode refl; same = rw e refl }
+
+module _ (R : Rules) (law : Lawful R) (bounded : Bounded R) (f : ℕ) (exits : List Label) (k s : ℕ) (rows : Rows) (m : Labelling) (ready : Ready R law f exits k s rows m) where
   abbrev A : Table
   A = tableOf rows
 
-  abbrev m : Labels
-  m = labelsListed list
+  abbrev by : ℕ → Labels
+  by = byCode (m .registers) exits
 
   abbrev next : Rows
-  next = layerRows R (seedAt R m k s) rows
+  next = layerRows R (seedAt by k s) f rows
 
   abbrev before : ℕ
-  before = work R k s rows list
+  before = work R exits k s rows m
 
-  label-in-plan : (c : ℕ) → T (m .known c) → c < R .cellCount
-  label-in-plan c h = done-in-plan bounded (ready .now .labels .least c h .enough)
+  label-placed : (code c : ℕ) → T (isClosing code) → T (by code .known c) → c < places R
+  label-placed code c shut h = after-placed R law bounded (label-enough R law f k s by (ready .now .labels) code c shut h)
 
-  is-next : Next R m k s A (tableOf next)
-  is-next = layer-rows R bounded (seedAt R m k s) rows (ready .inside)
+  is-next : Next R f by k s A (tableOf next)
+  is-next = layer-rows R bounded (seedAt by k s) f rows (ready .inside)
 
   above : (c l : ℕ) → A c l ≤ tableOf next c l
-  above c l = omega (arith, is-next c l, layer-least R (seedAt R m k s) (R .bound 0) A c l)
+  above c l = omega (arith, is-next c l, layer-least R (seedAt by k s) (R .bound 0 f) A c l)
 
   -- a layer that adds to the table
   module _ (grows : budgetSum R A < budgetSum R (tableOf next)) where
-    abbrev new : List Label
-    new = relabel R k (suc s) (tableOf next) list
+    abbrev new : Labelling
+    new = relabelled R f (R .weight f + k) (suc s) next m
 
-    again : Relabelled R k (suc s) (tableOf next) m (labelsListed new)
-    again = relabelled R k (suc s) (tableOf next) list (layer-rows-inside R bounded (seedAt R m k s) rows) label-in-plan
+    table : Represents (tableOf next) (Open R f k (suc s))
+    table = next-table R law f k s by (ready .now .labels) A (tableOf next) (ready .now .table) is-next
 
-    reached : R .start .delay < tableOf next (R .sink) (R .start .load) → Right R (figures k (suc s) list)
-    reached h =
-        least (ready .now .labels) (layer-found R law (ready .now) is-next h)
-        (omega (arith, ready .steps, budgets-most R law (next-table R law k s m (ready .now .labels) A (tableOf next) (ready .now .table) is-next)))
-        (omega (arith, ready .waves, fewers-most R m k))
+    again : Relabelled (After R f registerCode) (R .weight f + k) (suc s) (labelsListed (m .registers)) (labelsListed (new .registers))
+    unfolding byCode relabelled
+    again =
+        relabel-right R law bounded f registerCode (R .weight f + k) (suc s) (register-closing registerCode refl) (tableOf next)
+        (rw (side-same f registerCode (λ z. omega arith)) table) (m .registers) (λ c. label-placed registerCode c (register-closing registerCode refl))
+        (λ n e p q. ready .now .labels .registers .complete n (After.atSource e p q))
 
-    stay : (c : ℕ) → Arrived m k s c → Arrived (labelsListed new) k (suc s) c
-    stay c a =
-        let q = again .kept c (a .known) in
-        record { known = q .0; early = rw (q .1 .0, q .1 .1) (not-after-trans (a .early) (inr (refl, omega arith))) }
-
-    stamps : (c : ℕ) → T (labelsListed new .known c) → labelsListed new .steps c ≤ budgetSum R (tableOf next)
-    stamps c h = go (decided (m .known c))
+    renewed-by : renewed by (labelsListed (new .registers)) ≡ byCode (new .registers) exits
+    unfolding renewed byCode
+    renewed-by = fun-ext (λ code. go (eqb code registerCode))
       where
-        go : T (m .known c) ⊎ T (not (m .known c)) → labelsListed new .steps c ≤ budgetSum R (tableOf next)
-        go (inl q) = omega (arith, ready .stamps c q, again .kept c q .1 .1)
-        go (inr q) = omega (arith, ready .steps, again .added c h (T-not (m .known c) q) .1 .1 .1)
+        go : (b : Bool) → cond b (labelsListed (new .registers)) (cond b (labelsListed (m .registers)) (labelsListed exits)) ≡ cond b (labelsListed (new .registers)) (labelsListed exits)
+        go true = refl
+        go false = refl
 
-    not-reached : (R .start .delay < tableOf next (R .sink) (R .start .load) → ⊥) → Ready R k (suc s) next new
-    not-reached f =
+    not-reached : (f ≡ 0 → tableOf next (R .sink) (R .start .load) ≤ R .start .delay) → Ready R law f exits k (suc s) next new
+    unfolding byCode relabelled
+    not-reached early =
         record {
-          now = layer-turn R law (ready .now) is-next again f;
-          inside = layer-rows-inside R bounded (seedAt R m k s) rows;
-          steps = omega (arith, ready .steps);
-          stamps = stamps;
-          waves = omega (arith, ready .waves, fewers-more R m (labelsListed new) k (λ c h. (again .kept c h .0, again .kept c h .1 .0)));
+          now = subst (λ (n : ℕ → Labels). Searching R f k (suc s) (tableOf next) n) renewed-by (layer-turn R law f (ready .now) is-next again);
+          inside = layer-rows-inside R bounded (seedAt by k s) f rows;
+          early = early;
+          watch = watching-layer R law bounded f k s (tableOf next) (m .watched) table (ready .watch);
         }
 
-    layer-turned : Turned R before (layerTurn R k s next list)
-    unfolding layerTurn
-    layer-turned = go (ltb (R .start .delay) (tableOf next (R .sink) (R .start .load))) refl
+    stay : (code c : ℕ) → T (seedAt by k s code c) → T (seedAt (byCode (new .registers) exits) k (suc s) code c)
+    unfolding byCode
+    stay code c h = seed-test (byCode (new .registers) exits) k (suc s) code c (go (eqb code registerCode) (seed-view by k s code c h))
       where
-        go : (b : Bool) → ltb (R .start .delay) (tableOf next (R .sink) (R .start .load)) ≡ b → Turned R before (cond b (ends (figures k (suc s) list)) (goesOn k (suc s) next new))
-        go true e = ended (reached (ltb-true _ _ e))
-        go false e =
-            let low : tableOf next (R .sink) (R .start .load) ≤ R .start .delay = ltb-false _ _ e in
-            moved (not-reached (λ h. omega arith)) (omega (arith, seeds-more R stay))
+        later : {a b : ℕ} → NotAfter a b k s → NotAfter a b k (suc s)
+        later x = not-after-trans x (inr (refl, omega arith))
+
+        go : (b : Bool) → Arrived (cond b (labelsListed (m .registers)) (labelsListed exits)) k s c → Arrived (cond b (labelsListed (new .registers)) (labelsListed exits)) k (suc s) c
+        go true a =
+            let q = again .kept c (a .known) in
+            record { known = q .0; early = rw (q .1 .0, q .1 .1) (later (a .early)) }
+        go false a = record { known = a .known; early = later (a .early) }
+
+    layer-turned : Turned R law f exits before (layerTurn R f k s next m)
+    unfolding layerTurn atSink
+    layer-turned = go (atSink R f next) refl
+      where
+        go : (b : Bool) → atSink R f next ≡ b → Turned R law f exits before (cond b (ends (figures k (suc s) m)) (goesOn k (suc s) next new))
+        go true e =
+            let h : T (eqb f 0 && ltb (R .start .delay) (tableOf next (R .sink) (R .start .load))) = of-true (atSink R f next) e in
+            let z : f ≡ 0 = eqb→eq f 0 (fst (eqb f 0) _ h) in
+            ended (least z (ready .now .labels) (least-figures R law f (ready .now) is-next (R .sink) (R .start .load) (R .start .delay) (ready .early z) (ltb→lt _ _ (snd (eqb f 0) _ h))))
+        go false e = moved (not-reached (λ z. early z (split (tableOf next (R .sink) (R .start .load)) (R .start .delay)))) (omega (arith, seeds-more (places R) by (byCode (new .registers) exits) k s k (suc s) stay))
+          where
+            early : f ≡ 0 → (tableOf next (R .sink) (R .start .load) ≤ R .start .delay) ⊎ (R .start .delay < tableOf next (R .sink) (R .start .load)) → tableOf next (R .sink) (R .start .load) ≤ R .start .delay
+            early z (inl h) = h
+            early z (inr h) = absurd (T-not (atSink R f next) (of-false (atSink R f next) e) (both (eqb f 0) _ (eq→eqb f 0 z) (lt→ltb _ _ h)))
 
   -- a layer that adds nothing
   module _ (quiet : budgetSum R (tableOf next) ≤ budgetSum R A) where
-    same : Next R m k s A A
+    same : Next R f by k s A A
     same c l = go (split (R .cellCount) c) (split (suc (R .limit)) l)
       where
-        out : (c < R .cellCount → l ≤ R .limit → ⊥) → A c l ≡ layer R (seedAt R m k s) (R .bound 0) A c l
-        out f = ready .inside c l f ∙ sym (layer-inside R bounded (seedAt R m k s) (R .bound 0) A (ready .inside) c l f)
+        out : (c < R .cellCount → l ≤ R .limit → ⊥) → A c l ≡ layer R (seedAt by k s) (R .bound 0 f) A c l
+        out h = ready .inside c l h ∙ sym (layer-inside R bounded (seedAt by k s) (R .bound 0 f) A (ready .inside) c l h)
 
-        go : (R .cellCount ≤ c) ⊎ (c < R .cellCount) → (suc (R .limit) ≤ l) ⊎ (l < suc (R .limit)) → A c l ≡ layer R (seedAt R m k s) (R .bound 0) A c l
+        go : (R .cellCount ≤ c) ⊎ (c < R .cellCount) → (suc (R .limit) ≤ l) ⊎ (l < suc (R .limit)) → A c l ≡ layer R (seedAt by k s) (R .bound 0 f) A c l
         go (inl h) i = out (λ a b. omega arith)
         go (inr h) (inl i) = out (λ a b. omega arith)
         go (inr h) (inr i) = total-same R A (tableOf next) above quiet c l h (omega arith) ∙ is-next c l
 
-    -- the same table and labels at a later place, where the label of c comes in
-    later : (p q c : ℕ) → Searching R p q A m → NotAfter k s p q → q ≡ m .steps c → T (m .known c) → (Arrived m k s c → ⊥) → Arrived m p q c → p ≤ fewers R m p → Turned R before (goesOn p q rows list)
-    later p q c now after e known not-yet arrived waves =
-        moved (record { now = now; inside = ready .inside; steps = omega (arith, ready .stamps c known); stamps = ready .stamps; waves = waves })
-        (omega (arith, seeds-grow R {m = m} {n = m} (λ c a. record { known = a .known; early = not-after-trans (a .early) after }) c (label-in-plan c known) (ready .now .labels .stands c known) not-yet arrived))
-
-    pending-turned : (t c : ℕ) → Pending m k s c → m .steps c ≡ t → ((i : ℕ) → i < R .cellCount → T (isPending m k s i) → t ≤ m .steps i) → Turned R before (goesOn k t rows list)
-    pending-turned t c x e all =
-        later k t c (pending-turn R law (ready .now) t same (omega (arith, x .late)) idle) (inr (refl, omega (arith, x .late))) (sym e) (x .isKnown) not-yet
-        (record { known = x .isKnown; early = inr (x .wave, omega arith) }) (ready .waves)
+    -- a label is a seed, or waits
+    seed-or-waits : (code c : ℕ) → T (by code .known c) → NotAfter (by code .weight c) (by code .steps c) k s ⊎ WaitsBelow by k s (places R) (by code .weight c) (by code .steps c)
+    seed-or-waits code c h = rw (x .same) (go (decided (seedAt by k s (x .other) c)))
       where
-        idle : IdleUntil m k s t
-        idle i h w = go (split (m .steps i) s)
-          where
-            go : (m .steps i ≤ s) ⊎ (s < m .steps i) → (m .steps i ≤ s) ⊎ (t ≤ m .steps i)
-            go (inl q) = inl q
-            go (inr q) = inr (all i (label-in-plan i h) (pending-test m k s i (record { isKnown = h; wave = w; late = q })))
+        x : Shut (m .registers) exits code
+        x = shut-code (m .registers) exits code
 
-        not-yet : Arrived m k s c → ⊥
-        not-yet a = go (a .early)
-          where
-            go : NotAfter (suc (m .registers c)) (m .steps c) k s → ⊥
-            go (inl q) = omega (arith, x .wave)
-            go (inr q) = omega (arith, x .late)
+        known : T (by (x .other) .known c)
+        known = rw (x .same) at h
 
-    -- nothing is pending
-    module _ (idle : (i : ℕ) → i < R .cellCount → T (isPending m k s i) → ⊥) where
-      none-pending : NonePending m k s
-      none-pending i h w = go (split (m .steps i) s)
+        go : T (seedAt by k s (x .other) c) ⊎ T (not (seedAt by k s (x .other) c)) → NotAfter (by (x .other) .weight c) (by (x .other) .steps c) k s ⊎ WaitsBelow by k s (places R) (by (x .other) .weight c) (by (x .other) .steps c)
+        go (inl t) = inl (seed-view by k s (x .other) c t .early)
+        go (inr t) = inr (record { code = x .other; cell = c; shut = x .shut; below = label-placed (x .other) c (x .shut) known; waits = record { isKnown = known; weight = refl; steps = refl; late = t } })
+
+    -- the next label
+    module _ (w t : ℕ) (x : WaitsBelow by k s (places R) w t) (first : (v r : ℕ) → WaitsBelow by k s (places R) v r → NotAfter w t v r) where
+      late : T (seedAt by k s (x .code) (x .cell)) → ⊥
+      late = T-not (seedAt by k s (x .code) (x .cell)) (x .waits .late)
+
+      after : NotAfter k s w t
+      after =
+          not-after-trans (inr (refl, omega arith))
+          (not-before {w = k} {s = s} (λ h. late (seed-test by k s (x .code) (x .cell) (record { known = x .waits .isKnown; early = rw (x .waits .weight, x .waits .steps) h }))))
+
+      idle : IdleUntil by k s w t
+      idle code c h = go (seed-or-waits code c h)
         where
-          go : (m .steps i ≤ s) ⊎ (s < m .steps i) → m .steps i ≤ s
-          go (inl q) = q
-          go (inr q) = absurd (idle i (label-in-plan i h) (pending-test m k s i (record { isKnown = h; wave = w; late = q })))
+          go : {a b : ℕ} → NotAfter a b k s ⊎ WaitsBelow by k s (places R) a b → NotAfter a b k s ⊎ NotAfter w t a b
+          go (inl q) = inl q
+          go (inr q) = inr (first _ _ q)
 
-      wave-turned : (t c : ℕ) → OfWave m k c → m .steps c ≡ t → ((i : ℕ) → i < R .cellCount → T (isOfWave m k i) → t ≤ m .steps i) → Turned R before (goesOn (suc k) t rows list)
-      wave-turned t c x e all =
-          later (suc k) t c (wave-turn R law (ready .now) t same none-pending (λ i h w. all i (label-in-plan i h) (wave-test m k i (record { isKnown = h; wave = w }))))
-          (inl (omega arith)) (sym e) (x .isKnown) not-yet
-          (record { known = x .isKnown; early = inr (omega (arith, x .wave), omega arith) })
-          (omega (arith, ready .waves, fewers-grow R m k c (label-in-plan c (x .isKnown)) (x .isKnown) (x .wave)))
+      jump : Searching R f w t A by
+      jump = jump-turn R law f (ready .now) same w t after idle
+
+      stays : (code c : ℕ) → T (seedAt by k s code c) → T (seedAt by w t code c)
+      stays code c h =
+          let a = seed-view by k s code c h in
+          seed-test by w t code c (record { known = a .known; early = not-after-trans (a .early) after })
+
+      jump-turned : Turned R law f exits before (goesOn w t rows m)
+      jump-turned =
+          moved
+          (record {
+            now = jump;
+            inside = ready .inside;
+            early = ready .early;
+            watch = watching-later R law f k s w t (m .watched) (λ c l d y. ready .now .table .sound c l d (jump .table .complete c l d y)) (ready .watch);
+          })
+          (omega (arith, seeds-grow (places R) by by k s w t stays (x .code) (x .cell) (x .shut) (x .below) late arrived))
         where
-          not-yet : Arrived m k s c → ⊥
-          not-yet a = go (a .early)
-            where
-              go : NotAfter (suc (m .registers c)) (m .steps c) k s → ⊥
-              go (inl q) = omega (arith, x .wave)
-              go (inr q) = omega (arith, x .wave)
+          arrived : T (seedAt by w t (x .code) (x .cell))
+          arrived = seed-test by w t (x .code) (x .cell) (record { known = x .waits .isKnown; early = inr (x .waits .weight, omega (arith, x .waits .steps)) })
 
-      none-turned : ((i : ℕ) → i < R .cellCount → T (isOfWave m k i) → ⊥) → Turned R before (ends nothing)
-      none-turned lone =
-          ended (never (none-turn R law (ready .now) same none-pending (λ i h w. lone i (label-in-plan i h) (wave-test m k i (record { isKnown = h; wave = w })))))
-
-    quiet-turned : Turned R before (quietTurn k rows list (nextPending R m k s) (firstOfWave R m k))
-    unfolding quietTurn nextPending firstOfWave
-    quiet-turned = go (least-below (R .cellCount) (isPending m k s) (m .steps)) (least-below (R .cellCount) (isOfWave m k) (m .steps))
+    -- every label is a seed
+    none-turned : ((v r : ℕ) → WaitsBelow by k s (places R) v r → ⊥) → Turned R law f exits before (ends (nothing m))
+    none-turned lone = ended (never nowhere (all-labels R law f (ready .now) same all) (watching-all R law f (ready .now) same all (m .watched) (ready .watch)))
       where
-        go : {o w : Option ℕ} → LeastOf (R .cellCount) (isPending m k s) (m .steps) o → LeastOf (R .cellCount) (isOfWave m k) (m .steps) w → Turned R before (quietTurn k rows list o w)
-        go (at {t = t} c h u e all) w = pending-turned t c (pending-view m k s c u) e all
-        go (empty idle) (at {t = t} c h u e all) = wave-turned idle t c (wave-view m k c u) e all
-        go (empty idle) (empty lone) = none-turned idle lone
+        all : AllSeeds by k s
+        all code c h = go (seed-or-waits code c h)
+          where
+            go : {a b : ℕ} → NotAfter a b k s ⊎ WaitsBelow by k s (places R) a b → NotAfter a b k s
+            go (inl q) = q
+            go (inr q) = absurd (lone _ _ q)
 
-  turned : Turned R before (turn R k s rows list)
+        nowhere : f ≡ 0 → (w t : ℕ) → Done R f w t (R .sink) (R .start .load) (R .start .delay) → ⊥
+        nowhere z w t x =
+            omega (arith, ready .early z, ready .now .table .complete (R .sink) (R .start .load) (R .start .delay) (all-turn R law f (ready .now) same all w t (R .sink) (R .start .load) (R .start .delay) x))
+
+    quiet-turned : Turned R law f exits before (quietTurn rows m (nextLabel (places R) by k s))
+    unfolding quietTurn
+    quiet-turned = go (next-first by k s (places R))
+      where
+        go : {x : Label} → FirstPlace (WaitsBelow by k s (places R)) x → Turned R law f exits before (quietTurn rows m x)
+        go (at {w = w} {t = t} x first) = jump-turned w t x first
+        go (empty lone) = none-turned lone
+
+  turned : Turned R law f exits before (turn R exits f k s rows m)
   unfolding turn
   turned = go (ltb (budgetSum R A) (budgetSum R (tableOf next))) refl
     where
-      go : (b : Bool) → ltb (budgetSum R A) (budgetSum R (tableOf next)) ≡ b → Turned R before (cond b (layerTurn R k s next list) (quietTurn k rows list (nextPending R m k s) (firstOfWave R m k)))
+      go : (b : Bool) → ltb (budgetSum R A) (budgetSum R (tableOf next)) ≡ b → Turned R law f exits before (cond b (layerTurn R f k s next m) (quietTurn rows m (nextLabel (places R) by k s)))
       go true e = layer-turned (ltb-true _ _ e)
       go false e = quiet-turned (ltb-false _ _ e)
 
 -- all turns
-search-from : (R : Rules) (law : Lawful R) (bounded : Bounded R) (fuel k s : ℕ) (rows : Rows) (list : List Label) → Ready R k s rows list → mostTurns R < fuel + work R k s rows list → Right R (searchFrom R fuel k s rows list)
+search-from : (R : Rules) (law : Lawful R) (bounded : Bounded R) (f : ℕ) (exits : List Label) (fuel k s : ℕ) (rows : Rows) (m : Labelling) → Ready R law f exits k s rows m → mostTurns R f < fuel + work R exits k s rows m → Right R f exits (searchFrom R exits f fuel k s rows m)
 unfolding searchFrom mostTurns
-search-from R law bounded zero k s rows list ready enough =
-    absurd (omega (arith, budgets-most R law (ready .now .table), seeds-most R (labelsListed list) k s))
-search-from R law bounded (suc fuel) k s rows list ready enough = go (turned R law bounded k s rows list ready) (search-from R law bounded fuel)
+search-from R law bounded f exits zero k s rows m ready enough =
+    absurd (omega (arith, budgets-most R law f (ready .now .table), seeds-most (places R) (byCode (m .registers) exits) k s))
+search-from R law bounded f exits (suc fuel) k s rows m ready enough =
+    go (turned R law bounded f exits k s rows m ready) (search-from R law bounded f exits fuel)
   where
-    go : {x : Turn} → Turned R (work R k s rows list) x → ((k s : ℕ) (rows : Rows) (list : List Label) → Ready R k s rows list → mostTurns R < fuel + work R k s rows list → Right R (searchFrom R fuel k s rows list)) → Right R (elim x [ ends y ↦ y | goesOn j t next more ↦ searchFrom R fuel j t next more ])
+    go : {x : Turn} → Turned R law f exits (work R exits k s rows m) x → ((k s : ℕ) (rows : Rows) (m : Labelling) → Ready R law f exits k s rows m → mostTurns R f < fuel + work R exits k s rows m → Right R f exits (searchFrom R exits f fuel k s rows m)) → Right R f exits (elim x [ ends y ↦ y | goesOn j t next more ↦ searchFrom R exits f fuel j t next more ])
     go (ended h) rest = h
-    go (moved {k = j} {s = t} {rows = next} {list = more} h grows) rest = rest j t next more h (omega arith)
+    go (moved {k = j} {s = t} {rows = next} {m = more} h grows) rest = rest j t next more h (omega arith)
 
-pub search-right : (R : Rules) → Lawful R → Bounded R → Right R (search R)
-unfolding search
-search-right R law bounded = search-from R law bounded _ 0 0 [] [] start (omega arith)
+-- The exits are the labels of side f's FIFOs for good.
+pub search-right : (R : Rules) (law : Lawful R) (bounded : Bounded R) (f : ℕ) (exits : List Label) → ((w t : ℕ) → Covers (After R f fifoCode) w t (labelsListed exits)) → Right R f exits (searchSide R exits f)
+unfolding searchSide byCode startLabels
+search-right R law bounded f exits complete = search-from R law bounded f exits _ 0 0 [] (startLabels R f) start (omega arith)
   where
-    start : Ready R 0 0 [] []
+    start : Ready R law f exits 0 0 [] (startLabels R f)
     start =
         record {
-          now = search-start R (tableOf []) (labelsListed []) empty-zero none-known;
-          inside = λ c l f. empty-zero c l;
-          steps = omega arith;
-          stamps = λ c h. absurd (none-known c h);
-          waves = omega arith;
+          now = search-start R law f (tableOf []) (byCode (startLabels R f .registers) exits) empty-zero complete (start-known R f) (λ e n. start-source R f n e);
+          inside = λ c l h. empty-zero c l;
+          early = λ z. omega (arith, empty-zero (R .sink) (R .start .load));
+          watch = watching-start R law f;
         }

@@ -1,72 +1,70 @@
--- The labels of the search held as a list, one place a cell.
-use Prim.Native.Nat.{ℕ, zero, suc, min}
-use mathlib.Core.Bool.{Bool, true, false, _&&_, cond}
+-- The labels of the search held as lists, one place a cell.
+use Prim.Native.Nat.{ℕ, zero, suc, max}
+use mathlib.Core.Bool.{Bool, true, false, not, _&&_, _||_, cond}
 use mathlib.Core.List.{List}
-use mathlib.Core.Option.{Option, none, some}
-use lib.Dec.{eqb, ltb}
+use lib.Dec.{eqb, leb, ltb}
 use lib.ListN.{getD}
-use Rattle.rules.specs.Rules.{Rules, registerCode}
+use Rattle.rules.specs.Rules.{Rules, registerCode, fifoCode}
 use Rattle.rules.specs.Legal.{mayStand}
 use Rattle.budget.specs.Table.{Table}
-use Rattle.budget.specs.Done.{Labels}
+use Rattle.budget.specs.Done.{Labels, seedAt}
 use Rattle.best.specs.Rows.{listFrom}
 
--- the least registers and steps to go from a register on a cell, where they are known
+-- the least weight and steps after a close on a cell, where they are known; also the next place of the search
 pub data Label : Type 0 where
   unknown : Label
   known : ℕ → ℕ → Label
 
 unfoldable pub isKnown : Label → Bool
 isKnown unknown = false
-isKnown (known r t) = true
+isKnown (known w t) = true
 
-unfoldable pub labelRegisters : Label → ℕ
-labelRegisters unknown = 0
-labelRegisters (known r t) = r
+unfoldable pub labelWeight : Label → ℕ
+labelWeight unknown = 0
+labelWeight (known w t) = w
 
 unfoldable pub labelSteps : Label → ℕ
 labelSteps unknown = 0
-labelSteps (known r t) = t
+labelSteps (known w t) = t
 
 unfoldable pub labelsListed : List Label → Labels
 labelsListed list =
     record {
       known = λ c. isKnown (getD list c unknown);
-      registers = λ c. labelRegisters (getD list c unknown);
+      weight = λ c. labelWeight (getD list c unknown);
       steps = λ c. labelSteps (getD list c unknown);
     }
 
--- (k, s) at a cell whose fresh state has come into the table; a label stays as it is
-unfoldable pub relabelAt : Rules → ℕ → ℕ → Table → ℕ → Label → Label
-relabelAt R k s A c unknown =
-    cond (mayStand R c registerCode && ltb (R .fresh .delay) (A c (R .fresh .load))) (known k s) unknown
-relabelAt R k s A c (known r t) = known r t
+-- of registers, and of FIFOs
+unfoldable pub byCode : List Label → List Label → ℕ → Labels
+byCode registers exits code = cond (eqb code registerCode) (labelsListed registers) (labelsListed exits)
 
-unfoldable pub relabel : Rules → ℕ → ℕ → Table → List Label → List Label
-relabel R k s A list = listFrom (λ c. relabelAt R k s A c (getD list c unknown)) 0 (R .cellCount)
+-- a place for each cell of the plan, and for the source wherever it is
+unfoldable pub places : Rules → ℕ
+places R = max (R .cellCount) (suc (R .source))
 
--- t joins the numbers whose least is known, if it passes
-unfoldable pub least : Bool → ℕ → Option ℕ → Option ℕ
-least false t o = o
-least true t none = some t
-least true t (some r) = some (min t r)
+-- (w, s) at a cell where the state after a gate with this code has come into the table; a label stays as it is
+unfoldable pub relabelAt : Rules → ℕ → ℕ → ℕ → Table → ℕ → Label → Label
+relabelAt R code w s A c unknown =
+    cond (mayStand R c code && ltb (R .fresh code .delay) (A c (R .fresh code .load))) (known w s) unknown
+relabelAt R code w s A c (known v t) = known v t
 
--- the least of f c, over the c below n that pass
-unfoldable pub leastBelow : ℕ → (ℕ → Bool) → (ℕ → ℕ) → Option ℕ
-leastBelow zero test f = none
-leastBelow (suc n) test f = least (test n) (f n) (leastBelow n test f)
+unfoldable pub relabel : Rules → ℕ → ℕ → ℕ → Table → List Label → List Label
+relabel R code w s A list = listFrom (λ c. relabelAt R code w s A c (getD list c unknown)) 0 (places R)
 
--- the labels that are to be seeds of wave k, after s steps
-unfoldable pub isPending : Labels → ℕ → ℕ → ℕ → Bool
-isPending m k s c = m .known c && eqb (suc (m .registers c)) k && ltb s (m .steps c)
+-- the earlier of two places of the search: by weight, then by steps
+unfoldable pub earlier : Label → Label → Label
+earlier unknown b = b
+earlier (known v t) unknown = known v t
+earlier (known v t) (known w s) = cond (ltb v w || (eqb v w && leb t s)) (known v t) (known w s)
 
--- the labels found in wave k
-unfoldable pub isOfWave : Labels → ℕ → ℕ → Bool
-isOfWave m k c = m .known c && eqb (m .registers c) k
+-- the label of a cell that is no seed at (k, s) yet
+unfoldable pub waiting : (ℕ → Labels) → ℕ → ℕ → ℕ → ℕ → Label
+waiting m k s code c =
+    cond (m code .known c && not (seedAt m k s code c)) (known (m code .weight c) (m code .steps c)) unknown
 
--- their least steps
-unfoldable pub nextPending : Rules → Labels → ℕ → ℕ → Option ℕ
-nextPending R m k s = leastBelow (R .cellCount) (isPending m k s) (m .steps)
-
-unfoldable pub firstOfWave : Rules → Labels → ℕ → Option ℕ
-firstOfWave R m k = leastBelow (R .cellCount) (isOfWave m k) (m .steps)
+-- the first of the labels of n cells that wait
+unfoldable pub nextLabel : ℕ → (ℕ → Labels) → ℕ → ℕ → Label
+nextLabel zero m k s = unknown
+nextLabel (suc n) m k s =
+    earlier (earlier (waiting m k s registerCode n) (waiting m k s fifoCode n)) (nextLabel n m k s)

@@ -1,12 +1,10 @@
 -- Delay-budget tables held as lists, a row of `limit + 1` words a cell, so that a layer is computed once and then read.
-use Prim.Native.Nat.{ℕ, zero, suc, _+_, _<_, max}
-use mathlib.Core.Bool.{Bool}
+use Prim.Native.Nat.{ℕ, zero, suc, _<_, max}
 use mathlib.Core.List.{List, [], _∷_}
 use lib.Dec.{T}
 use lib.ListN.{getD}
 use Rattle.rules.specs.Rules.{Rules}
-use Rattle.lists.specs.Lists.{sumBelow}
-use Rattle.budget.specs.Table.{Table, maxBelow, arrival, given}
+use Rattle.budget.specs.Table.{Table, Seeds, maxBelow, arrival, given}
 
 -- f from, f (from + 1), .., in all `count` values
 unfoldable pub listFrom : {A : Type 0} → (ℕ → A) → ℕ → ℕ → List A
@@ -24,15 +22,11 @@ tableOf rows c l = getD (getD rows c []) l 0
 unfoldable pub rowsOf : Rules → Table → Rows
 rowsOf R A = listFrom (λ c. listFrom (λ l. A c l) 0 (suc (R .limit))) 0 (R .cellCount)
 
--- one layer; the arrival table is held as rows too
-unfoldable pub layerRows : Rules → (ℕ → Bool) → Rows → Rows
-layerRows R seed rows =
-    let arrivals : Rows = rowsOf R (arrival R seed (R .bound 0) (tableOf rows)) in
+-- one layer of side f; the arrival table is held as rows too
+unfoldable pub layerRows : Rules → Seeds → ℕ → Rows → Rows
+layerRows R seed f rows =
+    let arrivals : Rows = rowsOf R (arrival R seed (R .bound 0 f) (tableOf rows)) in
     rowsOf R (λ c l. max (tableOf rows c l) (maxBelow (R .cellCount) (λ n. given R (tableOf arrivals) n c l)))
-
--- the sum of all budgets
-unfoldable pub budgetSum : Rules → Table → ℕ
-budgetSum R A = sumBelow (R .cellCount) (λ c. sumBelow (suc (R .limit)) (A c))
 
 -- an uncut wire leads only from cells of the plan
 pub record Bounded (R : Rules) : Type 0 where

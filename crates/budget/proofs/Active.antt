@@ -1,16 +1,16 @@
 -- The active list: pushes in any order make a layer, and what an unchanged row gives is unchanged.
 use Prim.Native.Nat.{ℕ, zero, suc, _-_, _≤_, _<_, max}
 use mathlib.Core.Path.{_≡_, refl, ap}
-use mathlib.Core.Bool.{Bool, false, _&&_}
+use mathlib.Core.Bool.{false, _&&_}
 use mathlib.Core.Logic.{_⊎_, inl, inr}
 use native.Mathlib.Omega.{arith}
 use borrow.Author.Tests.{lt-leb}
 use lib.Dec.{T, leb}
 use Rattle.timing.specs.Formulas.{wireDelay}
-use Rattle.rules.specs.Rules.{Rules, noGate}
+use Rattle.rules.specs.Rules.{Rules, noGate, registerCode, fifoCode}
 use Rattle.rules.specs.Legal.{mayStand}
 use Rattle.plan.proofs.Truth.{split}
-use Rattle.budget.specs.Table.{Table, only, maxBelow, loadAt, loadOf, bufferCost, closeCost, viaBuffer, arrival, given, layer}
+use Rattle.budget.specs.Table.{Table, Seeds, only, maxBelow, loadAt, loadOf, bufferCost, closeCost, viaBuffer, viaClose, arrival, given, layer}
 use Rattle.budget.proofs.Max.{only-most, only-true, only-false, only-bound}
 
 -- the maximum is at least each candidate, and at most what bounds them all
@@ -34,7 +34,7 @@ unfolding maxBelow
 max-same zero f g h = refl
 max-same (suc n) f g h = let q : maxBelow n f ≡ maxBelow n g = max-same n f g (λ i k. h i (omega arith)) in let e : f n ≡ g n = h n (omega arith) in omega arith
 
-module _ (R : Rules) (seed : ℕ → Bool) (bound : ℕ) (A : Table) where
+module _ (R : Rules) (seed : Seeds) (bound : ℕ) (A : Table) where
   -- what a cell gives is in the layer
   pub given-most : (n c l : ℕ) → n < R .cellCount → given R (arrival R seed bound A) n c l ≤ layer R seed bound A c l
   unfolding layer
@@ -60,24 +60,26 @@ module _ (R : Rules) (seed : ℕ → Bool) (bound : ℕ) (A : Table) where
       omega arith
 
 -- An arrival row depends on the cell's own row and seed alone.
-pub arrival-row : (R : Rules) (seed seed′ : ℕ → Bool) (bound : ℕ) (A B : Table) (n : ℕ) → ((l : ℕ) → B n l ≡ A n l) → seed′ n ≡ seed n → (l : ℕ) → arrival R seed′ bound B n l ≡ arrival R seed bound A n l
-unfolding arrival viaBuffer
+pub arrival-row : (R : Rules) (seed seed′ : Seeds) (bound : ℕ) (A B : Table) (n : ℕ) → ((l : ℕ) → B n l ≡ A n l) → ((code : ℕ) → seed′ code n ≡ seed code n) → (l : ℕ) → arrival R seed′ bound B n l ≡ arrival R seed bound A n l
+unfolding arrival viaBuffer viaClose
 arrival-row R seed seed′ bound A B n row s l = simp (row, s)
 
 -- past the limit it is 0
-pub arrival-past : (R : Rules) (seed : ℕ → Bool) (bound : ℕ) (A : Table) (n l : ℕ) → R .limit < l → arrival R seed bound A n l ≡ 0
+pub arrival-past : (R : Rules) (seed : Seeds) (bound : ℕ) (A : Table) (n l : ℕ) → R .limit < l → arrival R seed bound A n l ≡ 0
 unfolding arrival only
 arrival-past R seed bound A n l h = rw (lt-leb l (R .limit) h)
 
 -- a row of zeros without a seed gives nothing
-pub arrival-none : (R : Rules) (seed : ℕ → Bool) (bound : ℕ) (A : Table) (n : ℕ) → ((l : ℕ) → A n l ≡ 0) → seed n ≡ false → (l : ℕ) → arrival R seed bound A n l ≡ 0
-unfolding arrival viaBuffer
+pub arrival-none : (R : Rules) (seed : Seeds) (bound : ℕ) (A : Table) (n : ℕ) → ((l : ℕ) → A n l ≡ 0) → ((code : ℕ) → seed code n ≡ false) → (l : ℕ) → arrival R seed bound A n l ≡ 0
+unfolding arrival viaBuffer viaClose
 arrival-none R seed bound A n row e l =
     let x : ℕ = maxBelow 6 (λ i. viaBuffer R A n l (suc i)) in
     let a : only (mayStand R n noGate) (A n l) ≤ 0 = omega (arith, only-most (mayStand R n noGate) (A n l), row l) in
     let b : x ≤ 0 = max-most 6 (λ i. viaBuffer R A n l (suc i)) 0 (λ i h. only-bound (mayStand R n (suc i) && leb (loadOf R (suc i)) (R .limit)) (A n (loadOf R (suc i)) - bufferCost R (suc i) l) 0 (λ t. omega (arith, row (loadOf R (suc i))))) in
-    let c : only (seed n) (bound - closeCost R n l) ≡ 0 = only-false (seed n) (bound - closeCost R n l) (λ t. rw e at t) in
-    let q : only (leb l (R .limit)) (max (only (mayStand R n noGate) (A n l)) (max x (only (seed n) (bound - closeCost R n l)))) ≤ 0 = only-bound (leb l (R .limit)) (max (only (mayStand R n noGate) (A n l)) (max x (only (seed n) (bound - closeCost R n l)))) 0 (λ t. omega arith) in
+    let c : (code : ℕ) → only (seed code n) (bound - closeCost R n code l) ≡ 0 = λ code. only-false (seed code n) (bound - closeCost R n code l) (λ t. rw (e code) at t) in
+    let r : ℕ = only (seed registerCode n) (bound - closeCost R n registerCode l) in
+    let f : ℕ = only (seed fifoCode n) (bound - closeCost R n fifoCode l) in
+    let q : only (leb l (R .limit)) (max (only (mayStand R n noGate) (A n l)) (max x (max r f))) ≤ 0 = only-bound (leb l (R .limit)) (max (only (mayStand R n noGate) (A n l)) (max x (max r f))) 0 (λ t. omega (arith, c registerCode, c fifoCode)) in
     omega arith
 
 -- what a cell gives depends on its arrival row alone

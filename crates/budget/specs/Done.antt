@@ -1,65 +1,69 @@
--- What can still be done from a state: a legal ending with few enough registers and steps. Labels and seeds of the search.
-use Prim.Native.Nat.{ℕ, suc, _≤_, _<_}
+-- What can still be done from a state: a legal ending of little enough weight and few enough steps. Labels and seeds of the search.
+-- A span lies on one side of the FIFOs: `f` is how many have been passed. The weight of an ending is the sum over its spans.
+use Prim.Native.Nat.{ℕ, _+_, _≤_, _<_}
 use mathlib.Core.Path.{_≡_}
 use mathlib.Core.Bool.{Bool, _&&_, _||_}
 use mathlib.Core.Logic.{_⊎_}
 use lib.Dec.{T, eqb, leb, ltb}
 use lib.ListN.{length}
-use Rattle.rules.specs.Rules.{Stage, Rules, registerCode}
+use Rattle.rules.specs.Rules.{Stage, Rules, registerCode, fifoCode, isClosing, sideAfter}
 use Rattle.rules.specs.Legal.{Route, mayStand, legalFrom}
-use Rattle.rules.specs.Ranking.{codeSevens}
+use Rattle.rules.specs.Ranking.{weigh}
+use Rattle.budget.specs.Table.{Seeds}
 
 abbrev pub stage : ℕ → ℕ → Stage
 stage l d = record { load = l; delay = d }
 
--- (a, b) is not after (k, s), registers first, then steps
+-- (a, b) is not after (k, s), weight first, then steps
 abbrev pub NotAfter : ℕ → ℕ → ℕ → ℕ → Type 0
 NotAfter a b k s = (a < k) ⊎ ((a ≡ k) × (b ≤ s))
 
--- an ending with `suc registers` spans and `steps` steps is within k registers and s steps
-abbrev pub Within : ℕ → ℕ → ℕ → ℕ → Type 0
-Within k s spans steps = (spans ≤ k) ⊎ ((spans ≡ suc k) × (steps ≤ s))
-
--- the state (c, l, d), after its gate, has a legal ending within k registers and s steps
-pub record Done (R : Rules) (k s c l d : ℕ) : Type 0 where
+-- the state (c, l, d), after its gate and f FIFOs, has a legal ending within weight w and s steps
+pub record Done (R : Rules) (f w s c l d : ℕ) : Type 0 where
   pub route : Route
-  pub ending : T (legalFrom R c 0 (stage l d) route)
-  pub within : Within k s (codeSevens route) (length route)
+  pub ending : T (legalFrom R c 0 f (stage l d) route)
+  pub within : NotAfter (weigh R f route) (length route) w s
 
--- after a register at c
-abbrev pub Fresh : Rules → ℕ → ℕ → ℕ → Type 0
-Fresh R k s c = Done R k s c (R .fresh .load) (R .fresh .delay)
+-- the same, within weight k after the current span
+abbrev pub Open : Rules → ℕ → ℕ → ℕ → ℕ → ℕ → ℕ → Type 0
+Open R f k s c l d = Done R f (R .weight f + k) s c l d
 
--- r registers and t steps are the least that a state needs
-pub record Least (R : Rules) (r t c l d : ℕ) : Type 0 where
-  pub enough : Done R r t c l d
-  pub least : (k s : ℕ) → Done R k s c l d → NotAfter r t k s
+-- weight w and s steps are the least that a state needs
+pub record Least (R : Rules) (f w s c l d : ℕ) : Type 0 where
+  pub enough : Done R f w s c l d
+  pub least : (k t : ℕ) → Done R f k t c l d → NotAfter w s k t
 
--- where the current span may close, at k registers and s steps to go after the close
-pub data Seed (R : Rules) (k s n : ℕ) : Type 0 where
-  atSource : n ≡ R .source → Seed R k s n
-  atRegister : (j : ℕ) → k ≡ suc j → T (mayStand R n registerCode) → Fresh R j s n → Seed R k s n
+-- where a span of side f may close with this code, within weight w and s steps after the close
+pub data After (R : Rules) (f code w s n : ℕ) : Type 0 where
+  atSource : code ≡ registerCode → f ≡ R .fifos → n ≡ R .source → After R f code w s n
+  atGate : T (isClosing code) → T (mayStand R n code) → Done R (sideAfter f code) w s n (R .fresh code .load) (R .fresh code .delay) → After R f code w s n
 
--- What the search knows of the cells: whether a cell is labelled, and the least registers and steps from a register there.
+-- What the search knows of the cells, for gates of one code: whether a cell is labelled, and the least weight and steps after a close there.
 pub record Labels : Type 0 where
   pub known : ℕ → Bool
-  pub registers : ℕ → ℕ
+  pub weight : ℕ → ℕ
   pub steps : ℕ → ℕ
 
--- the labels are right, and complete within k registers and s steps
-pub record Labelled (R : Rules) (k s : ℕ) (m : Labels) : Type 0 where
-  pub stands : (c : ℕ) → T (m .known c) → T (mayStand R c registerCode)
-  pub least : (c : ℕ) → T (m .known c) → Least R (m .registers c) (m .steps c) c (R .fresh .load) (R .fresh .delay)
-  pub found : (c : ℕ) → T (m .known c) → NotAfter (m .registers c) (m .steps c) k s
-  pub complete : (c : ℕ) → T (mayStand R c registerCode) → Fresh R k s c → T (m .known c)
+-- Q w s n: cell n has what is asked within weight w and s steps.
+-- The labels are the least, and complete within w and s.
+pub record Covers (Q : ℕ → ℕ → ℕ → Type 0) (w s : ℕ) (m : Labels) : Type 0 where
+  pub enough : (n : ℕ) → T (m .known n) → Q (m .weight n) (m .steps n) n
+  pub least : (n : ℕ) → T (m .known n) → (k t : ℕ) → Q k t n → NotAfter (m .weight n) (m .steps n) k t
+  pub complete : (n : ℕ) → Q w s n → T (m .known n)
 
--- the seeds by the labels: the source, and the cells whose label with one register more is not after (k, s)
-unfoldable pub seedAt : Rules → Labels → ℕ → ℕ → ℕ → Bool
-seedAt R m k s n =
-    eqb n (R .source) || (m .known n && (ltb (suc (m .registers n)) k || (eqb (suc (m .registers n)) k && leb (m .steps n) s)))
+-- the labels of side f, by code: those of registers, with the source, are complete within weight k after the current span and s steps; those of FIFOs for good
+pub record Labelled (R : Rules) (f k s : ℕ) (m : ℕ → Labels) : Type 0 where
+  pub registers : Covers (After R f registerCode) (R .weight f + k) s (m registerCode)
+  pub fifos : (w t : ℕ) → Covers (After R f fifoCode) w t (m fifoCode)
 
--- an uncut wire leads only to cells of the plan; codes are at most 7; every span has the same bound
+-- the seeds by the labels: those that are not after (k, s)
+unfoldable pub seedAt : (ℕ → Labels) → ℕ → ℕ → Seeds
+seedAt m k s code n =
+    m code .known n && (ltb (m code .weight n) k || (eqb (m code .weight n) k && leb (m code .steps n) s))
+
+-- an uncut wire leads only to cells of the plan; codes are at most 8; every span of a side has the same bound; a span has a weight
 pub record Lawful (R : Rules) : Type 0 where
   pub inPlan : (c n : ℕ) → T (R .linked c n) → n < R .cellCount
-  pub codes : (c code : ℕ) → T (mayStand R c code) → code ≤ registerCode
-  pub steady : (span : ℕ) → R .bound span ≡ R .bound 0
+  pub codes : (c code : ℕ) → T (mayStand R c code) → code ≤ fifoCode
+  pub steady : (span f : ℕ) → R .bound span f ≡ R .bound 0 f
+  pub heavy : (f : ℕ) → 0 < R .weight f

@@ -8,19 +8,19 @@ use Rattle.timing.specs.Formulas.{wireDelay, gateDelay, wireLoad, bufferDriver,
 use Rattle.timing.specs.Elements.{wireOf, driverOf, bufferOf, registerOf}
 use Rattle.timing.specs.Valid.{Valid}
 use Rattle.timing.specs.Slack.{slackOf, smaller}
-use Rattle.rules.specs.Rules.{Rules, rulesOf, siteOf, wireBetween}
+use Rattle.rules.specs.Rules.{Rules, isClosing, sideAfter, rulesOf, siteOf, wireBetween}
 use Rattle.rules.specs.Legal.{mayStand, isEnd, arrive, buffered, leave, closing, spanAfter}
 use Rattle.rules.specs.Ranking.{codeSevens, registers, steps, latency}
 use Rattle.rules.specs.Beginning.{nextPlace, placeFrom, startPlace, placeAfter}
 use Rattle.rules.specs.Slack.{slackAt, slacksFrom, slacks, leastFrom, leastSlack}
-use Rattle.budget.specs.Table.{loadAt, delayAt, bufferCost, loadOf, closeCost, only, maxBelow, viaBuffer, arrival, given}
+use Rattle.budget.specs.Table.{budgetSum, loadAt, delayAt, bufferCost, loadOf, closeCost, only, maxBelow, viaBuffer, viaClose, arrival, given}
 use Rattle.budget.specs.Done.{seedAt}
-use Rattle.budget.specs.Emission.{exactSeed, goesOn, afterLoad, afterDelay, afterRegisters, visit, firstFrom, nextCode, nextCell, emit}
+use Rattle.budget.specs.Emission.{exactSeed, goesOn, afterLoad, afterDelay, afterWeight, visit, firstFrom, nextCode, nextCell, emit}
 use Rattle.lists.specs.Lists.{sumBelow}
-use Rattle.best.specs.Rows.{listFrom, tableOf, rowsOf, layerRows, budgetSum}
-use Rattle.best.specs.Labels.{isKnown, labelRegisters, labelSteps, labelsListed, relabelAt, relabel, least, leastBelow, isPending, isOfWave, nextPending, firstOfWave}
-use Rattle.best.specs.Search.{layerTurn, quietTurn, turn, searchFrom, mostSteps, mostTurns, search}
-use Rattle.best.specs.Best.{found, none, reachRows, routeOf, outcome, best}
+use Rattle.best.specs.Rows.{listFrom, tableOf, rowsOf, layerRows}
+use Rattle.best.specs.Labels.{isKnown, labelWeight, labelSteps, labelsListed, byCode, places, relabelAt, relabel, earlier, waiting, nextLabel}
+use Rattle.best.specs.Search.{atSink, relabelled, layerTurn, quietTurn, turn, searchFrom, mostSum, mostTurns, startLabels, searchSide, labelling, exitsOf}
+use Rattle.best.specs.Best.{found, none, reachRows, exitsAt, labelsAt, routeOf, outcome, best}
 use Rattle.best.proofs.Document01.{rules-best, rules-none}
 use Rattle.cases.specs.Cases.{Expected, route, noRoute, Case, Meets, rulesIn, IsRight, Each, more, closesAt, tables, strip, straight, case1, close1, case2, case3, case4, case5, case6, case7, case8, case9, case10, case11, case12, case13, cases}
 use Rattle.cases.specs.Cases.{none as last}
@@ -32,7 +32,7 @@ Agrees R period (route k s t z r) = (best R ≡ found r) × (registers r ≡ k) 
 Agrees R period noRoute = best R ≡ none
 
 computed : Each (λ c. Agrees (rulesIn c) (c .elements .period) (c .expected)) cases
-unfolding cells row column marksAt blocked tap cutRight cutBelow joinsRight joinsBelow bothIn horizontal vertical joined wireOf bufferOf registerOf driverOf wireDelay gateDelay wireLoad bufferDriver bufferLoad registerDriver registerLoad setupDelay rulesOf siteOf wireBetween mayStand isEnd loadAt delayAt bufferCost loadOf closeCost only maxBelow viaBuffer arrival given seedAt exactSeed goesOn afterLoad afterDelay afterRegisters firstFrom nextCode nextCell emit listFrom sumBelow tableOf rowsOf layerRows budgetSum isKnown labelRegisters labelSteps labelsListed relabelAt relabel least leastBelow isPending isOfWave nextPending firstOfWave layerTurn quietTurn turn searchFrom mostSteps mostTurns search reachRows routeOf outcome best tables strip straight codeSevens registers steps latency arrive buffered leave closing spanAfter nextPlace startPlace slackOf smaller slackAt slacksFrom slacks leastFrom leastSlack case1 case2 case3 case4 case5 case6 case7 case8 case9 case10 case11 case12 case13
+unfolding cells row column marksAt blocked tap cutRight cutBelow joinsRight joinsBelow bothIn horizontal vertical joined wireOf bufferOf registerOf driverOf wireDelay gateDelay wireLoad bufferDriver bufferLoad registerDriver registerLoad setupDelay isClosing sideAfter rulesOf siteOf wireBetween mayStand isEnd budgetSum loadAt delayAt bufferCost loadOf closeCost only maxBelow viaBuffer viaClose arrival given seedAt exactSeed goesOn afterLoad afterDelay afterWeight firstFrom nextCode nextCell emit listFrom sumBelow tableOf rowsOf layerRows isKnown labelWeight labelSteps labelsListed byCode places relabelAt relabel earlier waiting nextLabel atSink relabelled layerTurn quietTurn turn searchFrom mostSum mostTurns startLabels searchSide labelling exitsOf reachRows exitsAt labelsAt routeOf outcome best tables strip straight codeSevens registers steps latency arrive buffered leave closing spanAfter nextPlace startPlace slackOf smaller slackAt slacksFrom slacks leastFrom leastSlack case1 case2 case3 case4 case5 case6 case7 case8 case9 case10 case11 case12 case13
 computed =
     more case1 (refl, refl, refl, refl, refl)
     (more case2 (refl, refl, refl, refl, refl)
@@ -67,5 +67,5 @@ worked-routes = together right valid computed
 
 -- R1 closes at 52 half-ticks, which is 2T.
 pub first-close : closesAt (rulesIn case1) (visit 2 7) (visit 1 0 ∷ []) 0 ≡ close1
-unfolding closesAt placeAfter placeFrom startPlace nextPlace arrive leave closing case1 strip tables wireOf registerOf driverOf wireDelay wireLoad gateDelay registerDriver registerLoad setupDelay rulesOf wireBetween cells row column marksAt cutRight cutBelow joinsRight joinsBelow bothIn horizontal
+unfolding closesAt placeAfter placeFrom startPlace nextPlace isClosing sideAfter arrive leave closing case1 strip tables wireOf registerOf driverOf wireDelay wireLoad gateDelay registerDriver registerLoad setupDelay rulesOf wireBetween cells row column marksAt cutRight cutBelow joinsRight joinsBelow bothIn horizontal
 first-close = refl

@@ -11,7 +11,7 @@ use Rattle.timing.specs.declared.elements.Buffer.{Buffer}
 use Rattle.timing.specs.declared.elements.Elements.{Elements}
 use Rattle.timing.specs.Ranges.{buffersMax}
 use Rattle.timing.specs.Elements.{wireOf, bufferOf, registerOf}
-use Rattle.rules.specs.Rules.{Rules, rulesOf}
+use Rattle.rules.specs.Rules.{Rules, registerCode, rulesOf}
 use Rattle.rules.specs.Legal.{Visit, Route, arrive, closing, legal}
 use Rattle.rules.specs.Ranking.{registers, steps, latency, IsBest}
 use Rattle.rules.specs.Beginning.{placeAfter}
@@ -33,7 +33,7 @@ pub record Case : Type 0 where
 -- A case is right: the visits are the best route, with these figures; or no route is legal.
 
 pub record CaseAnswered (R : Rules) (period k s t : ℕ) (z : ℤ) (r : Route) : Type 0 where
-  pub isBest : IsBest R r
+  pub isBest : IsBest registers R r
   pub registers : registers r ≡ k
   pub steps : steps r ≡ s
   pub latency : latency period r ≡ t
@@ -55,7 +55,7 @@ pub data Each (P : Case → Type 0) : List Case → Type 0 where
 
 -- the delay with which the span closes at `cell` after the visits v ∷ vs, in half-ticks
 unfoldable pub closesAt : Rules → Visit → Route → ℕ → ℕ
-closesAt R v vs cell = closing R (arrive R (placeAfter R v vs .cell) (placeAfter R v vs .stage) cell) cell
+closesAt R v vs cell = closing R (arrive R (placeAfter R v vs .cell) (placeAfter R v vs .stage) cell) cell registerCode
 
 -- the strip's tables, with a period, a load limit, a vertical wire and a list of buffers
 unfoldable pub tables : ℕ → ℕ → Wire → List Buffer → Elements

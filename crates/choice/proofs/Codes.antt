@@ -6,8 +6,8 @@ use mathlib.Core.List.{List}
 use mathlib.Core.Logic.{_⊎_, inl, inr}
 use native.Mathlib.Omega.{arith}
 use native.Mathlib.Numerals.{add-one}
-use borrow.Author.Tests.{eq-eqb, ne-eqb}
-use lib.Dec.{T, T-not, not-T, eqb, leb, ltb}
+use borrow.Author.Tests.{ne-eqb}
+use lib.Dec.{T, T-not, not-T, ltb}
 use lib.IntN.{pos}
 use lib.ListN.{length, getD}
 use lib.Signed.{leZ}
@@ -15,17 +15,15 @@ use Rattle.timing.specs.declared.elements.Elements.{Elements}
 use Rattle.timing.specs.Formulas.{gateDelay, bufferLoad, registerDriver}
 use Rattle.timing.specs.Slack.{slackOf}
 use Rattle.timing.proofs.SlackLaws.{slack-below}
-use Rattle.rules.specs.Rules.{Rules, rulesOf, noGate, registerCode}
+use Rattle.rules.specs.Rules.{Rules, rulesOf, noGate, registerCode, fifoCode, isClosing}
 use Rattle.rules.specs.Legal.{mayStand}
-use Rattle.plan.proofs.Truth.{split, both, snd, decided, is-true, is-false, of-true, of-false}
+use Rattle.plan.proofs.Truth.{split, equal, three-way, both, snd, is-true, is-false, of-true, of-false}
 use Rattle.rules.proofs.Document01.{no-gate-stands, buffer-site, buffer-stands}
 use Rattle.budget.specs.Table.{Table, loadOf, bufferCost, closeCost}
 use Rattle.budget.specs.Done.{Labels}
 use Rattle.budget.specs.Emission.{exactSeed}
 use Rattle.budget.proofs.Max.{only-most}
-use Rattle.layout.specs.Layout.{labelsAt}
-use Rattle.labels.specs.Labels.{knownOf, registersOf, stepsOf, labelsOf}
-use Rattle.labels.proofs.Labels.{known-word, word-known}
+use Rattle.labels.specs.Labels.{labelsFor}
 use Rattle.costs.specs.Costs.{rowWords}
 use Rattle.rows.specs.Rows.{viewOf}
 use Rattle.problem.specs.declared.Problem.{Problem}
@@ -38,6 +36,25 @@ use Rattle.table.proofs.Views.{budget-at, buffer-named, limit-named}
 use Rattle.choice.specs.declared.State.{State}
 use Rattle.choice.specs.Choice.{delayMost}
 use Rattle.choice.specs.Codes.{CodeAsks, goesAt, drives, FirstBuffer, FirstCode}
+use Rattle.choice.proofs.Seeds.{no-fifo}
+
+-- the codes below the register's close no span
+pub below-open : (code : ℕ) → code < registerCode → T (not (isClosing code))
+unfolding isClosing
+below-open code h = simp (ne-eqb code registerCode (λ e. omega arith), ne-eqb code fifoCode (λ e. omega arith)) tt
+
+-- with one clock the FIFO's code does not go on, so the first that does is below it
+
+fifo-refused : (R : Rules) (n : ℕ) (words : List ℕ) (A : Table) (at : State) → T (goesAt R (labelsFor n words) A at fifoCode) → ⊥
+unfolding goesAt isClosing
+fifo-refused R n words A at t = simp (no-fifo n words (at .cell) (at .weight) (at .steps)) at t
+
+pub code-small : {R : Rules} (n : ℕ) (words : List ℕ) {A : Table} {at : State} {r : ℕ} → FirstCode R (labelsFor n words) A at r → (r ≡ fifoCode + 1 → ⊥) → r ≤ registerCode
+code-small {R} n words {A} {at} {r} first some = go (equal r fifoCode)
+  where
+    go : (r ≡ fifoCode) ⊎ (r ≡ fifoCode → ⊥) → r ≤ registerCode
+    go (inl e) = absurd (fifo-refused R n words A at (rw e at (first .goes (omega arith))))
+    go (inr f) = omega (arith, first .within)
 
 -- the table's words have 16 bits if all words have
 pub budget-bounded : (n : ℕ) (words : List ℕ) → ((k : ℕ) → getD words k 0 ≤ delayMost) → (c l : ℕ) → budgetOf n words c l ≤ delayMost
@@ -48,8 +65,8 @@ module _ (p : Problem) (marks words : List ℕ) (at : State) (asks : CodeAsks p 
   abbrev R : Rules
   R = rulesFor p marks
 
-  abbrev m : Labels
-  m = labelsOf (length marks) words
+  abbrev m : ℕ → Labels
+  m = labelsFor (length marks) words
 
   abbrev A : Table
   A = budgetOf (length marks) words
@@ -81,18 +98,18 @@ module _ (p : Problem) (marks words : List ℕ) (at : State) (asks : CodeAsks p 
   unfolding goesAt drives loadOf bufferCost rulesFor
   goes-buffer i h s =
       simp
-      (ne-eqb (suc i) noGate (λ z. omega arith), ne-eqb (suc i) registerCode (λ z. omega (arith, asks .ready .valid .count)), is-true (mayStand R (at .cell) (suc i)) (buffer-stands (planFor p marks) e (p .source) (p .sink) (at .cell) (suc i) (asks .ready .valid .count) (takes-site p marks (at .cell) s (suc i) (omega arith) (omega arith))), buffer-named p marks i, limit-named p marks, budget-at (length marks) words (at .cell) (bufferLoad (bufferAt e i)) (asks .inPlan) (omega (arith, buffer-load-most (asks .ready .valid) i (omega (arith, asks .ready .valid .count)))))
+      (ne-eqb (suc i) noGate (λ z. omega arith), is-false (isClosing (suc i)) (below-open (suc i) (omega (arith, asks .ready .valid .count))), is-true (mayStand R (at .cell) (suc i)) (buffer-stands (planFor p marks) e (p .source) (p .sink) (at .cell) (suc i) (asks .ready .valid .count) (takes-site p marks (at .cell) s (suc i) (omega arith) (omega arith))), buffer-named p marks i, limit-named p marks, budget-at (length marks) words (at .cell) (bufferLoad (bufferAt e i)) (asks .inPlan) (omega (arith, buffer-load-most (asks .ready .valid) i (omega (arith, asks .ready .valid .count)))))
 
-  goes-refused : (code : ℕ) → (code ≡ noGate → ⊥) → (code ≡ registerCode → ⊥) → (T (mayStand R (at .cell) code) → ⊥) → T (goesAt R m A at code) → ⊥
+  goes-refused : (code : ℕ) → (code ≡ noGate → ⊥) → code < registerCode → (T (mayStand R (at .cell) code) → ⊥) → T (goesAt R m A at code) → ⊥
   unfolding goesAt
   goes-refused code f g h t =
       simp
-      (ne-eqb code noGate f, ne-eqb code registerCode g, is-false (mayStand R (at .cell) code) (not-T (mayStand R (at .cell) code) h)) at t
+      (ne-eqb code noGate f, is-false (isClosing code) (below-open code g), is-false (mayStand R (at .cell) code) (not-T (mayStand R (at .cell) code) h)) at t
 
   -- a register
 
-  pub goes-register : goesAt R m A at registerCode ≡ exactSeed R m (at .registers) (at .steps) (at .cell) && closes
-  unfolding goesAt rulesFor rulesOf closeCost
+  pub goes-register : goesAt R m A at registerCode ≡ exactSeed m (at .weight) (at .steps) registerCode (at .cell) && closes
+  unfolding goesAt isClosing rulesFor rulesOf closeCost
   goes-register = simp (slack-below (2 * e .period) (at .delay .0 + gateDelay (registerDriver (e .register)) (at .load .0)))
 
   -- Nothing below the first buffer's code goes on, if a buffer may stand here at all
@@ -115,39 +132,13 @@ module _ (p : Problem) (marks words : List ℕ) (at : State) (asks : CodeAsks p 
         go : (a ≤ e .count) ⊎ (e .count < a) → ⊥
         go (inl q) = below-buffer s r first a (omega arith) t
         go (inr q) =
-            goes-refused a (λ z. omega arith) (λ z. omega arith) (λ u. omega (arith, buffer-site (planFor p marks) e (p .source) (p .sink) (at .cell) a (λ z. omega arith) (λ z. omega arith) u .listed)) t
+            goes-refused a (λ z. omega arith) k (λ u. omega (arith, buffer-site (planFor p marks) e (p .source) (p .sink) (at .cell) a (λ z. omega arith) (λ z. omega arith) u .listed)) t
 
     pub no-site : site ≡ false → (a : ℕ) → a < registerCode → T (goesAt R m A at a) → ⊥
     unfolding rulesFor
     no-site s zero k t = none-refused 0 refl t
     no-site s (suc i) k t =
-        goes-refused (suc i) (λ z. omega arith) (λ z. omega arith) (λ u. T-not site (of-false site s) (site-takes p marks (at .cell) (suc i) (buffer-site (planFor p marks) e (p .source) (p .sink) (at .cell) (suc i) (λ z. omega arith) (λ z. omega arith) u))) t
-
-  -- the seed by the words: with registers to go, the label's word is their number
-
-  pub seed-last : at .registers ≡ 0 → exactSeed R m (at .registers) (at .steps) (at .cell) ≡ eqb (at .cell) (p .source)
-  unfolding exactSeed rulesFor rulesOf
-  seed-last z = rw z
-
-  seed-other : (k : ℕ) → (k ≡ 0 → ⊥) → (getD words (length marks * labelsAt + at .cell) 0 ≡ k → ⊥) → exactSeed R m k (at .steps) (at .cell) ≡ false
-  unfolding exactSeed
-  seed-other zero some f = absurd (some refl)
-  seed-other (suc j) some f = go (decided (knownOf (length marks) words (at .cell)))
-    where
-      go : T (knownOf (length marks) words (at .cell)) ⊎ T (not (knownOf (length marks) words (at .cell))) → exactSeed R m (suc j) (at .steps) (at .cell) ≡ false
-      go (inl h) = simp (is-true (knownOf (length marks) words (at .cell)) h, ne-eqb (registersOf (length marks) words (at .cell)) j (λ z. f (omega (arith, known-word (length marks) words (at .cell) h))))
-      go (inr h) = simp (is-false (knownOf (length marks) words (at .cell)) h)
-
-  seed-same : (k : ℕ) → (k ≡ 0 → ⊥) → getD words (length marks * labelsAt + at .cell) 0 ≡ k → exactSeed R m k (at .steps) (at .cell) ≡ leb (stepsOf (length marks) words (at .cell)) (at .steps)
-  unfolding exactSeed
-  seed-same zero some e = absurd (some refl)
-  seed-same (suc j) some e = simp (is-true (knownOf (length marks) words (at .cell)) (word-known (length marks) words (at .cell) (asks .inPlan) (omega arith)), eq-eqb (registersOf (length marks) words (at .cell)) j (omega arith))
-
-  pub seed-elsewhere : (at .registers ≡ 0 → ⊥) → (getD words (length marks * labelsAt + at .cell) 0 ≡ at .registers → ⊥) → exactSeed R m (at .registers) (at .steps) (at .cell) ≡ false
-  seed-elsewhere = seed-other (at .registers)
-
-  pub seed-label : (at .registers ≡ 0 → ⊥) → getD words (length marks * labelsAt + at .cell) 0 ≡ at .registers → exactSeed R m (at .registers) (at .steps) (at .cell) ≡ leb (stepsOf (length marks) words (at .cell)) (at .steps)
-  seed-label = seed-same (at .registers)
+        goes-refused (suc i) (λ z. omega arith) k (λ u. T-not site (of-false site s) (site-takes p marks (at .cell) (suc i) (buffer-site (planFor p marks) e (p .source) (p .sink) (at .cell) (suc i) (λ z. omega arith) (λ z. omega arith) u))) t
 
   -- the first code, by the tests
 
@@ -171,34 +162,35 @@ module _ (p : Problem) (marks words : List ℕ) (at : State) (asks : CodeAsks p 
         }
 
     module _ (low : (a : ℕ) → a < registerCode → T (goesAt R m A at a) → ⊥) where
-      pub code-register : exactSeed R m (at .registers) (at .steps) (at .cell) ≡ true → closes ≡ true → FirstCode R m A at registerCode
+      pub code-register : exactSeed m (at .weight) (at .steps) registerCode (at .cell) ≡ true → closes ≡ true → FirstCode R m A at registerCode
       code-register s t =
           record {
             within = omega arith;
-            goes = λ z. rw goes-register (both (exactSeed R m (at .registers) (at .steps) (at .cell)) _ (of-true _ s) (of-true closes t));
+            goes = λ z. rw goes-register (both (exactSeed m (at .weight) (at .steps) registerCode (at .cell)) _ (of-true _ s) (of-true closes t));
             isFirst = low;
             bounded = budget-bounded (length marks) words bits;
           }
 
       -- no code goes on: no seed, or too late
-      over : (T (goesAt R m A at registerCode) → ⊥) → FirstCode R m A at (registerCode + 1)
+      over : (T (goesAt R m A at registerCode) → ⊥) → FirstCode R m A at (fifoCode + 1)
       over f =
           record {
             within = omega arith;
             goes = λ z. absurd (omega arith);
-            isFirst = λ a k. go a (split registerCode a) k;
+            isFirst = λ a k. go a (three-way a registerCode) k;
             bounded = budget-bounded (length marks) words bits;
           }
         where
-          go : (a : ℕ) → (registerCode ≤ a) ⊎ (a < registerCode) → a < registerCode + 1 → T (goesAt R m A at a) → ⊥
-          go a (inl h) k t =
-              let z : a ≡ registerCode = omega arith in
-              f (rw z at t)
-          go a (inr h) k t = low a h t
+          go : (a : ℕ) → (a ≡ registerCode) ⊎ ((a < registerCode) ⊎ (registerCode < a)) → a < fifoCode + 1 → T (goesAt R m A at a) → ⊥
+          go a (inl h) k t = f (rw h at t)
+          go a (inr (inl h)) k t = low a h t
+          go a (inr (inr h)) k t =
+              let z : a ≡ fifoCode = omega arith in
+              fifo-refused R (length marks) words A at (rw z at t)
 
-      pub code-unseeded : exactSeed R m (at .registers) (at .steps) (at .cell) ≡ false → FirstCode R m A at (registerCode + 1)
+      pub code-unseeded : exactSeed m (at .weight) (at .steps) registerCode (at .cell) ≡ false → FirstCode R m A at (fifoCode + 1)
       code-unseeded s = over (λ t. simp (goes-register, s) at t)
 
-      pub code-late : closes ≡ false → FirstCode R m A at (registerCode + 1)
+      pub code-late : closes ≡ false → FirstCode R m A at (fifoCode + 1)
       code-late s =
-          over (λ t. T-not closes (of-false closes s) (snd (exactSeed R m (at .registers) (at .steps) (at .cell)) closes (rw goes-register at t)))
+          over (λ t. T-not closes (of-false closes s) (snd (exactSeed m (at .weight) (at .steps) registerCode (at .cell)) closes (rw goes-register at t)))

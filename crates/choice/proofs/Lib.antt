@@ -1,3 +1,4 @@
+pub mod Seeds
 pub mod Codes
 pub mod Visits
 pub mod Sides

@@ -13,11 +13,11 @@ use Rattle.plan.proofs.Sides.{Ascending, IsNeighbour}
 use Rattle.timing.specs.declared.elements.Wire.{Wire}
 use Rattle.timing.specs.declared.elements.Elements.{Elements}
 use Rattle.timing.specs.Elements.{WireInRange}
-use Rattle.rules.specs.Rules.{Rules, registerCode}
+use Rattle.rules.specs.Rules.{Rules, fifoCode}
 use Rattle.budget.specs.Table.{Table}
 use Rattle.budget.specs.Done.{Labels}
 use Rattle.budget.specs.Emission.{Before}
-use Rattle.labels.specs.Labels.{labelsOf}
+use Rattle.labels.specs.Labels.{labelsFor}
 use Rattle.problem.specs.declared.Problem.{Problem}
 use Rattle.table.specs.Problem.{planFor, rulesFor, budgetOf}
 use Rattle.problem.proofs.Sizes.{cells-are}
@@ -38,8 +38,8 @@ module _ (p : Problem) (marks words : List ℕ) (from : State) (asks : ChooseAsk
   abbrev R : Rules
   R = rulesFor p marks
 
-  abbrev m : Labels
-  m = labelsOf n words
+  abbrev m : ℕ → Labels
+  m = labelsFor n words
 
   abbrev A : Table
   A = budgetOf n words
@@ -82,7 +82,7 @@ module _ (p : Problem) (marks words : List ℕ) (from : State) (asks : ChooseAsk
 
   -- no visit there goes on
   abbrev pub Empty : ℕ → Type 0
-  Empty side = (a : ℕ) → a ≤ registerCode → Goes R m A from side a → ⊥
+  Empty side = (a : ℕ) → a ≤ fifoCode → Goes R m A from side a → ⊥
 
   pub empty : (side : ℕ) → Only side Choice.Nothing → Empty side
   empty side (ChosenAmong.nothing f) a h t = f side a refl h t
@@ -98,13 +98,13 @@ module _ (p : Problem) (marks words : List ℕ) (from : State) (asks : ChooseAsk
         small = x .small;
         load = x .load;
         delay = x .delay;
-        registers = x .registers;
+        weight = x .weight;
         steps = x .steps;
         slack = x .slack;
         inRange = x .inRange;
       })
     where
-      first : (c a : ℕ) → T (R .linked (from .cell) c) → a ≤ registerCode → Before c a (to .cell) code → Goes R m A from c a → ⊥
+      first : (c a : ℕ) → T (R .linked (from .cell) c) → a ≤ fifoCode → Before c a (to .cell) code → Goes R m A from c a → ⊥
       first c a l h (inl b) t = none (omega (arith, x .among, x .inRange .inPlan, cells-are p marks (asks .ready))) c (omega (arith, x .among)) (sides p marks (asks .ready) (from .cell) inPlan c l) a h t
       first c a l h (inr b) t = x .isFirst c a (omega (arith, x .among)) h (inr b) t
 

@@ -6,7 +6,7 @@ use mathlib.Core.List.{List}
 use mathlib.Core.Logic.{inl, inr}
 use native.Mathlib.Omega.{arith}
 use borrow.Author.Tests.{eq-eqb, ne-eqb}
-use lib.Dec.{T, leb, ltb, le→leb}
+use lib.Dec.{T, T-not, leb, ltb, le→leb}
 use lib.IntN.{ℤ}
 use lib.ListN.{length}
 use Rattle.plan.proofs.Joined.{joined-in}
@@ -16,15 +16,16 @@ use Rattle.timing.specs.Ranges.{loadMax}
 use Rattle.timing.specs.Formulas.{wireDelay, wireLoad, gateDelay, bufferDriver, registerLoad, setupDelay}
 use Rattle.timing.specs.Valid.{Valid}
 use Rattle.timing.proofs.Bounds.{wire-delay-max}
-use Rattle.rules.specs.Rules.{Rules, wireBetween, rulesOf, noGate, registerCode}
+use Rattle.rules.specs.Rules.{Rules, wireBetween, rulesOf, noGate, registerCode, fifoCode, isClosing}
 use Rattle.rules.specs.Legal.{mayStand, arrive, closing}
 use Rattle.rules.specs.Slack.{slackAt, slackAfter}
-use Rattle.plan.proofs.Truth.{both, fst, snd, tests}
+use Rattle.plan.proofs.Truth.{both, fst, snd, tests, is-true, is-false}
+use Rattle.rules.proofs.View.{closing-some, register-closing}
 use Rattle.budget.specs.Table.{Table, loadAt, delayAt, loadOf, bufferCost}
 use Rattle.budget.specs.Done.{Labels}
-use Rattle.budget.specs.Emission.{goesOn, afterLoad, afterDelay, visit, Before}
+use Rattle.budget.specs.Emission.{goesOn, afterLoad, afterDelay, afterWeight, visit, Before}
 use Rattle.budget.proofs.Visit.{Gate, gate}
-use Rattle.labels.specs.Labels.{labelsOf}
+use Rattle.labels.specs.Labels.{labelsFor}
 use Rattle.problem.specs.declared.Problem.{Problem}
 use Rattle.table.specs.Problem.{planFor, rulesFor, budgetOf}
 use Rattle.costs.specs.Costs.{bufferAt}
@@ -32,11 +33,11 @@ use Rattle.problem.proofs.Sizes.{cells-are}
 use Rattle.choice.specs.declared.State.{State}
 use Rattle.choice.specs.declared.Choice.{Choice}
 use Rattle.choice.specs.Choice.{delayMost, placeAt, Goes, ChosenAmong}
-use Rattle.choice.specs.Codes.{CodeAsks, TryAsks, goesAt, FirstCode, leftLoad, leftDelay, leftSlack, Left}
+use Rattle.choice.specs.Codes.{CodeAsks, TryAsks, goesAt, FirstCode, leftLoad, leftDelay, leftWeight, leftSlack, Left}
 use Rattle.costs.proofs.Checked.{buffer-load-most}
 
 -- a visit that goes on passes a wire
-pub goes-linked : (R : Rules) (m : Labels) (A : Table) (from : State) (c code : ℕ) → Goes R m A from c code → T (R .linked (from .cell) c)
+pub goes-linked : (R : Rules) (m : ℕ → Labels) (A : Table) (from : State) (c code : ℕ) → Goes R m A from c code → T (R .linked (from .cell) c)
 unfolding goesOn
 goes-linked R m A from c code t =
     fst (R .linked (from .cell) c) _ (fst (R .linked (from .cell) c && leb (loadAt R (from .cell) c (from .load .0)) (R .limit)) _ t)
@@ -50,10 +51,12 @@ module _ (e : Elements) (valid : Valid e) (at : State) (code : ℕ) (small : cod
     where
       go : Gate code → leftLoad e at code ≤ loadMax
       go (Gate.none q) = simp (eq-eqb code noGate q) h
-      go (Gate.register q) = simp (ne-eqb code noGate (omega arith), eq-eqb code registerCode q) (valid .register .load)
-      go (Gate.buffer f g) = simp (ne-eqb code noGate f, ne-eqb code registerCode g) (buffer-load-most valid (code - 1) (omega (arith, f, g)))
+      go (Gate.shuts q) = simp (ne-eqb code noGate (closing-some code q), is-true (isClosing code) q) (valid .register .load)
+      go (Gate.buffer f g) =
+          let other : code ≡ registerCode → ⊥ = λ z. T-not (isClosing code) g (register-closing code z) in
+          simp (ne-eqb code noGate f, is-false (isClosing code) g) (buffer-load-most valid (code - 1) (omega (arith, f, other)))
 
-  left-early : (R : Rules) (m : Labels) (A : Table) → ((n : ℕ) → bufferCost R code n ≡ gateDelay (bufferDriver (bufferAt e (code - 1))) n) → ((c l : ℕ) → A c l ≤ delayMost) → T (goesAt R m A at code) → leftDelay e at code ≤ delayMost
+  left-early : (R : Rules) (m : ℕ → Labels) (A : Table) → ((n : ℕ) → bufferCost R code n ≡ gateDelay (bufferDriver (bufferAt e (code - 1))) n) → ((c l : ℕ) → A c l ≤ delayMost) → T (goesAt R m A at code) → leftDelay e at code ≤ delayMost
   unfolding leftDelay setupDelay goesAt
   left-early R m A cost bounded t = go (gate code)
     where
@@ -62,18 +65,18 @@ module _ (e : Elements) (valid : Valid e) (at : State) (code : ℕ) (small : cod
           let u : T (mayStand R (at .cell) noGate && ltb (at .delay .0) (A (at .cell) (at .load .0))) = simp (eq-eqb code noGate q) at t in
           let h = snd (mayStand R (at .cell) noGate) (ltb (at .delay .0) (A (at .cell) (at .load .0))) u in
           simp (eq-eqb code noGate q) (omega (arith, tests, bounded (at .cell) (at .load .0)))
-      go (Gate.register q) = simp (ne-eqb code noGate (omega arith), eq-eqb code registerCode q) (omega (arith, valid .register .setup))
+      go (Gate.shuts q) = simp (ne-eqb code noGate (closing-some code q), is-true (isClosing code) q) (omega (arith, valid .register .setup))
       go (Gate.buffer f g) =
-          let u : T (mayStand R (at .cell) code && leb (loadOf R code) (R .limit) && ltb (at .delay .0 + bufferCost R code (at .load .0)) (A (at .cell) (loadOf R code))) = simp (ne-eqb code noGate f, ne-eqb code registerCode g) at t in
+          let u : T (mayStand R (at .cell) code && leb (loadOf R code) (R .limit) && ltb (at .delay .0 + bufferCost R code (at .load .0)) (A (at .cell) (loadOf R code))) = simp (ne-eqb code noGate f, is-false (isClosing code) g) at t in
           let h = snd (mayStand R (at .cell) code && leb (loadOf R code) (R .limit)) (ltb (at .delay .0 + bufferCost R code (at .load .0)) (A (at .cell) (loadOf R code))) u in
-          simp (ne-eqb code noGate f, ne-eqb code registerCode g) (omega (arith, tests, cost (at .load .0), bounded (at .cell) (loadOf R code)))
+          simp (ne-eqb code noGate f, is-false (isClosing code) g) (omega (arith, tests, cost (at .load .0), bounded (at .cell) (loadOf R code)))
 
 module _ (p : Problem) (marks words : List ℕ) (from : State) (cell : ℕ) (wire : Wire) (asks : TryAsks p marks words from cell wire) where
   abbrev R : Rules
   R = rulesFor p marks
 
-  abbrev m : Labels
-  m = labelsOf (length marks) words
+  abbrev m : ℕ → Labels
+  m = labelsFor (length marks) words
 
   abbrev A : Table
   A = budgetOf (length marks) words
@@ -82,7 +85,7 @@ module _ (p : Problem) (marks words : List ℕ) (from : State) (cell : ℕ) (wir
   e = p .elements
 
   abbrev k : ℕ
-  k = from .registers
+  k = from .weight
 
   abbrev u : ℕ
   u = from .steps - 1
@@ -101,7 +104,7 @@ module _ (p : Problem) (marks words : List ℕ) (from : State) (cell : ℕ) (wir
   -- the load, the delay and the smallest figure on arrival
   module _ (inside : cell < length marks) (load delay : ℕ) (slack : ℤ) (loads : load ≡ from .load .0 + wireLoad wire) (delays : delay ≡ from .delay .0 + wireDelay wire (from .load .0)) (slacks : slack ≡ from .slack) where
     abbrev at : State
-    at = record { cell = cell; load = record { 0 = load }; delay = record { 0 = delay }; registers = k; steps = u; slack = slack }
+    at = record { cell = cell; load = record { 0 = load }; delay = record { 0 = delay }; weight = k; steps = u; slack = slack }
 
     load-named : loadAt R (from .cell) cell (from .load .0) ≡ load
     unfolding loadAt
@@ -116,7 +119,7 @@ module _ (p : Problem) (marks words : List ℕ) (from : State) (cell : ℕ) (wir
     limit-named = refl
 
     -- the wire, and then the code
-    goes-split : (code : ℕ) → goesOn R m k u A (from .cell) (from .load .0) (from .delay .0) cell code ≡ (R .linked (from .cell) cell && leb load (e .limit .0) && goesAt R m A at code)
+    goes-split : (code : ℕ) → goesOn R m 0 k u A (from .cell) (from .load .0) (from .delay .0) cell code ≡ (R .linked (from .cell) cell && leb load (e .limit .0) && goesAt R m A at code)
     unfolding goesOn goesAt
     goes-split code = simp (load-named, delay-named, limit-named)
 
@@ -148,7 +151,7 @@ module _ (p : Problem) (marks words : List ℕ) (from : State) (cell : ℕ) (wir
           (both (R .linked (from .cell) cell && leb load (e .limit .0)) (goesAt R m A at code)
           (both (R .linked (from .cell) cell) (leb load (e .limit .0)) (asks .joined inside) (le→leb _ _ light)) t)
 
-      pub no-code : FirstCode R m A at (registerCode + 1) → Only Choice.Nothing
+      pub no-code : FirstCode R m A at (fifoCode + 1) → Only Choice.Nothing
       no-code first = ChosenAmong.nothing (λ c a s k t. first .isFirst a (omega arith) (goes-code c a s t))
 
       module _ (code : ℕ) (to : State) (left : Left e at code to) where
@@ -159,6 +162,10 @@ module _ (p : Problem) (marks words : List ℕ) (from : State) (cell : ℕ) (wir
         delay-after : to .delay .0 ≡ afterDelay R (from .cell) (to .cell) (from .load .0) (from .delay .0) code
         unfolding leftDelay afterDelay bufferCost bufferAt rulesFor rulesOf
         delay-after = left .delay ∙ rw (left .cell, load-named, delay-named)
+
+        weight-after : to .weight ≡ afterWeight R 0 k code
+        unfolding leftWeight afterWeight rulesFor rulesOf
+        weight-after = left .weight
 
         slack-after : to .slack ≡ slackAfter R (placeAt from) (from .slack) (visit (to .cell) code)
         unfolding leftSlack slackAfter slackAt closing arrive rulesFor rulesOf
@@ -176,19 +183,19 @@ module _ (p : Problem) (marks words : List ℕ) (from : State) (cell : ℕ) (wir
             ChosenAmong.visit
             (record {
               among = left .cell;
-              goes = code-goes (to .cell) code (left .cell) (first .goes small);
+              goes = code-goes (to .cell) code (left .cell) (first .goes (omega arith));
               isFirst = λ c a s h b t. earlier c a s b (goes-code c a s t);
               small = small;
               load = load-after;
               delay = delay-after;
-              registers = left .registers;
+              weight = weight-after;
               steps = left .steps;
               slack = slack-after;
               inRange =
                   record {
                     inPlan = omega (arith, left .cell);
                     light = rw (left .load) (left-light e (asks .asks .ready .valid) at code small (at-asks .light));
-                    early = rw (left .delay) (left-early e (asks .asks .ready .valid) at code small R m A cost (first .bounded) (first .goes small));
+                    early = rw (left .delay) (left-early e (asks .asks .ready .valid) at code small R m A cost (first .bounded) (first .goes (omega arith)));
                   };
             })
           where

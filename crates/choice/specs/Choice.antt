@@ -1,17 +1,17 @@
 -- One step of emission: the next visit, in written order, from which the rest can still be done.
--- R are the rules, m the labels, A the table of what can be reached, n the number of cells.
+-- R are the rules, m the labels by code, A the table of what can be reached, n the number of cells.
 use Prim.Native.Nat.{ℕ, _-_, _≤_, _<_}
 use mathlib.Core.Path.{_≡_}
 use mathlib.Core.List.{List}
 use lib.Dec.{T}
 use lib.ListN.{length}
 use Rattle.timing.specs.Ranges.{loadMax}
-use Rattle.rules.specs.Rules.{Rules, registerCode}
+use Rattle.rules.specs.Rules.{Rules, registerCode, fifoCode}
 use Rattle.rules.specs.Beginning.{Place}
 use Rattle.rules.specs.Slack.{slackAfter}
 use Rattle.budget.specs.Table.{Table}
 use Rattle.budget.specs.Done.{stage, Labels}
-use Rattle.budget.specs.Emission.{goesOn, afterLoad, afterDelay, afterRegisters, Before}
+use Rattle.budget.specs.Emission.{goesOn, afterLoad, afterDelay, afterWeight, Before}
 use Rattle.problem.specs.declared.Problem.{Problem}
 use Rattle.table.specs.Problem.{Ready, Room}
 use Rattle.choice.specs.declared.State.{State}
@@ -34,31 +34,31 @@ pub record ChooseAsks (p : Problem) (marks words : List ℕ) (from : State) : Ty
   pub more : 0 < from .steps
 
 -- a visit to the cell with this code goes on to the end, with one step fewer
-abbrev pub Goes : Rules → Labels → Table → State → ℕ → ℕ → Type 0
+abbrev pub Goes : Rules → (ℕ → Labels) → Table → State → ℕ → ℕ → Type 0
 Goes R m A from cell code =
-    T (goesOn R m (from .registers) (from .steps - 1) A (from .cell) (from .load .0) (from .delay .0) cell code)
+    T (goesOn R m 0 (from .weight) (from .steps - 1) A (from .cell) (from .load .0) (from .delay .0) cell code)
 
--- where a state has come; every span has the bound of the first
+-- where a state has come, with one clock; every span has the bound of the first
 abbrev pub placeAt : State → Place
-placeAt s = record { cell = s .cell; span = 0; stage = stage (s .load .0) (s .delay .0) }
+placeAt s = record { cell = s .cell; span = 0; fifos = 0; stage = stage (s .load .0) (s .delay .0) }
 
--- The visit goes on to the state `to`, and none before it to these cells does. After a last visit, `to` is as after any register.
-pub record FirstVisit (R : Rules) (n : ℕ) (m : Labels) (A : Table) (from : State) (cells : ℕ → Type 0) (code : ℕ) (to : State) : Type 0 where
+-- The visit goes on to the state `to`, and none before it to these cells does. After a last visit, `to` is as after any register. With one clock no visit has a FIFO.
+pub record FirstVisit (R : Rules) (n : ℕ) (m : ℕ → Labels) (A : Table) (from : State) (cells : ℕ → Type 0) (code : ℕ) (to : State) : Type 0 where
   pub among : cells (to .cell)
   pub goes : Goes R m A from (to .cell) code
-  pub isFirst : (cell a : ℕ) → cells cell → a ≤ registerCode → Before cell a (to .cell) code → Goes R m A from cell a → ⊥
+  pub isFirst : (cell a : ℕ) → cells cell → a ≤ fifoCode → Before cell a (to .cell) code → Goes R m A from cell a → ⊥
   pub small : code ≤ registerCode
   pub load : to .load .0 ≡ afterLoad R (from .cell) (to .cell) (from .load .0) code
   pub delay : to .delay .0 ≡ afterDelay R (from .cell) (to .cell) (from .load .0) (from .delay .0) code
-  pub registers : to .registers ≡ afterRegisters (from .registers) code
+  pub weight : to .weight ≡ afterWeight R 0 (from .weight) code
   pub steps : to .steps ≡ from .steps - 1
   pub slack : to .slack ≡ slackAfter R (placeAt from) (from .slack) (record { cell = to .cell; code = code })
   pub inRange : InRange n to
 
-pub data ChosenAmong (R : Rules) (n : ℕ) (m : Labels) (A : Table) (from : State) (cells : ℕ → Type 0) : Choice → Type 0 where
+pub data ChosenAmong (R : Rules) (n : ℕ) (m : ℕ → Labels) (A : Table) (from : State) (cells : ℕ → Type 0) : Choice → Type 0 where
   visit : {code : ℕ} {to : State} → FirstVisit R n m A from cells code to → ChosenAmong R n m A from cells (Choice.Visit code to)
-  nothing : ((cell a : ℕ) → cells cell → a ≤ registerCode → Goes R m A from cell a → ⊥) → ChosenAmong R n m A from cells Choice.Nothing
+  nothing : ((cell a : ℕ) → cells cell → a ≤ fifoCode → Goes R m A from cell a → ⊥) → ChosenAmong R n m A from cells Choice.Nothing
 
 -- among all cells that a wire joins to the state's
-abbrev pub Chosen : Rules → ℕ → Labels → Table → State → Choice → Type 0
+abbrev pub Chosen : Rules → ℕ → (ℕ → Labels) → Table → State → Choice → Type 0
 Chosen R n m A from choice = ChosenAmong R n m A from (λ cell. T (R .linked (from .cell) cell)) choice

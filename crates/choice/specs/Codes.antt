@@ -13,11 +13,11 @@ use Rattle.timing.specs.Formulas.{gateDelay, bufferDriver, bufferLoad, register
 use Rattle.timing.specs.Slack.{slackOf, smaller}
 use Rattle.timing.specs.Elements.{WireInRange}
 use Rattle.timing.specs.Valid.{Valid}
-use Rattle.rules.specs.Rules.{Rules, noGate, registerCode}
+use Rattle.rules.specs.Rules.{Rules, noGate, fifoCode, isClosing}
 use Rattle.rules.specs.Legal.{mayStand}
 use Rattle.budget.specs.Table.{Table, bufferCost, loadOf, closeCost}
 use Rattle.budget.specs.Done.{Labels}
-use Rattle.budget.specs.Emission.{exactSeed, afterRegisters}
+use Rattle.budget.specs.Emission.{exactSeed}
 use Rattle.costs.specs.Costs.{rowWords}
 use Rattle.rows.specs.Rows.{viewOf}
 use Rattle.problem.specs.declared.Problem.{Problem}
@@ -53,19 +53,19 @@ pub record TryAsks (p : Problem) (marks words : List ℕ) (from : State) (cell :
   pub wireFits : WireInRange wire
 
 -- what `goesOn` asks of the code, once the wire is passed
-unfoldable pub goesAt : Rules → Labels → Table → State → ℕ → Bool
+unfoldable pub goesAt : Rules → (ℕ → Labels) → Table → State → ℕ → Bool
 goesAt R m A at code =
     cond (eqb code noGate) (mayStand R (at .cell) noGate && ltb (at .delay .0) (A (at .cell) (at .load .0)))
-    (cond (eqb code registerCode)
-    (exactSeed R m (at .registers) (at .steps) (at .cell) && ltb (at .delay .0 + closeCost R (at .cell) (at .load .0)) (R .bound 0))
+    (cond (isClosing code)
+    (exactSeed m (at .weight) (at .steps) code (at .cell) && ltb (at .delay .0 + closeCost R (at .cell) code (at .load .0)) (R .bound 0 0))
     (mayStand R (at .cell) code
     && leb (loadOf R code) (R .limit)
     && ltb (at .delay .0 + bufferCost R code (at .load .0)) (A (at .cell) (loadOf R code))))
 
--- r is the first code that goes on, 8 for none; the table's words have 16 bits
-pub record FirstCode (R : Rules) (m : Labels) (A : Table) (at : State) (r : ℕ) : Type 0 where
-  pub within : r ≤ registerCode + 1
-  pub goes : r ≤ registerCode → T (goesAt R m A at r)
+-- r is the first code that goes on, 9 for none; the table's words have 16 bits
+pub record FirstCode (R : Rules) (m : ℕ → Labels) (A : Table) (at : State) (r : ℕ) : Type 0 where
+  pub within : r ≤ fifoCode + 1
+  pub goes : r ≤ fifoCode → T (goesAt R m A at r)
   pub isFirst : (a : ℕ) → a < r → T (goesAt R m A at a) → ⊥
   pub bounded : (c l : ℕ) → A c l ≤ delayMost
 
@@ -84,23 +84,27 @@ pub record FirstBuffer (words : List ℕ) (e : Elements) (at : State) (r : ℕ) 
 -- the load and the delay after the gate with this code
 unfoldable pub leftLoad : Elements → State → ℕ → ℕ
 leftLoad e at code =
-    cond (eqb code noGate) (at .load .0) (cond (eqb code registerCode) (registerLoad (e .register)) (bufferLoad (bufferAt e (code - 1))))
+    cond (eqb code noGate) (at .load .0) (cond (isClosing code) (registerLoad (e .register)) (bufferLoad (bufferAt e (code - 1))))
 
 unfoldable pub leftDelay : Elements → State → ℕ → ℕ
 leftDelay e at code =
     cond (eqb code noGate) (at .delay .0)
-    (cond (eqb code registerCode) (setupDelay (e .register)) (at .delay .0 + gateDelay (bufferDriver (bufferAt e (code - 1))) (at .load .0)))
+    (cond (isClosing code) (setupDelay (e .register)) (at .delay .0 + gateDelay (bufferDriver (bufferAt e (code - 1))) (at .load .0)))
+
+-- the weight to go after it: with one clock every span weighs 1
+unfoldable pub leftWeight : State → ℕ → ℕ
+leftWeight at code = cond (isClosing code) (at .weight - 1) (at .weight)
 
 -- the smallest spare figure after it
 unfoldable pub leftSlack : Elements → State → ℕ → ℤ
 leftSlack e at code =
-    cond (eqb code registerCode) (smaller (at .slack) (slackOf (2 * e .period) (at .delay .0 + gateDelay (registerDriver (e .register)) (at .load .0)))) (at .slack)
+    cond (isClosing code) (smaller (at .slack) (slackOf (2 * e .period) (at .delay .0 + gateDelay (registerDriver (e .register)) (at .load .0)))) (at .slack)
 
 -- `to` is the state after the gate
 pub record Left (e : Elements) (at : State) (code : ℕ) (to : State) : Type 0 where
   pub cell : to .cell ≡ at .cell
   pub load : to .load .0 ≡ leftLoad e at code
   pub delay : to .delay .0 ≡ leftDelay e at code
-  pub registers : to .registers ≡ afterRegisters (at .registers) code
+  pub weight : to .weight ≡ leftWeight at code
   pub steps : to .steps ≡ at .steps
   pub slack : to .slack ≡ leftSlack e at code

@@ -1,21 +1,20 @@
 // One step of emission: from a state, the first visit in written order from which the rest can still be done.
 ghost use mathlib.Core.Path.{_≡_};
 ghost use Prim.Native.Nat.{_+_, _*_, _-_, _≤_, _<_};
-ghost use lib.Dec.{ltb};
 ghost use lib.ListN.{length};
 ghost use Rattle.timing.specs.Ranges.{loadMax};
-ghost use Rattle.timing.specs.Elements.{DriverInRange};
 ghost use Rattle.timing.specs.Valid.{Valid};
-ghost use Rattle.timing.specs.Formulas.{gateDelay, registerDriver};
 ghost use Rattle.rules.specs.Rules.{registerCode};
 ghost use Rattle.budget.specs.Emission.{exactSeed};
 ghost use Rattle.costs.specs.Costs.{rowWords};
+ghost use Rattle.layout.specs.Layout.{labelsAt};
 ghost use Rattle.rows.specs.Rows.{viewOf};
-ghost use Rattle.labels.specs.Labels.{labelsOf};
+ghost use Rattle.labels.specs.Labels.{SetIn, labelsFor};
 ghost use Rattle.table.specs.Problem.{rulesFor, budgetOf};
 ghost use Rattle.choice.specs.Choice.{ChooseAsks, ChosenAmong, Chosen};
 ghost use Rattle.choice.specs.Codes.{arrivalMost, RowAsks, CodeAsks, TryAsks, FirstCode, FirstBuffer, drives, Left};
 use labels::steps_of;
+use labels::weight_word;
 use layout::LABELS;
 use plan::neighbours_of;
 use problem::Problem;
@@ -27,12 +26,12 @@ use timing::Load;
 use timing::Wire;
 use timing::smaller_slack;
 
-// After a visit's gate: the delay of the current span, the registers and steps to go, and the smallest spare figure of the spans closed so far.
+// After a visit's gate: the delay of the current span, the weight to go after it, the steps to go, and the smallest spare figure of the spans closed so far.
 pub struct State {
     pub cell: usize,
     pub load: Load,
     pub delay: HalfTicks,
-    pub registers: u16,
+    pub weight: u32,
     pub steps: u32,
     pub slack: i32,
 }
@@ -83,25 +82,26 @@ fn first_buffer(scratch: &[u16], elements: Elements, at: State) -> usize
     i
 }
 
-// Whether the span may close at the cell, with these registers and steps to go: the source with none, else a label of one register fewer.
-fn is_seed(plan: &[u8], scratch: &[u16], p: Problem, at: State) -> bool
-    requires { ⌜ CodeAsks p (now plan) (now scratch) at ⌝ }
-    ensures { λ r. ⌜ r ≡ exactSeed (rulesFor p (now (plan .entry))) (labelsOf (length (now (plan .entry))) (now (scratch .entry))) (at .registers) (at .steps) (at .cell) ⌝ }
+// Whether the span may close at the cell with this weight and these steps to go: its label has this weight, and no more steps.
+fn is_seed(scratch: &[u16], n: usize, at: State) -> bool
+    requires { ⌜ SetIn n (n * labelsAt) (now scratch) × (at .cell < n) ⌝ }
+    ensures { λ r. ⌜ r ≡ exactSeed (labelsFor n (now (scratch .entry))) (at .weight) (at .steps) registerCode (at .cell) ⌝ }
 {
-    if at.registers == 0 {
-        return at.cell == p.source;
-    }
-    let n = plan.len();
-    if scratch[n * LABELS + at.cell] != at.registers {
+    let set = n * LABELS;
+    let word = weight_word(scratch, n, set, at.cell);
+    if word == 0 {
         return false;
     }
-    steps_of(scratch, n, at.cell) <= at.steps
+    if word - 1 != at.weight {
+        return false;
+    }
+    steps_of(scratch, n, set, at.cell) <= at.steps
 }
 
-// The first code with which a visit to the cell goes on, 8 for none.
+// The first code with which a visit to the cell goes on, 9 for none.
 fn first_code(plan: &[u8], scratch: &[u16], p: Problem, at: State) -> u16
     requires { ⌜ CodeAsks p (now plan) (now scratch) at ⌝ }
-    ensures { λ r. ⌜ FirstCode (rulesFor p (now (plan .entry))) (labelsOf (length (now (plan .entry))) (now (scratch .entry))) (budgetOf (length (now (plan .entry))) (now (scratch .entry))) at r ⌝ }
+    ensures { λ r. ⌜ FirstCode (rulesFor p (now (plan .entry))) (labelsFor (length (now (plan .entry))) (now (scratch .entry))) (budgetOf (length (now (plan .entry))) (now (scratch .entry))) at r ⌝ }
 {
     let cell = at.cell;
     if at.delay.below(budget_at(scratch, cell, at.load)) {
@@ -114,12 +114,12 @@ fn first_code(plan: &[u8], scratch: &[u16], p: Problem, at: State) -> u16
             return (i + 1) as u16;
         }
     }
-    if is_seed(plan, scratch, p, at) {
+    if is_seed(scratch, plan.len(), at) {
         if 0 <= elements.slack(at.load, at.delay) {
             return 7;
         }
     }
-    8
+    9
 }
 
 // The state after the gate.
@@ -137,7 +137,7 @@ fn leave(elements: Elements, at: State, code: u16) -> State
             cell: at.cell,
             load: register.load(),
             delay: register.start_delay(),
-            registers: fewer(at.registers),
+            weight: fewer(at.weight),
             steps: at.steps,
             slack: smaller_slack(at.slack, close),
         };
@@ -148,20 +148,20 @@ fn leave(elements: Elements, at: State, code: u16) -> State
         cell: at.cell,
         load: buffer.load(),
         delay: buffer.driver().after(at.load, at.delay),
-        registers: at.registers,
+        weight: at.weight,
         steps: at.steps,
         slack: at.slack,
     }
 }
 
-// One fewer, from 0 none.
-fn fewer(registers: u16) -> u16
-    ensures { λ r. ⌜ r ≡ registers - 1 ⌝ }
+// One less, from 0 none: with one clock every span weighs 1.
+fn fewer(weight: u32) -> u32
+    ensures { λ r. ⌜ r ≡ weight - 1 ⌝ }
 {
-    if registers == 0 {
+    if weight == 0 {
         return 0;
     }
-    registers - 1
+    weight - 1
 }
 
 // The first visit to the neighbour that goes on. The number of cells is no neighbour.
@@ -174,7 +174,7 @@ fn try_cell(
     wire: Wire,
 ) -> Choice
     requires { ⌜ TryAsks p (now plan) (now scratch) from cell wire ⌝ }
-    ensures { λ r. ⌜ ChosenAmong (rulesFor p (now (plan .entry))) (length (now (plan .entry))) (labelsOf (length (now (plan .entry))) (now (scratch .entry))) (budgetOf (length (now (plan .entry))) (now (scratch .entry))) from (λ c. c ≡ cell) r ⌝ }
+    ensures { λ r. ⌜ ChosenAmong (rulesFor p (now (plan .entry))) (length (now (plan .entry))) (labelsFor (length (now (plan .entry))) (now (scratch .entry))) (budgetOf (length (now (plan .entry))) (now (scratch .entry))) from (λ c. c ≡ cell) r ⌝ }
 {
     if cell == plan.len() {
         return Choice::Nothing;
@@ -187,12 +187,12 @@ fn try_cell(
         cell: cell,
         load: load,
         delay: from.delay.plus(wire.delay(from.load)),
-        registers: from.registers,
+        weight: from.weight,
         steps: from.steps - 1,
         slack: from.slack,
     };
     let code = first_code(plan, scratch, p, at);
-    if code == 8 {
+    if code == 9 {
         return Choice::Nothing;
     }
     let elements = p.elements;
@@ -202,7 +202,7 @@ fn try_cell(
 // The first visit that goes on: the neighbours in ascending order.
 pub fn choose(plan: &[u8], scratch: &[u16], p: Problem, from: State) -> Choice
     requires { ⌜ ChooseAsks p (now plan) (now scratch) from ⌝ }
-    ensures { λ r. ⌜ Chosen (rulesFor p (now (plan .entry))) (length (now (plan .entry))) (labelsOf (length (now (plan .entry))) (now (scratch .entry))) (budgetOf (length (now (plan .entry))) (now (scratch .entry))) from r ⌝ }
+    ensures { λ r. ⌜ Chosen (rulesFor p (now (plan .entry))) (length (now (plan .entry))) (labelsFor (length (now (plan .entry))) (now (scratch .entry))) (budgetOf (length (now (plan .entry))) (now (scratch .entry))) from r ⌝ }
 {
     let near = neighbours_of(plan, p.width, p.height, from.cell);
     let elements = p.elements;

@@ -12,7 +12,7 @@ use Rattle.answers.specs.declared.verdicts.Comparison.{Comparison}
 use Rattle.answers.specs.declared.verdicts.Comparison.the-variants.{First, Second, Refused}
 use Rattle.rules.specs.Rules.{Rules}
 use Rattle.rules.specs.Legal.{Route, legal}
-use Rattle.rules.specs.Ranking.{ranksBefore}
+use Rattle.rules.specs.Ranking.{registers, ranksBefore}
 use Rattle.rules.proofs.Order.{ranks-irreflexive, ranks-transitive}
 use Rattle.verdict.specs.Verdict.{routeIn}
 use Rattle.comparison.specs.Better.{comparisonFor, Handed}
@@ -58,38 +58,38 @@ chosen-view false false c = neither (λ p. p) (λ p. p)
 
 module _ (R : Rules) (a b : Route) where
   -- the first: it is legal, and the second is not or does not rank before it
-  pub better-first : (comparisonFor R a b ≡ First) ↔ (T (legal R a) × (T (legal R b) → T (ranksBefore b a) → ⊥))
+  pub better-first : (comparisonFor R a b ≡ First) ↔ (T (legal R a) × (T (legal R b) → T (ranksBefore registers b a) → ⊥))
   unfolding comparisonFor
-  better-first = chosen-first (legal R a) (legal R b) (ranksBefore b a)
+  better-first = chosen-first (legal R a) (legal R b) (ranksBefore registers b a)
 
   -- the second: it is legal, and the first is not or the second ranks before it
-  pub better-second : (comparisonFor R a b ≡ Second) ↔ (T (legal R b) × (T (legal R a) → T (ranksBefore b a)))
+  pub better-second : (comparisonFor R a b ≡ Second) ↔ (T (legal R b) × (T (legal R a) → T (ranksBefore registers b a)))
   unfolding comparisonFor
-  better-second = chosen-second (legal R a) (legal R b) (ranksBefore b a)
+  better-second = chosen-second (legal R a) (legal R b) (ranksBefore registers b a)
 
   -- 18: neither is legal
   pub better-none : (comparisonFor R a b ≡ Refused Refusal.NoneLegal) ↔ ((T (legal R a) → ⊥) × (T (legal R b) → ⊥))
   unfolding comparisonFor
-  better-none = chosen-none (legal R a) (legal R b) (ranksBefore b a)
+  better-none = chosen-none (legal R a) (legal R b) (ranksBefore registers b a)
 
   -- the comparison where the three tests are known
-  pub known : (x y z : Bool) → legal R a ≡ x → legal R b ≡ y → ranksBefore b a ≡ z → chosen x y z ≡ comparisonFor R a b
+  pub known : (x y z : Bool) → legal R a ≡ x → legal R b ≡ y → ranksBefore registers b a ≡ z → chosen x y z ≡ comparisonFor R a b
   unfolding comparisonFor
   known x y z e f g = rw (e, f, g)
 
-  better-view : Chosen (legal R a) (legal R b) (ranksBefore b a) (comparisonFor R a b)
+  better-view : Chosen (legal R a) (legal R b) (ranksBefore registers b a) (comparisonFor R a b)
   unfolding comparisonFor
-  better-view = chosen-view (legal R a) (legal R b) (ranksBefore b a)
+  better-view = chosen-view (legal R a) (legal R b) (ranksBefore registers b a)
 
 -- of equal routes, the first
 pub better-equal : (R : Rules) (a : Route) → T (legal R a) → comparisonFor R a a ≡ First
-better-equal R a h = better-first R a a .1 (h, λ k before. ranks-irreflexive a before)
+better-equal R a h = better-first R a a .1 (h, λ k before. ranks-irreflexive registers a before)
 
 -- A route is legal, and neither of two that are legal ranks before it.
 pub record BestOf (R : Rules) (a b r : Route) : Type 0 where
   pub isLegal : T (legal R r)
-  pub firstAfter : T (legal R a) → T (ranksBefore a r) → ⊥
-  pub secondAfter : T (legal R b) → T (ranksBefore b r) → ⊥
+  pub firstAfter : T (legal R a) → T (ranksBefore registers a r) → ⊥
+  pub secondAfter : T (legal R b) → T (ranksBefore registers b r) → ⊥
 
 -- the list handed back by the rules
 pub handed-best : (R : Rules) (a b r : RefT (List ℕ)) → Handed (comparisonFor R (routeIn (now a)) (routeIn (now b))) a b r → T (legal R (routeIn (now a))) ⊎ T (legal R (routeIn (now b))) → BestOf R (routeIn (now a)) (routeIn (now b)) (routeIn (now r))
@@ -101,16 +101,16 @@ handed-best R a b r handed some = go (comparisonFor R q s) handed (better-view R
     s : Route
     s = routeIn (now b)
 
-    go : (x : Comparison) → Handed x a b r → Chosen (legal R q) (legal R s) (ranksBefore s q) x → BestOf R q s (routeIn (now r))
+    go : (x : Comparison) → Handed x a b r → Chosen (legal R q) (legal R s) (ranksBefore registers s q) x → BestOf R q s (routeIn (now r))
     go First e (first h f) =
         rw e
-        (record { isLegal = h; firstAfter = λ k before. ranks-irreflexive q before; secondAfter = f })
+        (record { isLegal = h; firstAfter = λ k before. ranks-irreflexive registers q before; secondAfter = f })
     go Second e (second h f) =
         rw e
         (record {
           isLegal = h;
-          firstAfter = λ k before. ranks-irreflexive q (ranks-transitive q s q before (f k));
-          secondAfter = λ k before. ranks-irreflexive s before;
+          firstAfter = λ k before. ranks-irreflexive registers q (ranks-transitive registers q s q before (f k));
+          secondAfter = λ k before. ranks-irreflexive registers s before;
         })
     go (Refused n) e (neither f g) = absurd (none some)
       where

@@ -12,7 +12,7 @@ use Rattle.answers.specs.declared.verdicts.Comparison.{Comparison}
 use Rattle.answers.specs.declared.verdicts.Comparison.the-variants.{First, Second, Refused}
 use Rattle.rules.specs.Rules.{Rules}
 use Rattle.rules.specs.Legal.{Route, legal}
-use Rattle.rules.specs.Ranking.{ranksBefore}
+use Rattle.rules.specs.Ranking.{registers, ranksBefore}
 use Rattle.rules.proofs.Order.{ranks-irreflexive}
 use Rattle.question.specs.Question.{Question, rulesAsked, Check, passes, fails, orElse, questionChecks}
 use Rattle.question.proofs.Checks.{first-five, five-fail}
@@ -23,9 +23,9 @@ use Rattle.comparison.proofs.Better.{better-first, better-second, bette
 -- The better of two routes by document 01's rules
 pub record Ranked (R : Rules) (a b : Route) (answer : Comparison) : Type 0 where
   -- the first: it is legal, and the second is not or does not rank before it
-  pub first : (answer ≡ First) ↔ (T (legal R a) × (T (legal R b) → T (ranksBefore b a) → ⊥))
+  pub first : (answer ≡ First) ↔ (T (legal R a) × (T (legal R b) → T (ranksBefore registers b a) → ⊥))
   -- the second: it is legal, and the first is not or the second ranks before it
-  pub second : (answer ≡ Second) ↔ (T (legal R b) × (T (legal R a) → T (ranksBefore b a)))
+  pub second : (answer ≡ Second) ↔ (T (legal R b) × (T (legal R a) → T (ranksBefore registers b a)))
   -- 18: neither is legal
   pub neither : (answer ≡ Refused Refusal.NoneLegal) ↔ ((T (legal R a) → ⊥) × (T (legal R b) → ⊥))
 
@@ -104,7 +104,7 @@ module _ (q : Question) (a b : RefT (List ℕ)) where
           answered (record {
             own = inr is;
             best = handed-best R a b r (rw f is) (inr (s .0));
-            equal = λ same. absurd (ranks-irreflexive w (rw (ap routeIn same) at (s .1 (rw (ap routeIn same) (s .0)))));
+            equal = λ same. absurd (ranks-irreflexive registers w (rw (ap routeIn same) at (s .1 (rw (ap routeIn same) (s .0)))));
           })
       go (Refused k) e is = refused k e is
 

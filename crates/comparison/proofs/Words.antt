@@ -49,22 +49,22 @@ module _ (a b : List ℕ) (evenA : length a % 2 ≡ 0) (evenB : length b % 2 ≡
       let y : 2 * length (routeIn b) ≡ length b = visits-even b evenB in
       same-equal (length (routeIn b) - 1) (length (routeIn a) - 1) (length b) (length a) (λ h. omega arith) (λ h. omega arith)
 
-  pub ranks-words : ranksBefore (routeIn b) (routeIn a) ≡ (ltb (registers (routeIn b)) (registers (routeIn a)) || (eqb (registers (routeIn b)) (registers (routeIn a)) && (ltb (length b) (length a) || (eqb (length b) (length a) && precedes b a))))
+  pub ranks-words : ranksBefore registers (routeIn b) (routeIn a) ≡ (ltb (registers (routeIn b)) (registers (routeIn a)) || (eqb (registers (routeIn b)) (registers (routeIn a)) && (ltb (length b) (length a) || (eqb (length b) (length a) && precedes b a))))
   unfolding ranksBefore key precedes
   ranks-words = rw (fewer-steps-words, same-steps-words, written-route a evenA, written-route b evenB)
 
 -- The ranking of two lists that are not refused, decided by the first of the three that differs
 
 module _ (b a : List ℕ) (goodB : badList b ≡ false) (goodA : badList a ≡ false) where
-  ranks-good : ranksBefore (routeIn b) (routeIn a) ≡ (ltb (registers (routeIn b)) (registers (routeIn a)) || (eqb (registers (routeIn b)) (registers (routeIn a)) && (ltb (length b) (length a) || (eqb (length b) (length a) && precedes b a))))
+  ranks-good : ranksBefore registers (routeIn b) (routeIn a) ≡ (ltb (registers (routeIn b)) (registers (routeIn a)) || (eqb (registers (routeIn b)) (registers (routeIn a)) && (ltb (length b) (length a) || (eqb (length b) (length a) && precedes b a))))
   ranks-good = ranks-words a b (good-even a goodA) (good-even b goodB) (good-length a goodA) (good-length b goodB)
 
-  pub ranks-by-registers : (registers (routeIn b) ≡ registers (routeIn a) → ⊥) → ranksBefore (routeIn b) (routeIn a) ≡ ltb (registers (routeIn b)) (registers (routeIn a))
+  pub ranks-by-registers : (registers (routeIn b) ≡ registers (routeIn a) → ⊥) → ranksBefore registers (routeIn b) (routeIn a) ≡ ltb (registers (routeIn b)) (registers (routeIn a))
   ranks-by-registers n = rw (ranks-good, ne-eqb _ _ n) (or-false _)
 
   module _ (same : registers (routeIn b) ≡ registers (routeIn a)) where
-    pub ranks-by-lengths : (length b ≡ length a → ⊥) → ranksBefore (routeIn b) (routeIn a) ≡ ltb (length b) (length a)
+    pub ranks-by-lengths : (length b ≡ length a → ⊥) → ranksBefore registers (routeIn b) (routeIn a) ≡ ltb (length b) (length a)
     ranks-by-lengths n = rw (ranks-good, not-less same, eq-eqb _ _ same, ne-eqb _ _ n) (or-false _)
 
-    pub ranks-by-words : length b ≡ length a → ranksBefore (routeIn b) (routeIn a) ≡ precedes b a
+    pub ranks-by-words : length b ≡ length a → ranksBefore registers (routeIn b) (routeIn a) ≡ precedes b a
     ranks-by-words e = rw (ranks-good, not-less same, eq-eqb _ _ same, not-less e, eq-eqb _ _ e)

@@ -9,7 +9,7 @@ use Rattle.answers.specs.declared.verdicts.Comparison.{Comparison}
 use Rattle.answers.specs.declared.verdicts.Comparison.the-variants.{First, Second, Refused}
 use Rattle.rules.specs.Rules.{Rules}
 use Rattle.rules.specs.Legal.{Route, legal}
-use Rattle.rules.specs.Ranking.{ranksBefore}
+use Rattle.rules.specs.Ranking.{registers, ranksBefore}
 use Rattle.question.specs.Question.{Question, rulesAsked, Check, passes, fails, orElse, questionChecks}
 use Rattle.verdict.specs.Verdict.{routeIn, badList}
 
@@ -17,7 +17,7 @@ use Rattle.verdict.specs.Verdict.{routeIn, badList}
 unfoldable pub comparisonFor : Rules → Route → Route → Comparison
 comparisonFor R a b =
     cond (legal R a)
-    (cond (legal R b && ranksBefore b a) Second First)
+    (cond (legal R b && ranksBefore registers b a) Second First)
     (cond (legal R b) Second (Refused Refusal.NoneLegal))
 
 -- refusals 1 to 5, then 17 for either list; then the comparison

@@ -44,7 +44,7 @@ fn written_before(b: &[u16], a: &[u16]) -> bool
 // Fewer registers, then fewer steps, then first in lexicographic order.
 pub fn ranks_before(b: &[u16], a: &[u16]) -> bool
     requires { ⌜ (badList (now b) ≡ false) × (badList (now a) ≡ false) ⌝ }
-    ensures { λ r. ⌜ r ≡ ranksBefore (routeIn (now (b .entry))) (routeIn (now (a .entry))) ⌝ }
+    ensures { λ r. ⌜ r ≡ ranksBefore registers (routeIn (now (b .entry))) (routeIn (now (a .entry))) ⌝ }
 {
     let m = registers_of(b);
     let n = registers_of(a);

@@ -16,13 +16,14 @@ use Rattle.rules.specs.Legal.{Route, arrive, buffered, closing, isEnd, mayStand
 use Rattle.rules.specs.Carrying.{Buffering}
 use Rattle.rules.specs.Relaxed.{HasRoute}
 use Rattle.rules.proofs.View.{Reached, Ending, LegalRoute, starts, route-view, stands-between, not-source}
+use Rattle.rules.proofs.Document01.{closing-register}
 use Rattle.rules.proofs.Carrying.{wire-grows, driver-grows}
 use Rattle.budget.specs.Done.{stage}
 use Rattle.costs.specs.Costs.{rowWords}
 use Rattle.rows.specs.Rows.{viewOf}
 use Rattle.problem.specs.declared.Problem.{Problem}
 use Rattle.problem.proofs.Sizes.{cells-are}
-use Rattle.table.specs.Problem.{rulesFor}
+use Rattle.table.specs.Problem.{planFor, rulesFor}
 use Rattle.queue.specs.Queue.{placeOf, Waits}
 use Rattle.delays.specs.Delays.{never, latest, closesOf, Idle, NextClose, NoneBefore}
 use Rattle.spans.specs.Opens.{MayClose, rulesAt}
@@ -32,7 +33,7 @@ use Rattle.spans.specs.Spread.{Spread}
 use Rattle.earliest.specs.Earliest.{Handled, Passing}
 
 -- delays never fall on the way, so every state of an ending is within the period
-ending-early : (p : Problem) (marks : List ℕ) (b : ℕ) {c span : ℕ} {s : Stage} {vs : Route} → Ending (rulesAt p marks b) c span s vs → s .delay ≤ 2 * b
+ending-early : (p : Problem) (marks : List ℕ) (b : ℕ) {c span fifos : ℕ} {s : Stage} {vs : Route} → Ending (rulesAt p marks b) c span fifos s vs → s .delay ≤ 2 * b
 unfolding rulesAt rulesOf atPeriod arrive buffered closing
 ending-early p marks b (Ending.ends h) = omega (arith, h .closed)
 ending-early p marks b (Ending.passes h e) = omega (arith, ending-early p marks b e)
@@ -115,9 +116,9 @@ module _ (p : Problem) (marks : List ℕ) (t : ℕ) (words : List ℕ) (count cl
         let grown = driver-grows (bufferDriver (rulesFor p marks .buffer code)) (x .load) (a .load) (x .light) in
         omega (arith, grown, x .early, x .arrived .buffers code f may fits (omega (arith, grown, x .early)))
 
-    covers-close : MayClose (rulesFor p marks) to → a .delay + gateDelay (rulesFor p marks .closer to) (a .load) ≤ latest → closesOf (length marks) words to ≤ a .delay + gateDelay (rulesFor p marks .closer to) (a .load)
+    covers-close : MayClose (rulesFor p marks) to → a .delay + gateDelay (rulesFor p marks .closer to registerCode) (a .load) ≤ latest → closesOf (length marks) words to ≤ a .delay + gateDelay (rulesFor p marks .closer to registerCode) (a .load)
     covers-close may early =
-        let grown = driver-grows (rulesFor p marks .closer to) (x .load) (a .load) (x .light) in
+        let grown = driver-grows (rulesFor p marks .closer to registerCode) (x .load) (a .load) (x .light) in
         omega (arith, grown, x .early, x .arrived .closes may (omega (arith, grown, x .early)))
 
   module _ (far : 2 * t < closesOf (length marks) words (p .source)) (next : NextClose (length marks) words (2 * t) close) (b : ℕ) (before : 2 * b < close) (most : b ≤ periodMax) where
@@ -136,7 +137,7 @@ module _ (p : Problem) (marks : List ℕ) (t : ℕ) (words : List ℕ) (count cl
         go (inl h) = passing .going c inside h other
         go (inr h) = absurd (omega (arith, next .least c inside h))
 
-    no-ending : {c span : ℕ} {s : Stage} {vs : Route} → Ending (rulesAt p marks b) c span s vs → c < length marks → viewOf words c (s .load) ≤ s .delay → ⊥
+    no-ending : {c span fifos : ℕ} {s : Stage} {vs : Route} → Ending (rulesAt p marks b) c span fifos s vs → c < length marks → viewOf words c (s .load) ≤ s .delay → ⊥
     unfolding rulesAt rulesFor rulesOf atPeriod siteOf wireBetween arrive buffered closing mayStand isEnd
     no-ending (Ending.ends {from = c} {s = s} {v = v} h) inside covered =
         let here = in-plan (v .cell) (h .reached .inPlan) in
@@ -151,12 +152,13 @@ module _ (p : Problem) (marks : List ℕ) (t : ℕ) (words : List ℕ) (count cl
     no-ending (Ending.buffers {from = c} {s = s} {v = v} h e) inside covered =
         let here = in-plan (v .cell) (h .reached .inPlan) in
         let x = comes b before most c (v .cell) s inside covered (h .reached) (omega (arith, ending-early p marks b e)) in
-        let f : Buffering (v .code) = record { someGate = h .someGate; noRegister = h .noRegister } in
+        let f : Buffering (v .code) = record { someGate = h .someGate; noClose = h .noClose } in
         no-ending e here (covers-buffer (v .cell) (arrive R c s (v .cell)) here x (v .code) f (h .stands) (h .lightAfter) (omega (arith, ending-early p marks b e)))
     no-ending (Ending.closes {from = c} {s = s} {v = v} h e) inside covered =
         let here = in-plan (v .cell) (h .reached .inPlan) in
         let x = comes b before most c (v .cell) s inside covered (h .reached) (omega (arith, h .closed)) in
-        let stands = subst (λ (code : ℕ). T (mayStand R (v .cell) code)) (h .code) (h .stands) in
+        let is : v .code ≡ registerCode = closing-register (planFor p marks) (atPeriod b (p .elements)) (p .source) (p .sink) (v .cell) (v .code) (passing .ground .ready .valid .count) (h .code) (h .stands) in
+        let stands = subst (λ (code : ℕ). T (mayStand R (v .cell) code)) is (h .stands) in
         let other = not-source R (v .cell) (stands-between R (v .cell) registerCode stands (λ z. omega arith)) in
         let shut = covers-close (v .cell) (arrive R c s (v .cell)) here x (inr stands) (omega (arith, h .closed)) in
         no-ending e here (goes-on (v .cell) here (omega (arith, shut, h .closed)) other)

@@ -7,7 +7,7 @@ use lib.IntN.{ℤ}
 use lib.ListN.{length, getD}
 use Rattle.rules.specs.Rules.{Rules, registerCode}
 use Rattle.rules.specs.Legal.{Route}
-use Rattle.rules.specs.Ranking.{written, IsBest}
+use Rattle.rules.specs.Ranking.{registers, written, IsBest}
 use Rattle.rules.specs.Beginning.{Place}
 use Rattle.rules.specs.Slack.{slacksFrom, leastFrom, leastSlack}
 use Rattle.budget.specs.Done.{stage, Least, Labelled}
@@ -15,7 +15,7 @@ use Rattle.budget.specs.Emission.{FirstEnding, visit}
 use Rattle.costs.specs.Costs.{CostsOf}
 use Rattle.layout.specs.Layout.{cellWords}
 use Rattle.rows.specs.Words.{Filled, KeptFrom}
-use Rattle.labels.specs.Labels.{labelsOf}
+use Rattle.labels.specs.Labels.{labelsFor}
 use Rattle.choice.specs.declared.State.{State}
 use Rattle.problem.specs.declared.Problem.{Problem}
 use Rattle.table.specs.Problem.{Ready, Room, rulesFor}
@@ -34,21 +34,21 @@ pub record PutAsks (i cell lent : ℕ) : Type 0 where
   pub placeFits : i ≤ 10000000000
   pub fits : RoomOrNone (i + 2) lent
 
--- where a state has come, in this span
+-- where a state has come, in this span; with one clock no FIFO is passed
 abbrev pub placeIn : ℕ → State → Place
-placeIn span s = record { cell = s .cell; span = span; stage = stage (s .load .0) (s .delay .0) }
+placeIn span s = record { cell = s .cell; span = span; fifos = 0; stage = stage (s .load .0) (s .delay .0) }
 
 -- the two ends of emission, at a state: more visits are to come, or the route is whole
 pub data Onward (R : Rules) (k s : ℕ) (at : State) (made : Route) : Type 0 where
-  goes : Least R (at .registers) (at .steps) (at .cell) (at .load .0) (at .delay .0) → ((vs : Route) → FirstEnding R (at .registers) (at .steps) (at .cell) (at .load .0) (at .delay .0) vs → FirstEnding R k s (R .sink) (R .start .load) (R .start .delay) (made ++ vs)) → Onward R k s at made
-  whole : at .steps ≡ 0 → FirstEnding R k s (R .sink) (R .start .load) (R .start .delay) made → Onward R k s at made
+  goes : Least R 0 (R .weight 0 + at .weight) (at .steps) (at .cell) (at .load .0) (at .delay .0) → ((vs : Route) → FirstEnding R 0 (R .weight 0 + at .weight) (at .steps) (at .cell) (at .load .0) (at .delay .0) vs → FirstEnding R 0 (R .weight 0 + k) s (R .sink) (R .start .load) (R .start .delay) (made ++ vs)) → Onward R k s at made
+  whole : at .steps ≡ 0 → FirstEnding R 0 (R .weight 0 + k) s (R .sink) (R .start .load) (R .start .delay) made → Onward R k s at made
 
 -- After some visits: `made` are those after the sink, and the words hold the sink's and these, if there is room. The figure so far is the least of the spans that they close.
 pub record Emitting (R : Rules) (n k s count : ℕ) (words₀ words : List ℕ) (visits₀ visits : List ℕ) (at : State) (layers : Layers) (place : ℕ) : Type 0 where
   pub made : Route
   pub onward : Onward R k s at made
   pub inRange : InRange n at
-  pub fewer : at .registers ≤ k
+  pub lighter : at .weight ≤ k
   pub whole : length made + at .steps ≡ s
   pub placed : place ≡ 2 * (length made + 1)
   pub filled : 2 * (s + 1) ≤ length visits₀ → Filled (λ i. getD (written (visit (R .sink) registerCode ∷ made)) i 0) 0 place visits₀ visits
@@ -56,23 +56,23 @@ pub record Emitting (R : Rules) (n k s count : ℕ) (words₀ words : List ℕ) 
   pub span : ℕ
   pub slacks : (vs : Route) → leastSlack R (visit (R .sink) registerCode ∷ (made ++ vs)) ≡ leastFrom (at .slack) (slacksFrom R (placeIn span at) vs)
   pub before : ℕ
-  pub labels : Labelled R k before (labelsOf n words)
+  pub labels : Labelled R 0 k before (labelsFor n words)
   pub held : Held R n count words layers
   pub same : length words ≡ length words₀
   pub rest : KeptFrom (n * cellWords) words₀ words
 
 -- After `emit`: the first words are the best route's visits, two words each, if there is room; z is its smallest spare figure.
 pub record Emitted (R : Rules) (n steps : ℕ) (words₀ words : List ℕ) (visits₀ visits : List ℕ) (z : ℤ) : Type 0 where
-  pub slack : (r : Route) → IsBest R r → z ≡ leastSlack R r
+  pub slack : (r : Route) → IsBest registers R r → z ≡ leastSlack R r
   pub kept : length visits ≡ length visits₀
-  pub filled : 2 * (steps + 1) ≤ length visits₀ → (r : Route) → IsBest R r → Filled (λ i. getD (written r) i 0) 0 (2 * (steps + 1)) visits₀ visits
+  pub filled : 2 * (steps + 1) ≤ length visits₀ → (r : Route) → IsBest registers R r → Filled (λ i. getD (written r) i 0) 0 (2 * (steps + 1)) visits₀ visits
   pub same : length words ≡ length words₀
   pub rest : KeptFrom (n * cellWords) words₀ words
 
 -- Before `emit`: the search has found these figures, and the visits have room, or no words are lent.
-pub record EmitAsks (p : Problem) (marks costs : List ℕ) (count registers steps : ℕ) (words visits : List ℕ) : Type 0 where
+pub record EmitAsks (p : Problem) (marks costs : List ℕ) (count weight steps : ℕ) (words visits : List ℕ) : Type 0 where
   pub ready : Ready p marks
   pub costed : CostsOf (p .elements) costs
   pub room : Room (length marks) words
-  pub reaching : Reaching (rulesFor p marks) (length marks) words registers steps count
+  pub reaching : Reaching (rulesFor p marks) (length marks) words weight steps count
   pub fits : RoomOrNone (2 * (steps + 1)) (length visits)

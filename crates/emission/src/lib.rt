@@ -24,18 +24,18 @@ fn put_visit(visits: &mut [u16], i: usize, cell: usize, code: u16)
     }
 }
 
-// The route of these registers and steps: cell and code of each visit, two words each, or nothing where no words are lent. Answers its smallest spare figure.
+// The route of these figures, the weight to go after the first span and the steps: cell and code of each visit, two words each, or nothing where no words are lent. Answers its smallest spare figure.
 pub fn emit(
     plan: &[u8],
     scratch: &mut [u16],
     p: Problem,
     costs: &[u16; COSTS],
     count: usize,
-    registers: u16,
+    weight: u32,
     steps: u32,
     visits: &mut [u16],
 ) -> i32
-    requires { ⌜ EmitAsks p (now plan) (now costs) count registers steps (now scratch) (now visits) ⌝ }
+    requires { ⌜ EmitAsks p (now plan) (now costs) count weight steps (now scratch) (now visits) ⌝ }
     ensures { λ r. ⌜ Emitted (rulesFor p (now (plan .entry))) (length (now (plan .entry))) steps (now (scratch .entry)) (now (scratch .exit)) (now (visits .entry)) (now (visits .exit)) r ⌝ }
 {
     let elements = p.elements;
@@ -48,7 +48,7 @@ pub fn emit(
         cell: sink,
         load: load,
         delay: delay,
-        registers: registers,
+        weight: weight,
         steps: steps,
         slack: SLACK_MOST,
     };
@@ -62,7 +62,7 @@ pub fn emit(
             costs,
             count,
             at.cell,
-            at.registers,
+            at.weight,
             at.steps - 1,
             layers,
         );

@@ -7,10 +7,12 @@ use mathlib.Core.List.{List}
 use native.Mathlib.Omega.{arith}
 use lib.Dec.{T, T-not}
 use lib.ListN.{getD}
-use Rattle.rules.specs.Rules.{Rules, registerCode}
+use Rattle.rules.specs.Rules.{Rules, registerCode, sideAfter}
 use Rattle.rules.specs.Legal.{mayStand}
 use Rattle.plan.proofs.Truth.{split, equal, decided}
-use Rattle.budget.specs.Done.{NotAfter}
+use Rattle.rules.proofs.View.{register-closing, side-same}
+use Rattle.budget.specs.Done.{Open, After}
+use Rattle.budget.specs.Table.{Represents}
 use Rattle.budget.specs.Search.{Relabelled}
 use Rattle.costs.specs.Costs.{rowWords}
 use Rattle.layout.specs.Layout.{activeAt}
@@ -18,25 +20,25 @@ use Rattle.lists.specs.Lists.{flagOf, ListedAt, Listed}
 use Rattle.lists.proofs.Lists.{bit-cases}
 use Rattle.table.specs.Problem.{budgetOf}
 use Rattle.table.proofs.Views.{inside, budget-outside, budget-kept}
-use Rattle.labels.specs.Labels.{knownOf, registersOf, stepsOf, labelsOf, orderOf, Ordered, SameLabel, LabelAdded}
+use Rattle.labels.specs.Labels.{knownOf, weightOf, stepsOf, labelsOf, orderOf, LabelBy, Ordered, SameLabel, LabelAdded}
 use Rattle.labels.specs.Additions.{LabelsAddedAmong, LabelsAdded}
 use Rattle.labels.proofs.Labels.{known-below, unknown-not, added-stays, added-known}
 
 -- after `label`: the other labels stay, and no other cell has a new one
-module _ {n cell registers steps count : ℕ} {old new : List ℕ} (unlabelled : knownOf n old cell ≡ false) (a : LabelAdded n cell registers steps count old new) where
-  other : (c : ℕ) → T (knownOf n old c) → SameLabel n old new c
-  other c t = a .others c (known-below n old c t) (λ e. unknown-not (ap (knownOf n old) e ∙ unlabelled) t)
+module _ {n set cell weight steps count : ℕ} {old new : List ℕ} (unlabelled : knownOf n set old cell ≡ false) (a : LabelAdded n set cell weight steps count old new) where
+  other : (c : ℕ) → T (knownOf n set old c) → SameLabel n set old new c
+  other c t = a .others c (known-below n set old c t) (λ e. unknown-not (ap (knownOf n set old) e ∙ unlabelled) t)
 
-  which : (c : ℕ) → T (knownOf n new c) → (T (knownOf n old c) → ⊥) → c ≡ cell
+  which : (c : ℕ) → T (knownOf n set new c) → (T (knownOf n set old c) → ⊥) → c ≡ cell
   which c t f = go (equal c cell)
     where
       go : (c ≡ cell) ⊎ (c ≡ cell → ⊥) → c ≡ cell
       go (inl e) = e
       go (inr e) = absurd (f (added-known a c t e))
 
-module _ {R : Rules} {n registers steps : ℕ} where
+module _ {R : Rules} {n set weight steps : ℕ} where
   -- no label, where each tried cell has one or may have none
-  pub labels-none : (tried : ℕ → Type 0) (words : List ℕ) (count : ℕ) → Ordered n words count → ((c : ℕ) → tried c → T (mayStand R c registerCode) → R .fresh .delay < budgetOf n words c (R .fresh .load) → T (knownOf n words c)) → LabelsAddedAmong R n tried registers steps words words count count
+  pub labels-none : (tried : ℕ → Type 0) (words : List ℕ) (count : ℕ) → Ordered n set words count → ((c : ℕ) → tried c → T (mayStand R c registerCode) → R .fresh registerCode .delay < budgetOf n words c (R .fresh registerCode .load) → T (knownOf n set words c)) → LabelsAddedAmong R n set tried weight steps words words count count
   labels-none tried words count o every =
       record {
         same = refl;
@@ -52,7 +54,7 @@ module _ {R : Rules} {n registers steps : ℕ} where
       }
 
   -- one label
-  pub labels-one : {cell count : ℕ} {old new : List ℕ} → knownOf n old cell ≡ false → T (mayStand R cell registerCode) → R .fresh .delay < budgetOf n old cell (R .fresh .load) → LabelAdded n cell registers steps count old new → LabelsAddedAmong R n (λ c. c ≡ cell) registers steps old new count (count + 1)
+  pub labels-one : {cell count : ℕ} {old new : List ℕ} → knownOf n set old cell ≡ false → T (mayStand R cell registerCode) → R .fresh registerCode .delay < budgetOf n old cell (R .fresh registerCode .load) → LabelAdded n set cell weight steps count old new → LabelsAddedAmong R n set (λ c. c ≡ cell) weight steps old new count (count + 1)
   labels-one {cell} {count} {old} {new} u stands inTable a =
       record {
         same = a .same;
@@ -64,35 +66,35 @@ module _ {R : Rules} {n registers steps : ℕ} where
         fresh =
             λ i h k.
             let q : i ≡ count = omega arith in
-            let e : orderOf n new i ≡ cell = rw q (a .last) in
-            rw e (a .registersSet, a .stepsSet);
-        kept = λ c t. (added-stays a c t, (other u a c t .registers, other u a c t .steps));
-        added = λ c t f. rw (which u a c t f) (stands, (inTable, (a .registersSet, a .stepsSet)));
+            let e : orderOf n set new i ≡ cell = rw q (a .last) in
+            rw e (a .weightSet, a .stepsSet);
+        kept = λ c t. (added-stays a c t, (other u a c t .weight, other u a c t .steps));
+        added = λ c t f. rw (which u a c t f) (stands, (inTable, (a .weightSet, a .stepsSet)));
         every = λ c h e s b. rw e (a .known);
       }
 
   -- more labels after labels
-  module _ {A B : ℕ → Type 0} {old mid new : List ℕ} {count middle next : ℕ} (a : LabelsAddedAmong R n A registers steps old mid count middle) (b : LabelsAddedAmong R n B registers steps mid new middle next) where
+  module _ {A B : ℕ → Type 0} {old mid new : List ℕ} {count middle next : ℕ} (a : LabelsAddedAmong R n set A weight steps old mid count middle) (b : LabelsAddedAmong R n set B weight steps mid new middle next) (past : n * rowWords ≤ set) where
     same-budget : (c l : ℕ) → budgetOf n mid c l ≡ budgetOf n old c l
     same-budget = budget-kept n old mid (λ k h j. a .low k (omega arith))
 
-    both-added : (c : ℕ) → T (knownOf n new c) → (T (knownOf n old c) → ⊥) → T (knownOf n mid c) ⊎ T (not (knownOf n mid c)) → T (mayStand R c registerCode) × ((R .fresh .delay < budgetOf n old c (R .fresh .load)) × ((registersOf n new c ≡ registers) × (stepsOf n new c ≡ steps)))
+    both-added : (c : ℕ) → T (knownOf n set new c) → (T (knownOf n set old c) → ⊥) → T (knownOf n set mid c) ⊎ T (not (knownOf n set mid c)) → T (mayStand R c registerCode) × ((R .fresh registerCode .delay < budgetOf n old c (R .fresh registerCode .load)) × ((weightOf n set new c ≡ weight) × (stepsOf n set new c ≡ steps)))
     both-added c t f (inl k) =
         let d = a .added c k f in
         let e = b .kept c k in
         (d .0, (d .1 .0, (e .1 .0 ∙ d .1 .1 .0, e .1 .1 ∙ d .1 .1 .1)))
     both-added c t f (inr k) =
-        let d = b .added c t (T-not (knownOf n mid c) k) in
-        (d .0, (omega (arith, same-budget c (R .fresh .load), d .1 .0), d .1 .1))
+        let d = b .added c t (T-not (knownOf n set mid c) k) in
+        (d .0, (omega (arith, same-budget c (R .fresh registerCode .load), d .1 .0), d .1 .1))
 
-    both-fresh : (i : ℕ) → count ≤ i → i < next → (middle ≤ i) ⊎ (i < middle) → (registersOf n new (orderOf n new i) ≡ registers) × (stepsOf n new (orderOf n new i) ≡ steps)
+    both-fresh : (i : ℕ) → count ≤ i → i < next → (middle ≤ i) ⊎ (i < middle) → (weightOf n set new (orderOf n set new i) ≡ weight) × (stepsOf n set new (orderOf n set new i) ≡ steps)
     both-fresh i h k (inl q) = b .fresh i q k
     both-fresh i h k (inr q) =
         let d = a .fresh i h q in
-        let e = b .kept (orderOf n mid i) (a .ordered .known i q) in
+        let e = b .kept (orderOf n set mid i) (a .ordered .known i q) in
         rw (b .earlier i q) (e .1 .0 ∙ d .0, e .1 .1 ∙ d .1)
 
-    pub labels-join : (C : ℕ → Type 0) → ((c : ℕ) → C c → A c ⊎ B c) → LabelsAddedAmong R n C registers steps old new count next
+    pub labels-join : (C : ℕ → Type 0) → ((c : ℕ) → C c → A c ⊎ B c) → LabelsAddedAmong R n set C weight steps old new count next
     labels-join C cases =
         record {
           same = b .same ∙ a .same;
@@ -107,16 +109,16 @@ module _ {R : Rules} {n registers steps : ℕ} where
               let d = a .kept c t in
               let e = b .kept c (d .0) in
               (e .0, (e .1 .0 ∙ d .1 .0, e .1 .1 ∙ d .1 .1));
-          added = λ c t f. both-added c t f (decided (knownOf n mid c));
+          added = λ c t f. both-added c t f (decided (knownOf n set mid c));
           every = λ c h t s f. some c h s f (cases c t);
         }
       where
-        some : (c : ℕ) → c < n → T (mayStand R c registerCode) → R .fresh .delay < budgetOf n old c (R .fresh .load) → A c ⊎ B c → T (knownOf n new c)
+        some : (c : ℕ) → c < n → T (mayStand R c registerCode) → R .fresh registerCode .delay < budgetOf n old c (R .fresh registerCode .load) → A c ⊎ B c → T (knownOf n set new c)
         some c h s f (inl t) = b .kept c (a .every c h t s f) .0
-        some c h s f (inr t) = b .every c h t s (omega (arith, same-budget c (R .fresh .load)))
+        some c h s f (inr t) = b .every c h t s (omega (arith, same-budget c (R .fresh registerCode .load)))
 
-  module _ {A : ℕ → Type 0} {old new : List ℕ} {count next : ℕ} (a : LabelsAddedAmong R n A registers steps old new count next) where
-    pub labels-among : (B : ℕ → Type 0) → ((c : ℕ) → c < n → B c → A c) → LabelsAddedAmong R n B registers steps old new count next
+  module _ {A : ℕ → Type 0} {old new : List ℕ} {count next : ℕ} (a : LabelsAddedAmong R n set A weight steps old new count next) where
+    pub labels-among : (B : ℕ → Type 0) → ((c : ℕ) → c < n → B c → A c) → LabelsAddedAmong R n set B weight steps old new count next
     labels-among B f =
         record {
           same = a .same;
@@ -132,31 +134,50 @@ module _ {R : Rules} {n registers steps : ℕ} where
         }
 
     -- no label is after the new ones
-    pub labels-last : ((c : ℕ) → T (knownOf n old c) → NotAfter (registersOf n old c) (stepsOf n old c) registers steps) → (c : ℕ) → T (knownOf n new c) → NotAfter (registersOf n new c) (stepsOf n new c) registers steps
-    labels-last l c t = go (decided (knownOf n old c))
+    pub labels-last : ((c : ℕ) → T (knownOf n set old c) → LabelBy n set old weight steps c) → (c : ℕ) → T (knownOf n set new c) → LabelBy n set new weight steps c
+    labels-last l c t = go (decided (knownOf n set old c))
       where
-        go : T (knownOf n old c) ⊎ T (not (knownOf n old c)) → NotAfter (registersOf n new c) (stepsOf n new c) registers steps
+        go : T (knownOf n set old c) ⊎ T (not (knownOf n set old c)) → LabelBy n set new weight steps c
         go (inl k) = let e = a .kept c k in rw (e .1 .0, e .1 .1) (l c k)
-        go (inr k) = let d = a .added c t (T-not (knownOf n old c) k) in rw (d .1 .1 .0, d .1 .1 .1) (inr (refl, omega arith))
+        go (inr k) = let d = a .added c t (T-not (knownOf n set old c) k) in rw (d .1 .1 .0, d .1 .1 .1) (inr (refl, omega arith))
 
 -- the loop: after the first i cells of the list, one more
-module _ {R : Rules} {n registers steps : ℕ} {old mid new : List ℕ} {i count middle next cell : ℕ} where
-  pub labels-more : LabelsAddedAmong R n (ListedAt n old (n * activeAt) i) registers steps old mid count middle → getD mid (n * activeAt + i) 0 ≡ cell → LabelsAddedAmong R n (λ c. c ≡ cell) registers steps mid new middle next → LabelsAddedAmong R n (ListedAt n old (n * activeAt) (i + 1)) registers steps old new count next
-  labels-more a e b = labels-join a b (ListedAt n old (n * activeAt) (i + 1)) (λ c p. go c p (equal (p .at) i))
+module _ {R : Rules} {n set weight steps : ℕ} {old mid new : List ℕ} {i count middle next cell : ℕ} where
+  pub labels-more : n * rowWords ≤ set → getD mid (n * activeAt + i) 0 ≡ getD old (n * activeAt + i) 0 → LabelsAddedAmong R n set (ListedAt n old (n * activeAt) i) weight steps old mid count middle → getD mid (n * activeAt + i) 0 ≡ cell → LabelsAddedAmong R n set (λ c. c ≡ cell) weight steps mid new middle next → LabelsAddedAmong R n set (ListedAt n old (n * activeAt) (i + 1)) weight steps old new count next
+  labels-more past same a e b = labels-join a b past (ListedAt n old (n * activeAt) (i + 1)) (λ c p. go c p (equal (p .at) i))
     where
       go : (c : ℕ) → (p : ListedAt n old (n * activeAt) (i + 1) c) → (p .at ≡ i) ⊎ (p .at ≡ i → ⊥) → ListedAt n old (n * activeAt) i c ⊎ (c ≡ cell)
-      go c p (inl q) = inr (sym (p .holds) ∙ ap (λ (j : ℕ). getD old (n * activeAt + j) 0) q ∙ sym (a .high (n * activeAt + i) (omega arith)) ∙ e)
+      go c p (inl q) = inr (sym (p .holds) ∙ ap (λ (j : ℕ). getD old (n * activeAt + j) 0) q ∙ sym same ∙ e)
       go c p (inr q) = inl (record { at = p .at; below = omega (arith, p .below); holds = p .holds })
 
--- The search's view, where a cell that is not listed has its label already.
-pub labels-relabelled : {R : Rules} {n registers steps active : ℕ} {old new : List ℕ} {count next : ℕ} → Listed n old (n * activeAt) active → LabelsAdded R n registers steps old new count next → ((c : ℕ) → c < n → flagOf n old c ≡ 0 → T (mayStand R c registerCode) → R .fresh .delay < budgetOf n old c (R .fresh .load) → T (knownOf n old c)) → Relabelled R registers steps (budgetOf n old) (labelsOf n old) (labelsOf n new)
-labels-relabelled {R} {n} {registers} {steps} {active} {old} {new} l a quiet =
-    record { kept = a .kept; added = a .added; every = λ c s f. go c s f (inside n c (R .fresh .load)) }
-  where
-    listed : (c : ℕ) → c < n → T (mayStand R c registerCode) → R .fresh .delay < budgetOf n old c (R .fresh .load) → (flagOf n old c ≡ 0) ⊎ (flagOf n old c ≡ 1) → T (knownOf n new c)
-    listed c h s f (inl z) = a .kept c (quiet c h z s f) .0
-    listed c h s f (inr o) = a .every c h o s f
+-- The search's view, where a cell that is not listed has its label already: the table has what is done within weight k after the span and these steps.
+module _ {R : Rules} (f k : ℕ) {n set steps active : ℕ} {old new : List ℕ} {count next : ℕ} (list : Listed n old (n * activeAt) active) (a : LabelsAdded R n set (R .weight f + k) steps old new count next) (table : Represents (budgetOf n old) (Open R f k steps)) where
+  abbrev freshIn : ℕ → Type 0
+  freshIn c = R .fresh registerCode .delay < budgetOf n old c (R .fresh registerCode .load)
 
-    go : (c : ℕ) → T (mayStand R c registerCode) → R .fresh .delay < budgetOf n old c (R .fresh .load) → ((c < n) × (R .fresh .load < rowWords)) ⊎ (c < n → R .fresh .load < rowWords → ⊥) → T (knownOf n new c)
-    go c s f (inl h) = listed c (h .0) s f (bit-cases (flagOf n old c) (l .bits c (h .0)))
-    go c s f (inr h) = absurd (omega (arith, budget-outside n old c (R .fresh .load) h))
+  -- a register leaves the side as it is
+  same-side : sideAfter f registerCode ≡ f
+  same-side = side-same f registerCode (λ z. omega arith)
+
+  pub labels-relabelled : ((c : ℕ) → c < n → flagOf n old c ≡ 0 → T (mayStand R c registerCode) → freshIn c → T (knownOf n set old c)) → (f ≡ R .fifos → T (knownOf n set old (R .source))) → Relabelled (After R f registerCode) (R .weight f + k) steps (labelsOf n set old) (labelsOf n set new)
+  labels-relabelled quiet source =
+      record {
+        kept = a .kept;
+        added =
+            λ c t u.
+            let d = a .added c t u in
+            (After.atGate (register-closing registerCode refl) (d .0) (rw same-side (table .sound c _ _ (d .1 .0))), d .1 .1);
+        every = λ c q. go c q;
+      }
+    where
+      listed : (c : ℕ) → c < n → T (mayStand R c registerCode) → freshIn c → (flagOf n old c ≡ 0) ⊎ (flagOf n old c ≡ 1) → T (knownOf n set new c)
+      listed c h s t (inl z) = a .kept c (quiet c h z s t) .0
+      listed c h s t (inr o) = a .every c h o s t
+
+      inPlan : (c : ℕ) → T (mayStand R c registerCode) → freshIn c → ((c < n) × (R .fresh registerCode .load < rowWords)) ⊎ (c < n → R .fresh registerCode .load < rowWords → ⊥) → T (knownOf n set new c)
+      inPlan c s t (inl h) = listed c (h .0) s t (bit-cases (flagOf n old c) (list .bits c (h .0)))
+      inPlan c s t (inr h) = absurd (omega (arith, budget-outside n old c (R .fresh registerCode .load) h))
+
+      go : (c : ℕ) → After R f registerCode (R .weight f + k) steps c → T (knownOf n set new c)
+      go c (After.atSource q r z) = rw z (a .kept (R .source) (source r) .0)
+      go c (After.atGate shut may x) = inPlan c may (table .complete c _ _ (rw same-side at x)) (inside n c (R .fresh registerCode .load))

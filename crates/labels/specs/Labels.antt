@@ -1,72 +1,121 @@
 -- The labels in the scratch words of n cells, and what the functions on them leave.
-use Prim.Native.Nat.{ℕ, _+_, _-_, _*_, _≤_, _<_}
+use Prim.Native.Nat.{ℕ, suc, _+_, _-_, _*_, _≤_, _<_}
 use mathlib.Core.Path.{_≡_}
-use mathlib.Core.Bool.{Bool, false, _&&_, not, cond}
+use mathlib.Core.Bool.{Bool, true, false, _&&_, not, cond}
+use mathlib.Core.Logic.{_⊎_}
 use mathlib.Core.List.{List}
 use lib.Dec.{T, eqb, ltb}
 use lib.ListN.{length, getD}
 use Rattle.budget.specs.Done.{Labels, NotAfter}
-use Rattle.layout.specs.Layout.{labelsAt, stepsLowAt, stepsHighAt, orderAt, activeAt, nextAt, listedAt, trailAt}
+use Rattle.rules.specs.Rules.{registerCode}
+use Rattle.layout.specs.Layout.{labelsAt, weightHigh, stepsLow, stepsHigh, orderIn, labelWords, activeAt, nextAt, listedAt, trailAt}
+use Rattle.costs.specs.Costs.{rowWords}
 use Rattle.lists.specs.Lists.{sumBelow, flagOf, ListedAt, Listed}
 use Rattle.table.specs.Problem.{seedWord}
 
-unfoldable pub knownOf : ℕ → List ℕ → ℕ → Bool
-knownOf n words c = ltb c n && not (eqb (getD words (n * labelsAt + c) 0) 0)
+-- a number in two words, its low and its high 16 bits
+abbrev pub pairOf : List ℕ → ℕ → ℕ → ℕ
+pairOf words low high = getD words low 0 + getD words high 0 * 65536
 
-abbrev pub registersOf : ℕ → List ℕ → ℕ → ℕ
-registersOf n words c = getD words (n * labelsAt + c) 0 - 1
+-- A set of labels starts at the word `set`: one more than the weight to go, 0 for no label; the steps to go; the order.
 
-abbrev pub stepsOf : ℕ → List ℕ → ℕ → ℕ
-stepsOf n words c = getD words (n * stepsLowAt + c) 0 + getD words (n * stepsHighAt + c) 0 * 65536
+abbrev pub weightWord : ℕ → ℕ → List ℕ → ℕ → ℕ
+weightWord n set words c = pairOf words (set + c) (set + n * weightHigh + c)
 
-abbrev pub labelsOf : ℕ → List ℕ → Labels
-labelsOf n words = record { known = knownOf n words; registers = registersOf n words; steps = stepsOf n words }
+unfoldable pub knownOf : ℕ → ℕ → List ℕ → ℕ → Bool
+knownOf n set words c = ltb c n && not (eqb (weightWord n set words c) 0)
 
-abbrev pub orderOf : ℕ → List ℕ → ℕ → ℕ
-orderOf n words i = getD words (n * orderAt + i) 0
+abbrev pub weightOf : ℕ → ℕ → List ℕ → ℕ → ℕ
+weightOf n set words c = weightWord n set words c - 1
+
+abbrev pub stepsOf : ℕ → ℕ → List ℕ → ℕ → ℕ
+stepsOf n set words c = pairOf words (set + n * stepsLow + c) (set + n * stepsHigh + c)
+
+abbrev pub labelsOf : ℕ → ℕ → List ℕ → Labels
+labelsOf n set words = record { known = knownOf n set words; weight = weightOf n set words; steps = stepsOf n set words }
+
+abbrev pub orderOf : ℕ → ℕ → List ℕ → ℕ → ℕ
+orderOf n set words i = getD words (set + n * orderIn + i) 0
+
+-- the label of a cell is not after weight k and s steps, or is after them
+
+abbrev pub LabelBy : ℕ → ℕ → List ℕ → ℕ → ℕ → ℕ → Type 0
+LabelBy n set words k s c = NotAfter (weightOf n set words c) (stepsOf n set words c) k s
+
+abbrev pub LabelAfter : ℕ → ℕ → List ℕ → ℕ → ℕ → ℕ → Type 0
+LabelAfter n set words k s c = NotAfter k (suc s) (weightOf n set words c) (stepsOf n set words c)
+
+-- r says which
+pub record Compared (n set : ℕ) (words : List ℕ) (k s c : ℕ) (r : Bool) : Type 0 where
+  pub after : r ≡ true → LabelAfter n set words k s c
+  pub by : r ≡ false → LabelBy n set words k s c
+
+abbrev pub noLabels : Labels
+noLabels = record { known = λ c. false; weight = λ c. 0; steps = λ c. 0 }
+
+-- the labels by code: those of registers, with the source's; with one clock there are no others
+unfoldable pub labelsFor : ℕ → List ℕ → ℕ → Labels
+labelsFor n words code = cond {A = Labels} (eqb code registerCode) (labelsOf n (n * labelsAt) words) noLabels
+
+-- the set lies in the words
+pub record SetIn (n set : ℕ) (words : List ℕ) : Type 0 where
+  pub small : n ≤ 1024
+  -- 1,024 cells of 512 words
+  pub low : set ≤ 524288
+  pub room : set + n * labelWords ≤ length words
+
+-- it holds no word of the table, the lists and the flags
+pub record Apart (n set : ℕ) : Type 0 where
+  pub past : n * rowWords ≤ set
+  pub beside : (set + n * labelWords ≤ n * activeAt) ⊎ (n * trailAt ≤ set)
+
+-- After `put_pair`: the two words hold the number, and the others stay.
+pub record PairSet (low high number : ℕ) (old new : List ℕ) : Type 0 where
+  pub same : length new ≡ length old
+  pub holds : pairOf new low high ≡ number
+  pub others : (k : ℕ) → (k ≡ low → ⊥) → (k ≡ high → ⊥) → getD new k 0 ≡ getD old k 0
 
 -- 1 for a test that passes, 0 for one that fails
 abbrev pub one : Bool → ℕ
 one b = cond b 1 0
 
--- The order holds each labelled cell once, and no other, ascending by registers and then steps.
-pub record Ordered (n : ℕ) (words : List ℕ) (count : ℕ) : Type 0 where
-  pub cells : (i : ℕ) → i < count → orderOf n words i < n
-  pub known : (i : ℕ) → i < count → T (knownOf n words (orderOf n words i))
-  pub covered : (c : ℕ) → T (knownOf n words c) → ListedAt n words (n * orderAt) count c
-  pub counted : count ≡ sumBelow n (λ c. one (knownOf n words c))
+-- The order holds each labelled cell once, and no other, ascending by weight and then steps.
+pub record Ordered (n set : ℕ) (words : List ℕ) (count : ℕ) : Type 0 where
+  pub cells : (i : ℕ) → i < count → orderOf n set words i < n
+  pub known : (i : ℕ) → i < count → T (knownOf n set words (orderOf n set words i))
+  pub covered : (c : ℕ) → T (knownOf n set words c) → ListedAt n words (set + n * orderIn) count c
+  pub counted : count ≡ sumBelow n (λ c. one (knownOf n set words c))
   pub ascending :
       (i j : ℕ) → i ≤ j → j < count →
-      NotAfter (registersOf n words (orderOf n words i)) (stepsOf n words (orderOf n words i)) (registersOf n words (orderOf n words j)) (stepsOf n words (orderOf n words j))
+      NotAfter (weightOf n set words (orderOf n set words i)) (stepsOf n set words (orderOf n set words i)) (weightOf n set words (orderOf n set words j)) (stepsOf n set words (orderOf n set words j))
 
 -- the cell's label is the same
-pub record SameLabel (n : ℕ) (old new : List ℕ) (c : ℕ) : Type 0 where
-  pub known : knownOf n new c ≡ knownOf n old c
-  pub registers : registersOf n new c ≡ registersOf n old c
-  pub steps : stepsOf n new c ≡ stepsOf n old c
+pub record SameLabel (n set : ℕ) (old new : List ℕ) (c : ℕ) : Type 0 where
+  pub known : knownOf n set new c ≡ knownOf n set old c
+  pub weight : weightOf n set new c ≡ weightOf n set old c
+  pub steps : stepsOf n set new c ≡ stepsOf n set old c
 
 -- Before `label`: the cell has no label, and no label is after the new one.
-pub record Labelable (n cell registers steps count : ℕ) (words : List ℕ) : Type 0 where
-  pub ordered : Ordered n words count
+pub record Labelable (n set cell weight steps count : ℕ) (words : List ℕ) : Type 0 where
+  pub ordered : Ordered n set words count
   pub inPlan : cell < n
-  pub unlabelled : knownOf n words cell ≡ false
-  pub last : (c : ℕ) → T (knownOf n words c) → NotAfter (registersOf n words c) (stepsOf n words c) registers steps
-  pub few : registers < 65535
-  pub small : n ≤ 1024
-  pub room : n * trailAt ≤ length words
+  pub unlabelled : knownOf n set words cell ≡ false
+  pub last : (c : ℕ) → T (knownOf n set words c) → LabelBy n set words weight steps c
+  pub few : weight < 4294967295
+  pub setIn : SetIn n set words
 
 -- After `label`: the cell has this label and is the last of the order; the other labels, the order before it, and the words outside of both stay.
-pub record LabelAdded (n cell registers steps count : ℕ) (old new : List ℕ) : Type 0 where
+pub record LabelAdded (n set cell weight steps count : ℕ) (old new : List ℕ) : Type 0 where
   pub same : length new ≡ length old
-  pub ordered : Ordered n new (count + 1)
-  pub earlier : (i : ℕ) → i < count → orderOf n new i ≡ orderOf n old i
-  pub last : orderOf n new count ≡ cell
-  pub known : T (knownOf n new cell)
-  pub registersSet : registersOf n new cell ≡ registers
-  pub stepsSet : stepsOf n new cell ≡ steps
-  pub others : (c : ℕ) → c < n → (c ≡ cell → ⊥) → SameLabel n old new c
-  pub low : (k : ℕ) → k < n * labelsAt → getD new k 0 ≡ getD old k 0
-  pub high : (k : ℕ) → n * activeAt ≤ k → getD new k 0 ≡ getD old k 0
+  pub ordered : Ordered n set new (count + 1)
+  pub earlier : (i : ℕ) → i < count → orderOf n set new i ≡ orderOf n set old i
+  pub last : orderOf n set new count ≡ cell
+  pub known : T (knownOf n set new cell)
+  pub weightSet : weightOf n set new cell ≡ weight
+  pub stepsSet : stepsOf n set new cell ≡ steps
+  pub others : (c : ℕ) → c < n → (c ≡ cell → ⊥) → SameLabel n set old new c
+  pub low : (k : ℕ) → k < set → getD new k 0 ≡ getD old k 0
+  pub high : (k : ℕ) → set + n * labelWords ≤ k → getD new k 0 ≡ getD old k 0
 
 -- After `plant`: the cell is a seed and listed; the flags of other cells, and all words but those of the active list and the flags, stay.
 pub record Planted (n cell : ℕ) (old new : List ℕ) (active : ℕ) : Type 0 where
@@ -80,25 +129,35 @@ pub record Planted (n cell : ℕ) (old new : List ℕ) (active : ℕ) : Type 0 w
   pub middle : (k : ℕ) → n * nextAt ≤ k → k < n * listedAt → getD new k 0 ≡ getD old k 0
   pub high : (k : ℕ) → n * trailAt ≤ k → getD new k 0 ≡ getD old k 0
 
--- The labels of the order from `from` up to `to`, of at most these steps, have become seeds; `active` cells are listed.
-pub record Arrived (n from to steps : ℕ) (old new : List ℕ) (active : ℕ) : Type 0 where
+-- Before `arrive`: the places of the order from `at` up to `count` have labelled cells; the set holds none of the lists and flags.
+pub record ArriveAsks (n set at count active : ℕ) (words : List ℕ) : Type 0 where
+  pub listed : Listed n words (n * activeAt) active
+  pub start : at ≤ count
+  pub short : count ≤ n
+  pub known : (i : ℕ) → i < count → T (knownOf n set words (orderOf n set words i))
+  pub setIn : SetIn n set words
+  pub room : n * trailAt ≤ length words
+  pub apart : Apart n set
+
+-- The labels of the order from `from` up to `to`, none after weight k and s steps, have become seeds; `active` cells are listed.
+pub record Arrived (n set from to k s : ℕ) (old new : List ℕ) (active : ℕ) : Type 0 where
   pub same : length new ≡ length old
   pub forth : from ≤ to
-  pub inTime : (i : ℕ) → from ≤ i → i < to → stepsOf n old (orderOf n old i) ≤ steps
+  pub inTime : (i : ℕ) → from ≤ i → i < to → LabelBy n set old k s (orderOf n set old i)
   pub listed : Listed n new (n * activeAt) active
   pub someListed : from < to → 0 < active
-  pub seeds : (i : ℕ) → from ≤ i → i < to → seedWord n new (orderOf n old i) ≡ 1
+  pub seeds : (i : ℕ) → from ≤ i → i < to → seedWord n new (orderOf n set old i) ≡ 1
   pub seedsStay : (c : ℕ) → c < n → seedWord n old c ≡ 1 → seedWord n new c ≡ 1
-  pub otherSeeds : (c : ℕ) → c < n → ((i : ℕ) → from ≤ i → i < to → orderOf n old i ≡ c → ⊥) → seedWord n new c ≡ seedWord n old c
-  pub flags : (i : ℕ) → from ≤ i → i < to → flagOf n new (orderOf n old i) ≡ 1
+  pub otherSeeds : (c : ℕ) → c < n → ((i : ℕ) → from ≤ i → i < to → orderOf n set old i ≡ c → ⊥) → seedWord n new c ≡ seedWord n old c
+  pub flags : (i : ℕ) → from ≤ i → i < to → flagOf n new (orderOf n set old i) ≡ 1
   pub flagsStay : (c : ℕ) → c < n → flagOf n old c ≡ 1 → flagOf n new c ≡ 1
-  pub otherFlags : (c : ℕ) → c < n → ((i : ℕ) → from ≤ i → i < to → orderOf n old i ≡ c → ⊥) → flagOf n new c ≡ flagOf n old c
+  pub otherFlags : (c : ℕ) → c < n → ((i : ℕ) → from ≤ i → i < to → orderOf n set old i ≡ c → ⊥) → flagOf n new c ≡ flagOf n old c
   pub low : (k : ℕ) → k < n * activeAt → getD new k 0 ≡ getD old k 0
   pub middle : (k : ℕ) → n * nextAt ≤ k → k < n * listedAt → getD new k 0 ≡ getD old k 0
   pub high : (k : ℕ) → n * trailAt ≤ k → getD new k 0 ≡ getD old k 0
 
--- After `arrive`: it went up to `to`, the end or the first label of more steps.
-pub record ArrivedAll (n from end steps : ℕ) (old new : List ℕ) (to active : ℕ) : Type 0 where
-  pub within : to ≤ end
-  pub late : to < end → steps < stepsOf n old (orderOf n old to)
-  pub arrived : Arrived n from to steps old new active
+-- After `arrive`: it went up to `to`, the end of the order or the first label that is after them.
+pub record ArrivedAll (n set from count k s : ℕ) (old new : List ℕ) (to active : ℕ) : Type 0 where
+  pub within : to ≤ count
+  pub late : to < count → LabelAfter n set old k s (orderOf n set old to)
+  pub arrived : Arrived n set from to k s old new active

@@ -1,44 +1,106 @@
-// Labels: for a cell with a register, the least registers and steps to go. A label's word is registers plus one, 0 for none.
+// Labels: for a cell where a span may close, the least weight and steps to go after the close. A label's word is weight plus one, 0 for none.
 mod sites;
 
 pub use sites::fresh_in;
 pub use sites::label_active;
 pub use sites::may_register;
 ghost use mathlib.Core.Path.{_≡_};
-ghost use Prim.Native.Nat.{ℕ, _*_, _≤_, _<_};
+ghost use Prim.Native.Nat.{_+_, _*_, _≤_, _<_};
 ghost use lib.ListN.{length};
+ghost use lib.Dec.{T};
 ghost use Rattle.layout.specs.Layout.{activeAt, trailAt};
 ghost use Rattle.lists.specs.Lists.{Listed};
-ghost use Rattle.labels.specs.Labels.{labelsOf, orderOf, Labelable, LabelAdded, Planted, ArrivedAll};
+ghost use Rattle.labels.specs.Labels.{pairOf, weightWord, weightOf, stepsOf, knownOf, Compared, SetIn, PairSet, Labelable, LabelAdded, Planted, ArriveAsks, ArrivedAll};
 use layout::ACTIVE;
-use layout::LABELS;
 use layout::ORDER;
 use layout::SEEDS;
 use layout::STEPS_HIGH;
 use layout::STEPS_LOW;
+use layout::WEIGHT_HIGH;
 use lists::enlist;
 
-// The label's steps.
-pub fn steps_of(scratch: &[u16], n: usize, cell: usize) -> u32
-    requires { ⌜ (cell < n) × ((n ≤ 1024) × (n * trailAt ≤ length (now scratch))) ⌝ }
-    ensures { λ r. ⌜ r ≡ labelsOf n (now (scratch .entry)) .steps cell ⌝ }
+// The number in two words.
+fn pair(scratch: &[u16], low: usize, high: usize) -> u32
+    requires { ⌜ (low < length (now scratch)) × (high < length (now scratch)) ⌝ }
+    ensures { λ r. ⌜ r ≡ pairOf (now (scratch .entry)) low high ⌝ }
 {
-    scratch[n * STEPS_LOW + cell] as u32 + scratch[n * STEPS_HIGH + cell] as u32 * 65536
+    scratch[low] as u32 + scratch[high] as u32 * 65536
+}
+
+// One more than the label's weight; 0 for no label.
+pub fn weight_word(scratch: &[u16], n: usize, set: usize, cell: usize) -> u32
+    requires { ⌜ SetIn n set (now scratch) × (cell < n) ⌝ }
+    ensures { λ r. ⌜ r ≡ weightWord n set (now (scratch .entry)) cell ⌝ }
+{
+    pair(scratch, set + cell, set + n * WEIGHT_HIGH + cell)
+}
+
+// The label's steps.
+pub fn steps_of(scratch: &[u16], n: usize, set: usize, cell: usize) -> u32
+    requires { ⌜ SetIn n set (now scratch) × (cell < n) ⌝ }
+    ensures { λ r. ⌜ r ≡ stepsOf n set (now (scratch .entry)) cell ⌝ }
+{
+    pair(
+        scratch,
+        set + n * STEPS_LOW + cell,
+        set + n * STEPS_HIGH + cell,
+    )
+}
+
+// The cell's label is after this weight and these steps.
+pub fn is_after(scratch: &[u16], n: usize, set: usize, cell: usize, weight: u32, steps: u32) -> bool
+    requires { ⌜ SetIn n set (now scratch) × T (knownOf n set (now scratch) cell) ⌝ }
+    ensures { λ r. ⌜ Compared n set (now (scratch .entry)) weight steps cell r ⌝ }
+{
+    let word = weight_word(scratch, n, set, cell);
+    if word <= weight {
+        return false;
+    }
+    if word - 1 == weight {
+        return steps < steps_of(scratch, n, set, cell);
+    }
+    true
+}
+
+// The number is put into the two words.
+fn put_pair(scratch: &mut [u16], low: usize, high: usize, number: u32)
+    requires { ⌜ (low < high) × (high < length (now scratch)) ⌝ }
+    ensures { λ _. ⌜ PairSet low high number (now (scratch .entry)) (now (scratch .exit)) ⌝ }
+{
+    scratch[low] = (number % 65536) as u16;
+    scratch[high] = (number / 65536) as u16;
 }
 
 // The cell is labelled, and joins the order of `count` labels.
-pub fn label(scratch: &mut [u16], n: usize, cell: usize, registers: u16, steps: u32, count: usize)
-    requires { ⌜ Labelable n cell registers steps count (now scratch) ⌝ }
-    ensures { λ _. ⌜ LabelAdded n cell registers steps count (now (scratch .entry)) (now (scratch .exit)) ⌝ }
+pub fn label(
+    scratch: &mut [u16],
+    n: usize,
+    set: usize,
+    cell: usize,
+    weight: u32,
+    steps: u32,
+    count: usize,
+)
+    requires { ⌜ Labelable n set cell weight steps count (now scratch) ⌝ }
+    ensures { λ _. ⌜ LabelAdded n set cell weight steps count (now (scratch .entry)) (now (scratch .exit)) ⌝ }
 {
-    scratch[n * LABELS + cell] = registers + 1;
-    scratch[n * STEPS_LOW + cell] = (steps % 65536) as u16;
-    scratch[n * STEPS_HIGH + cell] = (steps / 65536) as u16;
-    scratch[n * ORDER + count] = cell as u16;
+    put_pair(
+        scratch,
+        set + cell,
+        set + n * WEIGHT_HIGH + cell,
+        weight + 1,
+    );
+    put_pair(
+        scratch,
+        set + n * STEPS_LOW + cell,
+        set + n * STEPS_HIGH + cell,
+        steps,
+    );
+    scratch[set + n * ORDER + count] = cell as u16;
 }
 
 // The cell becomes a seed and joins the active list. The list's new count.
-pub fn plant(scratch: &mut [u16], n: usize, cell: usize, active: usize) -> usize
+fn plant(scratch: &mut [u16], n: usize, cell: usize, active: usize) -> usize
     requires { ⌜ Listed n (now scratch) (n * activeAt) active × ((cell < n) × ((n ≤ 1024) × (n * trailAt ≤ length (now scratch)))) ⌝ }
     ensures { λ r. ⌜ Planted n cell (now (scratch .entry)) (now (scratch .exit)) r ⌝ }
 {
@@ -51,23 +113,25 @@ pub struct Arrivals {
     pub active: usize,
 }
 
-// The labels of the order from `at` up to `end` become seeds, as long as they have at most these steps.
+// The labels of the order from `at` on, of `count` in all, become seeds as long as they are not after this weight and these steps.
 pub fn arrive(
     scratch: &mut [u16],
     n: usize,
+    set: usize,
     at: usize,
-    end: usize,
+    count: usize,
+    weight: u32,
     steps: u32,
     active: usize,
 ) -> Arrivals
-    requires { ⌜ Listed n (now scratch) (n * activeAt) active × ((at ≤ end) × ((end ≤ n) × (((i : ℕ) → i < end → orderOf n (now scratch) i < n) × ((n ≤ 1024) × (n * trailAt ≤ length (now scratch)))))) ⌝ }
-    ensures { λ r. ⌜ ArrivedAll n at end steps (now (scratch .entry)) (now (scratch .exit)) (r .at) (r .active) ⌝ }
+    requires { ⌜ ArriveAsks n set at count active (now scratch) ⌝ }
+    ensures { λ r. ⌜ ArrivedAll n set at count weight steps (now (scratch .entry)) (now (scratch .exit)) (r .at) (r .active) ⌝ }
 {
     let mut i = at;
     let mut listed = active;
-    while i < end {
-        let cell = scratch[n * ORDER + i] as usize;
-        if steps < steps_of(scratch, n, cell) {
+    while i < count {
+        let cell = scratch[set + n * ORDER + i] as usize;
+        if is_after(scratch, n, set, cell, weight, steps) {
             return Arrivals {
                 at: i,
                 active: listed,

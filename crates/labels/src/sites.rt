@@ -11,8 +11,8 @@ ghost use Rattle.lists.specs.Lists.{Listed};
 ghost use Rattle.table.specs.Problem.{Ready, rulesFor};
 ghost use Rattle.labels.specs.Additions.{FreshIn, LabelAsks, LabelsAddedAmong, LabelsAdded};
 use crate::label;
+use crate::weight_word;
 use layout::ACTIVE;
-use layout::LABELS;
 use plan::is_tap;
 use problem::Problem;
 use rows::view;
@@ -48,16 +48,17 @@ fn label_cell(
     plan: &[u8],
     scratch: &mut [u16],
     p: Problem,
+    set: usize,
     cell: usize,
-    registers: u16,
+    weight: u32,
     steps: u32,
     count: usize,
 ) -> usize
-    requires { ⌜ LabelAsks p (now plan) registers steps count (now scratch) × (cell < length (now plan)) ⌝ }
-    ensures { λ r. ⌜ LabelsAddedAmong (rulesFor p (now (plan .entry))) (length (now (plan .entry))) (λ c. c ≡ cell) registers steps (now (scratch .entry)) (now (scratch .exit)) count r ⌝ }
+    requires { ⌜ LabelAsks p (now plan) set weight steps count (now scratch) × (cell < length (now plan)) ⌝ }
+    ensures { λ r. ⌜ LabelsAddedAmong (rulesFor p (now (plan .entry))) (length (now (plan .entry))) set (λ c. c ≡ cell) weight steps (now (scratch .entry)) (now (scratch .exit)) count r ⌝ }
 {
     let n = plan.len();
-    if 0 < scratch[n * LABELS + cell] {
+    if 0 < weight_word(scratch, n, set, cell) {
         return count;
     }
     if !fresh_in(scratch, p, cell) {
@@ -66,7 +67,7 @@ fn label_cell(
     if !may_register(plan, p, cell) {
         return count;
     }
-    label(scratch, n, cell, registers, steps, count);
+    label(scratch, n, set, cell, weight, steps, count);
     count + 1
 }
 
@@ -75,20 +76,21 @@ pub fn label_active(
     plan: &[u8],
     scratch: &mut [u16],
     p: Problem,
+    set: usize,
     active: usize,
-    registers: u16,
+    weight: u32,
     steps: u32,
     count: usize,
 ) -> usize
-    requires { ⌜ LabelAsks p (now plan) registers steps count (now scratch) × Listed (length (now plan)) (now scratch) (length (now plan) * activeAt) active ⌝ }
-    ensures { λ r. ⌜ LabelsAdded (rulesFor p (now (plan .entry))) (length (now (plan .entry))) registers steps (now (scratch .entry)) (now (scratch .exit)) count r ⌝ }
+    requires { ⌜ LabelAsks p (now plan) set weight steps count (now scratch) × Listed (length (now plan)) (now scratch) (length (now plan) * activeAt) active ⌝ }
+    ensures { λ r. ⌜ LabelsAdded (rulesFor p (now (plan .entry))) (length (now (plan .entry))) set weight steps (now (scratch .entry)) (now (scratch .exit)) count r ⌝ }
 {
     let n = plan.len();
     let mut known = count;
     let mut i = 0;
     while i < active {
         let cell = scratch[n * ACTIVE + i] as usize;
-        known = label_cell(plan, scratch, p, cell, registers, steps, known);
+        known = label_cell(plan, scratch, p, set, cell, weight, steps, known);
         i += 1;
     }
     known

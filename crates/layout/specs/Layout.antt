@@ -6,41 +6,53 @@ use Prim.Native.Nat.{ℕ}
 abbrev pub arrivalAt : ℕ
 arrivalAt = 64
 
--- labels: registers to go plus one, 0 for no label
+-- the labels of registers, with the source's: a set of labels, `labelWords` words a cell
 abbrev pub labelsAt : ℕ
 labelsAt = 128
 
--- labels: steps to go, the low 16 bits
-abbrev pub stepsLowAt : ℕ
-stepsLowAt = 129
+-- in a set of labels: weight to go plus one, 0 for no label, the low 16 bits
+abbrev pub weightLow : ℕ
+weightLow = 0
 
--- labels: steps to go, the high 16 bits
-abbrev pub stepsHighAt : ℕ
-stepsHighAt = 130
+-- in a set of labels: weight to go plus one, the high 16 bits
+abbrev pub weightHigh : ℕ
+weightHigh = 1
 
--- the labelled cells in the order of their labels
-abbrev pub orderAt : ℕ
-orderAt = 131
+-- in a set of labels: steps to go, the low 16 bits
+abbrev pub stepsLow : ℕ
+stepsLow = 2
+
+-- in a set of labels: steps to go, the high 16 bits
+abbrev pub stepsHigh : ℕ
+stepsHigh = 3
+
+-- in a set of labels: the labelled cells in the order of their labels
+abbrev pub orderIn : ℕ
+orderIn = 4
+
+-- words a cell of a set of labels
+abbrev pub labelWords : ℕ
+labelWords = 5
 
 -- the active list
 abbrev pub activeAt : ℕ
-activeAt = 132
+activeAt = 133
 
 -- the next list
 abbrev pub nextAt : ℕ
-nextAt = 133
+nextAt = 134
 
 -- a flag a cell: 1 if it is listed
 abbrev pub listedAt : ℕ
-listedAt = 134
+listedAt = 135
 
--- a flag a cell: 1 if it is a seed
+-- a mark a cell: 1 if a span may close there at a register, or at the source
 abbrev pub seedsAt : ℕ
-seedsAt = 135
+seedsAt = 136
 
 -- the undo trail's far stretch; its near one follows the arrival row
 abbrev pub trailAt : ℕ
-trailAt = 136
+trailAt = 137
 
 -- all words of a cell
 abbrev pub cellWords : ℕ
@@ -48,7 +60,7 @@ cellWords = 256
 
 -- words a cell of the far stretch: from `trailAt` to `cellWords`
 abbrev pub farWords : ℕ
-farWords = 120
+farWords = 119
 
 -- words a cell of the near stretch, with the arrival row: from `arrivalAt` to `labelsAt`
 abbrev pub nearWords : ℕ

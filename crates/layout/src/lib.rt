@@ -4,38 +4,47 @@
 // The arrival row.
 pub const ARRIVAL: usize = 64;
 
-// Labels: registers to go plus one, 0 for no label.
+// The labels of registers, with the source's: a set of labels, LABEL_WORDS words a cell.
 pub const LABELS: usize = 128;
 
-// Labels: steps to go, the low 16 bits.
-pub const STEPS_LOW: usize = 129;
+// In a set of labels: weight to go plus one, 0 for no label, the low 16 bits.
+pub const WEIGHT_LOW: usize = 0;
 
-// Labels: steps to go, the high 16 bits.
-pub const STEPS_HIGH: usize = 130;
+// In a set of labels: weight to go plus one, the high 16 bits.
+pub const WEIGHT_HIGH: usize = 1;
 
-// The labelled cells in the order of their labels.
-pub const ORDER: usize = 131;
+// In a set of labels: steps to go, the low 16 bits.
+pub const STEPS_LOW: usize = 2;
+
+// In a set of labels: steps to go, the high 16 bits.
+pub const STEPS_HIGH: usize = 3;
+
+// In a set of labels: the labelled cells in the order of their labels.
+pub const ORDER: usize = 4;
+
+// Words a cell of a set of labels.
+pub const LABEL_WORDS: usize = 5;
 
 // The active list.
-pub const ACTIVE: usize = 132;
+pub const ACTIVE: usize = 133;
 
 // The next list.
-pub const NEXT: usize = 133;
+pub const NEXT: usize = 134;
 
 // A flag a cell: 1 if it is listed.
-pub const LISTED: usize = 134;
+pub const LISTED: usize = 135;
 
-// A flag a cell: 1 if it is a seed.
-pub const SEEDS: usize = 135;
+// A mark a cell: 1 if a span may close there at a register, or at the source.
+pub const SEEDS: usize = 136;
 
 // The undo trail's far stretch; its near one follows the arrival row.
-pub const TRAIL: usize = 136;
+pub const TRAIL: usize = 137;
 
 // All words of a cell.
 pub const CELL_WORDS: usize = 256;
 
 // Words a cell of the far stretch: from TRAIL to CELL_WORDS.
-pub const FAR_WORDS: usize = 120;
+pub const FAR_WORDS: usize = 119;
 
 // Words a cell of the near stretch, with the arrival row: from ARRIVAL to LABELS.
 pub const NEAR_WORDS: usize = 64;

@@ -8,19 +8,19 @@ use Rattle.plan.specs.Joined.{joinsRight, joinsBelow, bothIn, horizontal, verti
 use Rattle.timing.specs.Formulas.{wireDelay, gateDelay, wireLoad, bufferDriver, bufferLoad, registerDriver, registerLoad, setupDelay}
 use Rattle.timing.specs.Slack.{slackOf, smaller}
 use Rattle.timing.specs.Elements.{wireInRange, registerInRange, bufferInRange, wireOf, driverOf, bufferOf, registerOf}
-use Rattle.rules.specs.Rules.{rulesOf, siteOf, wireBetween}
+use Rattle.rules.specs.Rules.{isClosing, sideAfter, rulesOf, siteOf, wireBetween}
 use Rattle.rules.specs.Legal.{mayStand, isEnd, arrive, buffered, leave, closing, spanAfter}
 use Rattle.rules.specs.Beginning.{nextPlace, startPlace}
 use Rattle.rules.specs.Slack.{slackAt, slacksFrom, slacks, leastFrom, leastSlack}
 use Rattle.rules.specs.Ranking.{codeSevens, registers, steps, latency, written}
-use Rattle.budget.specs.Table.{loadAt, delayAt, bufferCost, loadOf, closeCost, only, maxBelow, viaBuffer, arrival, given}
+use Rattle.budget.specs.Table.{budgetSum, loadAt, delayAt, bufferCost, loadOf, closeCost, only, maxBelow, viaBuffer, viaClose, arrival, given}
 use Rattle.budget.specs.Done.{seedAt}
-use Rattle.budget.specs.Emission.{exactSeed, goesOn, afterLoad, afterDelay, afterRegisters, firstFrom, nextCode, nextCell, emit}
+use Rattle.budget.specs.Emission.{exactSeed, goesOn, afterLoad, afterDelay, afterWeight, firstFrom, nextCode, nextCell, emit}
 use Rattle.lists.specs.Lists.{sumBelow}
-use Rattle.best.specs.Rows.{listFrom, tableOf, rowsOf, layerRows, budgetSum}
-use Rattle.best.specs.Labels.{isKnown, labelRegisters, labelSteps, labelsListed, relabelAt, relabel, least, leastBelow, isPending, isOfWave, nextPending, firstOfWave}
-use Rattle.best.specs.Search.{layerTurn, quietTurn, turn, searchFrom, mostSteps, mostTurns, search}
-use Rattle.best.specs.Best.{reachRows, routeOf, outcome, best}
+use Rattle.best.specs.Rows.{listFrom, tableOf, rowsOf, layerRows}
+use Rattle.best.specs.Labels.{isKnown, labelWeight, labelSteps, labelsListed, byCode, places, relabelAt, relabel, earlier, waiting, nextLabel}
+use Rattle.best.specs.Search.{atSink, relabelled, layerTurn, quietTurn, turn, searchFrom, mostSum, mostTurns, startLabels, searchSide, labelling, exitsOf}
+use Rattle.best.specs.Best.{reachRows, exitsAt, labelsAt, routeOf, outcome, best}
 use Rattle.answers.specs.Tables.{periodInRange, wireOk, registerOk, bufferOk, bufferFault, buffersFault, listFault, tablesFault, wireFrom, registerFrom, bufferFrom, listedBuffer, sixPlaces, elementsOf}
 use Rattle.answers.specs.Ends.{endsFault}
 use Rattle.router.specs.Route.{rulesAsked, cellsAsked, afterPlan, afterTables, questionChecks, checks, figuresOf, answerFor, visitsFor, answerAfter, answerUnder, answerOf, visitsAfter, visitsUnder, visitsOf}
@@ -41,5 +41,5 @@ abbrev lines : List ℕ
 lines = 114 ∷ 111 ∷ 117 ∷ 116 ∷ 101 ∷ 32 ∷ 49 ∷ 32 ∷ 50 ∷ 32 ∷ 53 ∷ 48 ∷ 32 ∷ 50 ∷ 54 ∷ 10 ∷ 50 ∷ 32 ∷ 55 ∷ 10 ∷ 49 ∷ 32 ∷ 55 ∷ 10 ∷ 48 ∷ 32 ∷ 55 ∷ 10 ∷ []
 
 pub printed-example : printed job ≡ lines
-unfolding gridFault lengthFault invalidMark invalidBelow markFault checkedPlan wireInRange registerInRange bufferInRange written periodInRange wireOk registerOk bufferOk bufferFault buffersFault listFault tablesFault wireFrom registerFrom bufferFrom listedBuffer sixPlaces elementsOf endsFault rulesAsked cellsAsked afterPlan afterTables questionChecks checks figuresOf answerFor visitsFor answerAfter answerUnder answerOf visitsAfter visitsUnder visitsOf closed thirdGroup secondGroup number prepend oneMore run tablesOf bufferListOf bufferRecordAt withNumber withRun askedOf questionFrom ended buffersFrom countFrom tablesFrom marksFrom sized readJob digit spelled decimal refusedLine refusalText figuresLine visitLine visitLines answerText blank readingText printed cells row column marksAt blocked tap cutRight cutBelow joinsRight joinsBelow bothIn horizontal vertical joined wireOf bufferOf registerOf driverOf wireDelay gateDelay wireLoad bufferDriver bufferLoad registerDriver registerLoad setupDelay rulesOf siteOf wireBetween mayStand isEnd loadAt delayAt bufferCost loadOf closeCost only maxBelow viaBuffer arrival given seedAt exactSeed goesOn afterLoad afterDelay afterRegisters firstFrom nextCode nextCell emit listFrom sumBelow tableOf rowsOf layerRows budgetSum isKnown labelRegisters labelSteps labelsListed relabelAt relabel least leastBelow isPending isOfWave nextPending firstOfWave layerTurn quietTurn turn searchFrom mostSteps mostTurns search reachRows routeOf outcome best codeSevens registers steps latency arrive buffered leave closing spanAfter nextPlace startPlace slackAt slacksFrom slacks leastFrom leastSlack slackOf smaller signed
+unfolding gridFault lengthFault invalidMark invalidBelow markFault checkedPlan wireInRange registerInRange bufferInRange written periodInRange wireOk registerOk bufferOk bufferFault buffersFault listFault tablesFault wireFrom registerFrom bufferFrom listedBuffer sixPlaces elementsOf endsFault rulesAsked cellsAsked afterPlan afterTables questionChecks checks figuresOf answerFor visitsFor answerAfter answerUnder answerOf visitsAfter visitsUnder visitsOf closed thirdGroup secondGroup number prepend oneMore run tablesOf bufferListOf bufferRecordAt withNumber withRun askedOf questionFrom ended buffersFrom countFrom tablesFrom marksFrom sized readJob digit spelled decimal refusedLine refusalText figuresLine visitLine visitLines answerText blank readingText printed cells row column marksAt blocked tap cutRight cutBelow joinsRight joinsBelow bothIn horizontal vertical joined wireOf bufferOf registerOf driverOf wireDelay gateDelay wireLoad bufferDriver bufferLoad registerDriver registerLoad setupDelay isClosing sideAfter rulesOf siteOf wireBetween mayStand isEnd budgetSum loadAt delayAt bufferCost loadOf closeCost only maxBelow viaBuffer viaClose arrival given seedAt exactSeed goesOn afterLoad afterDelay afterWeight firstFrom nextCode nextCell emit listFrom sumBelow tableOf rowsOf layerRows isKnown labelWeight labelSteps labelsListed byCode places relabelAt relabel earlier waiting nextLabel atSink relabelled layerTurn quietTurn turn searchFrom mostSum mostTurns startLabels searchSide labelling exitsOf reachRows exitsAt labelsAt routeOf outcome best codeSevens registers steps latency arrive buffered leave closing spanAfter nextPlace startPlace slackAt slacksFrom slacks leastFrom leastSlack slackOf smaller signed
 printed-example = refl

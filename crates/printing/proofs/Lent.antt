@@ -10,8 +10,8 @@ use borrow.Author.Tests.{leb-true}
 use Rattle.rules.specs.Rules.{Rules}
 use Rattle.rules.specs.Legal.{Route}
 use Rattle.rules.specs.Ranking.{steps, written}
-use Rattle.best.specs.Search.{Found, figures, nothing, search}
-use Rattle.best.specs.Best.{routeOf, Outcome, found, none, outcome, best}
+use Rattle.best.specs.Search.{Found, figures, nothing, searchSide}
+use Rattle.best.specs.Best.{exitsAt, routeOf, Outcome, found, none, outcome, best}
 use Rattle.answers.specs.declared.answer.Answer.{Answer}
 use Rattle.router.specs.Route.{Question, rulesAsked, Check, passes, fails, checks, figuresOf, answerFor, visitsFor, answerAfter, answerUnder, answerOf, visitsAfter, visitsUnder, visitsOf}
 use Rattle.text.specs.Answers.{figuresLine, visitLines, answerText, VisitsWithin}
@@ -42,11 +42,11 @@ Visits none = Unit
 
 best-visits : (R : Rules) → Visits (best R)
 unfolding best outcome routeOf Visits
-best-visits R = go (search R)
+best-visits R = go (searchSide R (exitsAt R 0) 0)
   where
     go : (x : Found) → Visits (outcome R x)
-    go (figures k s list) = omega arith
-    go nothing = tt
+    go (figures k s m) = omega arith
+    go (nothing m) = tt
 
 -- an outcome's text, by the number of words lent
 outcome-text : (R : Rules) (period : ℕ) (o : Outcome) → Visits o → (a b : List ℕ) → length a ≡ length b → answerText (answerFor R period (length a) o) (visitsFor o a) ≡ answerText (answerFor R period (length b) o) (visitsFor o b)

@@ -17,7 +17,7 @@ use Rattle.budget.proofs.Cone.{cone-in, cone-of}
 use Rattle.budget.proofs.Layer.{row-of, same-row}
 use Rattle.budget.proofs.Reaches.{reaches-start}
 use Rattle.costs.specs.Costs.{rowWords}
-use Rattle.layout.specs.Layout.{arrivalAt, labelsAt, orderAt}
+use Rattle.layout.specs.Layout.{arrivalAt, labelsAt, orderIn}
 use Rattle.rows.specs.Words.{Kept}
 use Rattle.trail.specs.declared.Trail.{Trail}
 use Rattle.trail.specs.Trail.{Sound, stamped, newTrail, TrailKept, followed, Rewound}
@@ -26,7 +26,7 @@ use Rattle.table.specs.declared.pushes.Grown.{Grown}
 use Rattle.table.specs.Problem.{budgetOf}
 use Rattle.table.specs.Layer.{Layered}
 use Rattle.table.proofs.Views.{budget-at, budget-outside, inside}
-use Rattle.labels.specs.Labels.{labelsOf, Ordered, ArrivedAll}
+use Rattle.labels.specs.Labels.{labelsFor, Ordered, ArrivedAll}
 use Rattle.labels.proofs.Labels.{ordered-kept}
 use Rattle.reach.specs.declared.layers.Layers.{Layers}
 use Rattle.reach.specs.Cone.{Dropped}
@@ -34,7 +34,7 @@ use Rattle.reach.specs.Reach.{noLayers, nearBy, heldBy, Past, Held, Trai
 use Rattle.reach.proofs.Kept.{row-kept}
 
 -- before the first call
-pub held-start : {R : Rules} {n count : ℕ} {words : List ℕ} → Ordered n words count → Held R n count words noLayers
+pub held-start : {R : Rules} {n count : ℕ} {words : List ℕ} → Ordered n (n * labelsAt) words count → Held R n count words noLayers
 held-start {R} {n} {count} {words} o =
     record {
       ordered = o;
@@ -63,7 +63,7 @@ module _ (R : Rules) (n k : ℕ) (P : ℕ → ℕ → Bool) (old : List ℕ) whe
               none = λ c l. refl;
               outside = λ s c l f. refl;
             };
-        means = λ s h c t. rw (zero s h) (row-of (reaches-start R (labelsOf n old) k (λ c l. refl)) c);
+        means = λ s h c t. rw (zero s h) (row-of (reaches-start R (labelsFor n old) 0 k (λ c l. refl)) c);
         stamp = rw e (omega arith);
       }
     where
@@ -83,13 +83,13 @@ module _ (R : Rules) (n k : ℕ) (P : ℕ → ℕ → Bool) (old : List ℕ) whe
 
   module _ (words : List ℕ) (u : ℕ) (t : Trail) (r : Trailing R n k P old words u t) where
     -- after a layer
-    pub trail-layer : (new : List ℕ) (next : Grown) → Layered R n (stamped t (u + 1)) words new next → RepresentsIn (P (u + 1)) (budgetOf n new) (Reaches R (labelsOf n old) k (u + 1)) → Trailing R n k P old new (u + 1) (next .trail)
+    pub trail-layer : (new : List ℕ) (next : Grown) → Layered R n (stamped t (u + 1)) words new next → RepresentsIn (P (u + 1)) (budgetOf n new) (Reaches R (labelsFor n old) 0 k (u + 1)) → Trailing R n k P old new (u + 1) (next .trail)
     unfolding further followed
     trail-layer new next l table =
         record {
           past = further new (next .trail) u (u + 1) before (omega (arith, l .stamp));
           means =
-              followed-all (r .past .Z) u (budgetOf n new) (λ s A. RepresentsIn (P s) A (Reaches R (labelsOf n old) k s)) (u + 1) (r .means)
+              followed-all (r .past .Z) u (budgetOf n new) (λ s A. RepresentsIn (P s) A (Reaches R (labelsFor n old) 0 k s)) (u + 1) (r .means)
               (λ s lo hi. let e : u + 1 ≡ s = omega arith in rw e at table);
           stamp = omega (arith, l .stamp);
         }
@@ -105,13 +105,13 @@ module _ (R : Rules) (n k : ℕ) (P : ℕ → ℕ → Bool) (old : List ℕ) whe
             }
 
     -- after a leap
-    pub trail-leap : (v : ℕ) → u ≤ v → ((s : ℕ) → u ≤ s → s ≤ v → RepresentsIn (P s) (budgetOf n words) (Reaches R (labelsOf n old) k s)) → Trailing R n k P old words v t
+    pub trail-leap : (v : ℕ) → u ≤ v → ((s : ℕ) → u ≤ s → s ≤ v → RepresentsIn (P s) (budgetOf n words) (Reaches R (labelsFor n old) 0 k s)) → Trailing R n k P old words v t
     unfolding further followed
     trail-leap v h table =
         record {
           past = further words t u v (r .past) (omega (arith, r .stamp));
           means =
-              followed-all (r .past .Z) u (budgetOf n words) (λ s A. RepresentsIn (P s) A (Reaches R (labelsOf n old) k s)) v (r .means)
+              followed-all (r .past .Z) u (budgetOf n words) (λ s A. RepresentsIn (P s) A (Reaches R (labelsFor n old) 0 k s)) v (r .means)
               (λ s lo hi. table s (omega arith) hi);
           stamp = omega (arith, r .stamp);
         }
@@ -132,7 +132,7 @@ module _ (R : Rules) (n k : ℕ) (P : ℕ → ℕ → Bool) (old : List ℕ) whe
           stamp = r .stamp;
         }
 
-    pub trail-arrive : {at end to active : ℕ} (new : List ℕ) → ArrivedAll n at end u words new to active → Trailing R n k P old new u t
+    pub trail-arrive : {set at count to active : ℕ} (new : List ℕ) → ArrivedAll n set at count k u words new to active → Trailing R n k P old new u t
     trail-arrive new a = trail-kept new (λ i lo hi. a .arrived .low i (omega arith)) (record { near = λ i lo hi. a .arrived .low i (omega arith); far = λ i lo hi. a .arrived .high i lo })
 
     pub trail-drop : {Q : ℕ → Bool} {active : ℕ} (new : List ℕ) → Dropped n Q words new active → Trailing R n k P old new u t
@@ -142,14 +142,14 @@ module _ (R : Rules) (n k : ℕ) (P : ℕ → ℕ → Bool) (old : List ℕ) whe
     trail-sound = sound-stamped n words t (u + 1) (omega (arith, r .stamp)) (r .past .sound)
 
 -- The end of a span's run, at a cell: in the layer of s steps, the rows next to a cell that is near enough are in the cone.
-module _ (R : Rules) (n k : ℕ) (old new : List ℕ) (width cell : ℕ) (wide : 0 < width) (apart : Lipschitz R (apartBy width cell)) (u active at end count : ℕ) (t : Trail) (g : Current R n k (inCone (apartBy width cell) (u + 1)) old new u active at end count) (r : Trailing R n k (inCone (apartBy width cell) (u + 1)) old new u t) where
-  kept-seeds : Kept (n * labelsAt) (n * orderAt) old new
+module _ (R : Rules) (n k : ℕ) (old new : List ℕ) (width cell : ℕ) (wide : 0 < width) (apart : Lipschitz R (apartBy width cell)) (u active at count : ℕ) (t : Trail) (g : Current R n k (inCone (apartBy width cell) (u + 1)) old new u active at count) (r : Trailing R n k (inCone (apartBy width cell) (u + 1)) old new u t) where
+  kept-seeds : Kept (n * labelsAt) (n * labelsAt + n * orderIn) old new
   kept-seeds i lo hi = g .reaching .labels i lo (omega arith)
 
   near-in : (s x c : ℕ) → T (inCone (apartBy width cell) u s x) → T (R .linked x c) → T (inCone (apartBy width cell) (u + 1) s c)
   near-in s x c h link = cone-in _ _ s c (omega (arith, cone-of (apartBy width cell) u s x h, apart x c link))
 
-  span-done : Loaded R n count cell k u old new (record { registers = k; steps = u; width = width; from = cell; most = u; trail = t })
+  span-done : Loaded R n count cell k u old new (record { weight = k; steps = u; width = width; from = cell; most = u; trail = t })
   span-done =
       record {
         same = g .reaching .same;
@@ -158,27 +158,27 @@ module _ (R : Rules) (n k : ℕ) (old new : List ℕ) (width cell : ℕ) (wide :
         rest = g .reaching .rest;
         held =
             record {
-              ordered = ordered-kept (g .reaching .ordered) new (g .reaching .labels);
+              ordered = ordered-kept (g .reaching .ordered) new (λ i lo hi. g .reaching .labels i lo (omega arith));
               wide = wide;
               past = r .past;
               means = λ s x lo hi h c link. row-kept R n old new kept-seeds k s (r .means s hi c (near-in s x c h link));
             };
       }
 
-pub span-loaded : (R : Rules) (n k : ℕ) (old new : List ℕ) (width cell : ℕ) → 0 < width → Lipschitz R (apartBy width cell) → (u active at end count steps : ℕ) (t : Trail) → Current R n k (inCone (apartBy width cell) (steps + 1)) old new u active at end count → Trailing R n k (inCone (apartBy width cell) (steps + 1)) old new u t → u ≡ steps → Loaded R n count cell k steps old new (record { registers = k; steps = steps; width = width; from = cell; most = steps; trail = t })
-span-loaded R n k old new width cell wide apart u active at end count steps t g r e =
-    span-done R n k old new width cell wide apart steps active at end count t (rw e at g) (rw e at r)
+pub span-loaded : (R : Rules) (n k : ℕ) (old new : List ℕ) (width cell : ℕ) → 0 < width → Lipschitz R (apartBy width cell) → (u active at count steps : ℕ) (t : Trail) → Current R n k (inCone (apartBy width cell) (steps + 1)) old new u active at count → Trailing R n k (inCone (apartBy width cell) (steps + 1)) old new u t → u ≡ steps → Loaded R n count cell k steps old new (record { weight = k; steps = steps; width = width; from = cell; most = steps; trail = t })
+span-loaded R n k old new width cell wide apart u active at count steps t g r e =
+    span-done R n k old new width cell wide apart steps active at count t (rw e at g) (rw e at r)
 
 -- what `heldBy` tests
-pub record HeldBy (layers : Layers) (cell registers steps : ℕ) : Type 0 where
-  pub span : layers .registers ≡ registers
+pub record HeldBy (layers : Layers) (cell weight steps : ℕ) : Type 0 where
+  pub span : layers .weight ≡ weight
   pub low : layers .trail .low ≤ steps
   pub high : steps ≤ layers .steps
   pub near : T (nearBy layers steps cell)
 
-pub held-parts : (layers : Layers) (cell registers steps : ℕ) → T (heldBy layers cell registers steps) → HeldBy layers cell registers steps
-held-parts layers cell registers steps h =
-    let span : Bool = eqb (layers .registers) registers in
+pub held-parts : (layers : Layers) (cell weight steps : ℕ) → T (heldBy layers cell weight steps) → HeldBy layers cell weight steps
+held-parts layers cell weight steps h =
+    let span : Bool = eqb (layers .weight) weight in
     let low : Bool = leb (layers .trail .low) steps in
     let high : Bool = leb steps (layers .steps) in
     let near : Bool = nearBy layers steps cell in
@@ -195,9 +195,9 @@ held-parts layers cell registers steps h =
 module _ (R : Rules) (n count steps : ℕ) (old : List ℕ) (layers : Layers) (held : Held R n count old layers) (low : layers .trail .low ≤ steps) (high : steps ≤ layers .steps) (new : List ℕ) (t : Trail) (back : Rewound n steps old (layers .trail) new t) where
   abbrev backTo : ℕ → Layers
   backTo k =
-      record { registers = k; steps = steps; width = layers .width; from = layers .from; most = layers .most; trail = t }
+      record { weight = k; steps = steps; width = layers .width; from = layers .from; most = layers .most; trail = t }
 
-  kept-labels : Kept (n * labelsAt) (n * orderAt) old new
+  kept-labels : Kept (n * labelsAt) (n * labelsAt + n * orderIn) old new
   kept-labels i lo hi = back .kept i (omega arith)
 
   pub back-table : (c l : ℕ) → budgetOf n new c l ≡ held .past .Z steps c l
@@ -207,11 +207,11 @@ module _ (R : Rules) (n count steps : ℕ) (old : List ℕ) (layers : Layers) (h
       go (inl h) = budget-at n new c l (h .0) (h .1) ∙ back .table (layers .steps) (held .past .Z) low high (held .past .history) c l (h .0) (h .1)
       go (inr f) = budget-outside n new c l f ∙ sym (held .past .outside steps c l f)
 
-  loaded-back : (cell : ℕ) → T (nearBy layers steps cell) → Loaded R n count cell (layers .registers) steps old new (backTo (layers .registers))
+  loaded-back : (cell : ℕ) → T (nearBy layers steps cell) → Loaded R n count cell (layers .weight) steps old new (backTo (layers .weight))
   loaded-back cell near =
       record {
         same = back .same;
-        near = λ c link. same-row (back-table c) (row-kept R n old new kept-labels (layers .registers) steps (held .means steps cell low high near c link));
+        near = λ c link. same-row (back-table c) (row-kept R n old new kept-labels (layers .weight) steps (held .means steps cell low high near c link));
         labels = λ i lo hi. back .kept i (omega arith);
         rest = λ i h. back .kept i (omega arith);
         held =
@@ -226,12 +226,12 @@ module _ (R : Rules) (n count steps : ℕ) (old : List ℕ) (layers : Layers) (h
                     none = held .past .none;
                     outside = held .past .outside;
                   };
-              means = λ s x lo hi h c link. row-kept R n old new kept-labels (layers .registers) s (held .means s x (omega (arith, back .lowest)) (omega arith) h c link);
+              means = λ s x lo hi h c link. row-kept R n old new kept-labels (layers .weight) s (held .means s x (omega (arith, back .lowest)) (omega arith) h c link);
             };
       }
 
-  pub back-loaded : (cell registers : ℕ) → layers .registers ≡ registers → T (nearBy layers steps cell) → Loaded R n count cell registers steps old new (backTo registers)
-  back-loaded cell registers e near = rw e at (loaded-back cell near)
+  pub back-loaded : (cell weight : ℕ) → layers .weight ≡ weight → T (nearBy layers steps cell) → Loaded R n count cell weight steps old new (backTo weight)
+  back-loaded cell weight e near = rw e at (loaded-back cell near)
 
 -- at layer 0 there is no budget
 pub back-empty : (n : ℕ) (old : List ℕ) (layers : Layers) → Past n old (layers .steps) (layers .trail) → layers .trail .low ≡ 0 → (new : List ℕ) (t : Trail) → Rewound n 0 old (layers .trail) new t → (i : ℕ) → i < n * arrivalAt → getD new i 0 ≡ 0

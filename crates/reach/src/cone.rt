@@ -5,13 +5,11 @@ ghost use Rattle.plan.specs.Apart.{gap, apartBy};
 ghost use Rattle.budget.specs.Cone.{inCone};
 ghost use Rattle.reach.specs.Cone.{ListAsks, ListedInside, DropAsks, Dropped};
 use layout::ACTIVE;
-use layout::LISTED;
 use layout::NEXT;
-use layout::SEEDS;
 use lists::enlist;
 use lists::take_list;
 use problem::Problem;
-use rows::clear;
+use table::clear_flags;
 
 // The difference of two numbers.
 fn difference(a: usize, b: usize) -> usize
@@ -81,7 +79,7 @@ pub fn drop_outside(
     if u as usize + p.width + p.height <= most + 2 {
         return active;
     }
-    clear(scratch, n * LISTED, n * SEEDS);
+    clear_flags(scratch, n, active);
     let count = list_inside(scratch, n, active, p.width, from, most, u as usize);
     take_list(scratch, n, count);
     count

@@ -10,6 +10,7 @@ use crate::span::next_steps;
 use crate::span::start_span;
 use costs::COSTS;
 use labels::arrive;
+use layout::LABELS;
 use problem::Problem;
 use table::next_layer;
 use trail::Trail;
@@ -17,10 +18,10 @@ use trail::new_trail;
 use trail::rewind;
 use trail::stamped;
 
-// What one call of `load_layer` leaves for the next, beside the words: the table is that of `steps` steps in the span with these registers to go.
+// What one call of `load_layer` leaves for the next, beside the words: the table is that of `steps` steps in the span with this weight to go after it.
 // The span was run at the cell `from`, of a plan of this width, with `most` steps: its layers are right in that cone.
 pub struct Layers {
-    pub registers: u16,
+    pub weight: u32,
     pub steps: u32,
     pub width: usize,
     pub from: usize,
@@ -33,7 +34,7 @@ pub fn no_layers() -> Layers
     ensures { λ r. ⌜ r ≡ noLayers ⌝ }
 {
     Layers {
-        registers: 0,
+        weight: 0,
         steps: 0,
         width: 1,
         from: 0,
@@ -49,12 +50,12 @@ pub fn no_layers() -> Layers
 }
 
 // The rows next to the cell can be had back from the trail.
-fn held_by(layers: Layers, cell: usize, registers: u16, steps: u32) -> bool
+fn held_by(layers: Layers, cell: usize, weight: u32, steps: u32) -> bool
     requires { ⌜ 0 < layers .width ⌝ }
-    ensures { λ r. ⌜ r ≡ heldBy layers cell registers steps ⌝ }
+    ensures { λ r. ⌜ r ≡ heldBy layers cell weight steps ⌝ }
 {
     let trail = layers.trail;
-    if layers.registers == registers {
+    if layers.weight == weight {
         if trail.low <= steps {
             if steps <= layers.steps {
                 let most = layers.most as usize;
@@ -74,34 +75,34 @@ fn run_span(
     costs: &[u16; COSTS],
     count: usize,
     cell: usize,
-    registers: u16,
+    weight: u32,
     steps: u32,
     layers: Layers,
 ) -> Layers
     requires { ⌜ LoadAsks p (now plan) (now costs) count (now scratch) layers ⌝ }
-    ensures { λ r. ⌜ Loaded (rulesFor p (now (plan .entry))) (length (now (plan .entry))) count cell registers steps (now (scratch .entry)) (now (scratch .exit)) r ⌝ }
+    ensures { λ r. ⌜ Loaded (rulesFor p (now (plan .entry))) (length (now (plan .entry))) count cell weight steps (now (scratch .entry)) (now (scratch .exit)) r ⌝ }
 {
     let n = plan.len();
-    let span = start_span(plan, scratch, p, count, registers, layers);
+    let span = start_span(plan, scratch, p, count, weight, layers);
     let mut u: u32 = 0;
     let mut at = span.at;
     let mut active = span.active;
     let mut trail = new_trail(n);
     while u < steps {
         if active == 0 {
-            u = next_steps(scratch, n, at, span.end, steps);
+            u = next_steps(scratch, n, n * LABELS, at, count, weight, steps);
         } else {
             let grown = next_layer(plan, scratch, p, costs, active, stamped(trail, u + 1));
             active = grown.count;
             trail = grown.trail;
             u += 1;
         }
-        let next = arrive(scratch, n, at, span.end, u, active);
+        let next = arrive(scratch, n, n * LABELS, at, count, weight, u, active);
         at = next.at;
         active = drop_outside(scratch, n, next.active, p, cell, steps, u);
     }
     Layers {
-        registers: registers,
+        weight: weight,
         steps: steps,
         width: p.width,
         from: cell,
@@ -118,17 +119,17 @@ pub fn load_layer(
     costs: &[u16; COSTS],
     count: usize,
     cell: usize,
-    registers: u16,
+    weight: u32,
     steps: u32,
     layers: Layers,
 ) -> Layers
     requires { ⌜ LoadAsks p (now plan) (now costs) count (now scratch) layers ⌝ }
-    ensures { λ r. ⌜ Loaded (rulesFor p (now (plan .entry))) (length (now (plan .entry))) count cell registers steps (now (scratch .entry)) (now (scratch .exit)) r ⌝ }
+    ensures { λ r. ⌜ Loaded (rulesFor p (now (plan .entry))) (length (now (plan .entry))) count cell weight steps (now (scratch .entry)) (now (scratch .exit)) r ⌝ }
 {
-    if held_by(layers, cell, registers, steps) {
+    if held_by(layers, cell, weight, steps) {
         let trail = rewind(scratch, plan.len(), layers.trail, steps);
         return Layers {
-            registers: registers,
+            weight: weight,
             steps: steps,
             width: layers.width,
             from: layers.from,
@@ -136,15 +137,5 @@ pub fn load_layer(
             trail: trail,
         };
     }
-    run_span(
-        plan,
-        scratch,
-        p,
-        costs,
-        count,
-        cell,
-        registers,
-        steps,
-        layers,
-    )
+    run_span(plan, scratch, p, costs, count, cell, weight, steps, layers)
 }

@@ -8,16 +8,16 @@ use Rattle.timing.specs.Formulas.{wireDelay, gateDelay, wireLoad, bufferDriver,
 use Rattle.timing.specs.Elements.{wireOf, driverOf, bufferOf, registerOf}
 use Rattle.timing.specs.Ranges.{periodMax}
 use Rattle.timing.specs.Relaxed.{atPeriod, relaxedWire, relaxedBuffer, relaxedRegister, relaxed}
-use Rattle.rules.specs.Rules.{rulesOf, siteOf, wireBetween}
+use Rattle.rules.specs.Rules.{isClosing, sideAfter, rulesOf, siteOf, wireBetween}
 use Rattle.rules.specs.Legal.{mayStand, isEnd}
-use Rattle.budget.specs.Table.{loadAt, delayAt, bufferCost, loadOf, closeCost, only, maxBelow, viaBuffer, arrival, given}
+use Rattle.budget.specs.Table.{budgetSum, loadAt, delayAt, bufferCost, loadOf, closeCost, only, maxBelow, viaBuffer, viaClose, arrival, given}
 use Rattle.budget.specs.Done.{seedAt}
-use Rattle.budget.specs.Emission.{exactSeed, goesOn, afterLoad, afterDelay, afterRegisters, firstFrom, nextCode, nextCell, emit}
+use Rattle.budget.specs.Emission.{exactSeed, goesOn, afterLoad, afterDelay, afterWeight, firstFrom, nextCode, nextCell, emit}
 use Rattle.lists.specs.Lists.{sumBelow}
-use Rattle.best.specs.Rows.{listFrom, tableOf, rowsOf, layerRows, budgetSum}
-use Rattle.best.specs.Labels.{isKnown, labelRegisters, labelSteps, labelsListed, relabelAt, relabel, least, leastBelow, isPending, isOfWave, nextPending, firstOfWave}
-use Rattle.best.specs.Search.{layerTurn, quietTurn, turn, searchFrom, mostSteps, mostTurns, search}
-use Rattle.best.specs.Best.{reachRows, routeOf, outcome, best}
+use Rattle.best.specs.Rows.{listFrom, tableOf, rowsOf, layerRows}
+use Rattle.best.specs.Labels.{isKnown, labelWeight, labelSteps, labelsListed, byCode, places, relabelAt, relabel, earlier, waiting, nextLabel}
+use Rattle.best.specs.Search.{atSink, relabelled, layerTurn, quietTurn, turn, searchFrom, mostSum, mostTurns, startLabels, searchSide, labelling, exitsOf}
+use Rattle.best.specs.Best.{reachRows, exitsAt, labelsAt, routeOf, outcome, best}
 use Rattle.cases.specs.Cases.{Case, rulesIn, tables, strip, case1, case4, case7, case11}
 use Rattle.reasons.specs.Reasons.{routed, routedAt}
 use Rattle.reason_cases.specs.Reasons.{cutCase, withSetup, setupCase}
@@ -50,7 +50,7 @@ pub record Tests : Type 0 where
   pub light-setup : hasRelaxed setupCase true ≡ true
 
 pub tests : Tests
-unfolding cells row column marksAt blocked tap cutRight cutBelow joinsRight joinsBelow bothIn horizontal vertical joined wireOf bufferOf registerOf driverOf wireDelay gateDelay wireLoad bufferDriver bufferLoad registerDriver registerLoad setupDelay atPeriod relaxedWire relaxedBuffer relaxedRegister relaxed rulesOf siteOf wireBetween mayStand isEnd loadAt delayAt bufferCost loadOf closeCost only maxBelow viaBuffer arrival given seedAt exactSeed goesOn afterLoad afterDelay afterRegisters firstFrom nextCode nextCell emit listFrom sumBelow tableOf rowsOf layerRows budgetSum isKnown labelRegisters labelSteps labelsListed relabelAt relabel least leastBelow isPending isOfWave nextPending firstOfWave layerTurn quietTurn turn searchFrom mostSteps mostTurns search reachRows routeOf outcome best routed routedAt tables strip case1 case4 case7 case11 cutCase withSetup setupCase
+unfolding cells row column marksAt blocked tap cutRight cutBelow joinsRight joinsBelow bothIn horizontal vertical joined wireOf bufferOf registerOf driverOf wireDelay gateDelay wireLoad bufferDriver bufferLoad registerDriver registerLoad setupDelay atPeriod relaxedWire relaxedBuffer relaxedRegister relaxed isClosing sideAfter rulesOf siteOf wireBetween mayStand isEnd budgetSum loadAt delayAt bufferCost loadOf closeCost only maxBelow viaBuffer viaClose arrival given seedAt exactSeed goesOn afterLoad afterDelay afterWeight firstFrom nextCode nextCell emit listFrom sumBelow tableOf rowsOf layerRows isKnown labelWeight labelSteps labelsListed byCode places relabelAt relabel earlier waiting nextLabel atSink relabelled layerTurn quietTurn turn searchFrom mostSum mostTurns startLabels searchSide labelling exitsOf reachRows exitsAt labelsAt routeOf outcome best routed routedAt tables strip case1 case4 case7 case11 cutCase withSetup setupCase
 tests =
     record {
       own1 = refl;

@@ -8,7 +8,7 @@ use mathlib.Core.Logic.{_⊎_, inl, inr}
 use lib.Dec.{T, leb}
 use lib.ListN.{length, drop}
 use Rattle.rules.specs.Legal.{Route, legal}
-use Rattle.rules.specs.Ranking.{steps, written, IsBest}
+use Rattle.rules.specs.Ranking.{registers, steps, written, IsBest}
 use Rattle.rules.specs.Slack.{slacks, Smallest}
 use Rattle.plan.proofs.Truth.{decided}
 use Rattle.answers.specs.declared.answer.Answer.{Answer}
@@ -21,14 +21,14 @@ use Rattle.router.proofs.Passed.{asked-best, asked-none}
 -- what demand 2 asks of an answer and of the visits afterwards
 pub data Demand2 (q : Question) (visits after : List ℕ) : Answer → Type 0 where
   -- the best legal route, with its figures counted off it, written into the visits
-  isFound : (r : Route) → IsBest (rulesAsked q) r → Smallest (figuresOf (rulesAsked q) (q .tables .period) r .slack) (slacks (rulesAsked q) r) → 2 * (steps r + 1) ≤ length visits → after ≡ written r ++ drop (length (written r)) visits → Demand2 q visits after (Answer.Found (figuresOf (rulesAsked q) (q .tables .period) r))
+  isFound : (r : Route) → IsBest registers (rulesAsked q) r → Smallest (figuresOf (rulesAsked q) (q .tables .period) r .slack) (slacks (rulesAsked q) r) → 2 * (steps r + 1) ≤ length visits → after ≡ written r ++ drop (length (written r)) visits → Demand2 q visits after (Answer.Found (figuresOf (rulesAsked q) (q .tables .period) r))
   -- 8: its figures are the best route's, and the visits stay
-  noRoom : (r : Route) → IsBest (rulesAsked q) r → Smallest (figuresOf (rulesAsked q) (q .tables .period) r .slack) (slacks (rulesAsked q) r) → length visits < 2 * (steps r + 1) → after ≡ visits → Demand2 q visits after (Answer.NoRoom (figuresOf (rulesAsked q) (q .tables .period) r))
+  noRoom : (r : Route) → IsBest registers (rulesAsked q) r → Smallest (figuresOf (rulesAsked q) (q .tables .period) r .slack) (slacks (rulesAsked q) r) → length visits < 2 * (steps r + 1) → after ≡ visits → Demand2 q visits after (Answer.NoRoom (figuresOf (rulesAsked q) (q .tables .period) r))
   -- 7: no legal route exists, and the visits stay
   noRoute : ((r : Route) → T (legal (rulesAsked q) r) → ⊥) → after ≡ visits → Demand2 q visits after (Answer.Refused Refusal.NoRoute)
 
 module _ (q : Question) (scratch visits : List ℕ) (pass : checks q (length scratch) ≡ passes) where
-  isBest : (r : Route) → best (rulesAsked q) ≡ found r → IsBest (rulesAsked q) r
+  isBest : (r : Route) → best (rulesAsked q) ≡ found r → IsBest registers (rulesAsked q) r
   isBest r e = asked-best q (length scratch) pass r .0 e
 
   smallest : (r : Route) → best (rulesAsked q) ≡ found r → Smallest (figuresOf (rulesAsked q) (q .tables .period) r .slack) (slacks (rulesAsked q) r)

@@ -6,7 +6,7 @@ use lib.Dec.{T}
 use Rattle.plan.specs.Plan.{planOf}
 use Rattle.timing.specs.Valid as timing
 use Rattle.rules.specs.Legal.{Route, legal}
-use Rattle.rules.specs.Ranking.{IsBest}
+use Rattle.rules.specs.Ranking.{registers, IsBest}
 use Rattle.best.specs.Best.{found, none, best}
 use Rattle.best.proofs.Document01.{rules-best, rules-none}
 use Rattle.answers.specs.Tables.{elementsOf}
@@ -20,7 +20,7 @@ passed-valid q scratch e = passed-ready q _ e .valid
 
 -- the executable best route of the question's rules is the best legal route, and there is none exactly where no route is legal
 module _ (q : Question) (scratch : ℕ) (pass : checks q scratch ≡ passes) where
-  pub asked-best : (r : Route) → (best (rulesAsked q) ≡ found r) ↔ IsBest (rulesAsked q) r
+  pub asked-best : (r : Route) → (best (rulesAsked q) ≡ found r) ↔ IsBest registers (rulesAsked q) r
   unfolding rulesAsked
   asked-best = rules-best (planOf (q .width) (q .height) (q .marks)) (elementsOf (q .tables) (q .buffers)) (q .source) (q .sink) (passed-valid q scratch pass)
 

@@ -5,7 +5,7 @@ use mathlib.Core.List.{List}
 use native.Mathlib.Omega.{arith}
 use Rattle.rules.specs.Rules.{Rules}
 use Rattle.budget.specs.Search.{FromSink}
-use Rattle.search.specs.declared.waves.Reached.{Reached}
+use Rattle.search.specs.declared.loops.Reached.{Reached}
 use Rattle.search.specs.Turn.{Reaching}
 use Rattle.search.specs.Search.{SearchDone}
 

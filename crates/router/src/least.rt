@@ -20,7 +20,7 @@ pub fn least_ready(plan: &[u8], scratch: &mut [u16], p: Problem, costs: &[u16; C
 {
     let reached = search_anew(plan, scratch, p, costs);
     match reached {
-        Reached::Sink(registers, steps, _) => Least::Of(registers, steps),
+        Reached::Sink(weight, steps, _) => Least::Of(weight as u16, steps),
         Reached::Nothing => Least::Nothing,
     }
 }

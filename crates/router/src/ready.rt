@@ -33,16 +33,16 @@ fn write_route(
     p: Problem,
     costs: &[u16; COSTS],
     visits: &mut [u16],
-    registers: u16,
+    weight: u32,
     steps: u32,
     count: usize,
 ) -> Answer
-    requires { ⌜ Ready p (now plan) × (Room (length (now plan)) (now scratch) × (Reaching (rulesFor p (now plan)) (length (now plan)) (now scratch) registers steps count × CostsOf (p .elements) (now costs))) ⌝ }
+    requires { ⌜ Ready p (now plan) × (Room (length (now plan)) (now scratch) × (Reaching (rulesFor p (now plan)) (length (now plan)) (now scratch) weight steps count × CostsOf (p .elements) (now costs))) ⌝ }
     ensures { λ r. ⌜ RouteDone p (now (plan .entry)) (now (scratch .entry)) (now (scratch .exit)) (now (visits .entry)) (now (visits .exit)) r ⌝ }
 {
     let n = plan.len();
     let elements = p.elements;
-    let latency = elements.period as u32 * (registers as u32 + 1);
+    let latency = elements.period as u32 * (weight + 1);
     let room = words_for(2 * (steps as usize + 1), visits.len());
     let slack = emit(
         plan,
@@ -50,13 +50,13 @@ fn write_route(
         p,
         costs,
         count,
-        registers,
+        weight,
         steps,
         &mut visits[..room],
     );
     clear(scratch, 0, n * CELL_WORDS);
     let figures = Figures {
-        registers: registers,
+        registers: weight as u16,
         steps: steps,
         latency: latency,
         slack: slack,
@@ -80,8 +80,8 @@ pub fn route_ready(
 {
     let reached = search_anew(plan, scratch, p, costs);
     match reached {
-        Reached::Sink(registers, steps, count) => {
-            return write_route(plan, scratch, p, costs, visits, registers, steps, count);
+        Reached::Sink(weight, steps, count) => {
+            return write_route(plan, scratch, p, costs, visits, weight, steps, count);
         }
         Reached::Nothing => {
             let n = plan.len();

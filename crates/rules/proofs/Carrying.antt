@@ -2,6 +2,7 @@
 -- Idea: with the same cells and the renamed codes, load and delay stay no more than they were, and every test bounds them from above.
 use Prim.Native.Nat.{ℕ, _*_, _+_, _≤_}
 use mathlib.Core.List.{[], _∷_}
+use mathlib.Core.Logic.{_⊎_, inl, inr}
 use mathlib.Core.Path.{_≡_, refl, ap, _∙_, subst}
 use native.Mathlib.Nat.{mul-le-mul}
 use native.Mathlib.Omega.{arith}
@@ -10,10 +11,10 @@ use Rattle.timing.specs.declared.elements.Wire.{Wire}
 use Rattle.timing.specs.declared.elements.Driver.{Driver}
 use Rattle.timing.specs.declared.elements.Buffer.{Buffer}
 use Rattle.timing.specs.Formulas.{wireDelay, gateDelay, bufferDriver}
-use Rattle.rules.specs.Rules.{Stage, Rules}
+use Rattle.rules.specs.Rules.{Stage, Rules, registerCode, fifoCode, isClosing}
 use Rattle.rules.specs.Legal.{Route, arrive, buffered, closing, mayStand, legal}
 use Rattle.rules.specs.Carrying.{NotWorse, Quicker, NotWorseWire, NotWorseBuffer, Buffering, Carries, renamedVisit, renamed}
-use Rattle.rules.proofs.View.{Reached, Ending, ends, passes, buffers, closes, LegalRoute, starts, route-view, route-test}
+use Rattle.rules.proofs.View.{Reached, Ending, ends, passes, buffers, closes, LegalRoute, starts, route-view, route-test, closing-codes, register-closing}
 
 pub renamed-id : (r : Route) → renamed (λ c. c) r ≡ r
 unfolding renamed renamedVisit
@@ -21,6 +22,14 @@ renamed-id [] = refl
 renamed-id (v ∷ vs) = ap (λ (r : Route). v ∷ r) (renamed-id vs)
 
 module _ {rename : ℕ → ℕ} {R Q : Rules} (k : Carries rename R Q) where
+  -- a gate that closes a span keeps its code
+  close-kept : (code : ℕ) → T (isClosing code) → rename code ≡ code
+  close-kept code h = go (closing-codes code h)
+    where
+      go : (code ≡ registerCode) ⊎ (code ≡ fifoCode) → rename code ≡ code
+      go (inl e) = rw e (k .register)
+      go (inr e) = rw e (k .fifo)
+
   module _ {s t : Stage} (d : NotWorse s t) where
     arrive-carries : (from to : ℕ) → T (R .linked from to) → NotWorse (arrive Q from s to) (arrive R from t to)
     unfolding arrive
@@ -34,9 +43,9 @@ module _ {rename : ℕ → ℕ} {R Q : Rules} (k : Carries rename R Q) where
         let b = k .buffers cell code f h in
         record { load = b .load; delay = omega (arith, b .delay (s .load) (t .load) (d .load), d .delay) }
 
-    closing-carries : (cell : ℕ) → closing Q s cell ≤ closing R t cell
+    closing-carries : (cell code : ℕ) → T (isClosing code) → closing Q s cell (rename code) ≤ closing R t cell code
     unfolding closing
-    closing-carries cell = omega (arith, k .closers cell (s .load) (t .load) (d .load), d .delay)
+    closing-carries cell code h = rw (close-kept code h) (omega (arith, k .closers cell code h (s .load) (t .load) (d .load), d .delay))
 
     reached-carries : {from cell : ℕ} → Reached R from t cell → Reached Q from s cell
     reached-carries {from} {cell} h =
@@ -47,18 +56,20 @@ module _ {rename : ℕ → ℕ} {R Q : Rules} (k : Carries rename R Q) where
         }
 
   -- `s` and `t` are the stages after the last visit before the ending, under Q and under R
-  pub ending-carries : {from span : ℕ} {t : Stage} {vs : Route} → Ending R from span t vs → (s : Stage) → NotWorse s t → Ending Q from span s (renamed rename vs)
+  pub ending-carries : {from span fifos : ℕ} {t : Stage} {vs : Route} → Ending R from span fifos t vs → (s : Stage) → NotWorse s t → Ending Q from span fifos s (renamed rename vs)
   unfolding renamed renamedVisit
-  ending-carries (ends {from = from} {span = span} {v = v} h) s d =
+  ending-carries (ends {from = from} {span = span} {fifos = fifos} {v = v} h) s d =
       let a = arrive-carries d from (v .cell) (h .reached .wired) in
       ends
       {span = span}
+      {fifos = fifos}
       {v = renamedVisit rename v}
       (record {
         reached = reached-carries d (h .reached);
         atSource = h .atSource ∙ k .source;
         code = ap rename (h .code) ∙ k .register;
-        closed = omega (arith, closing-carries a (v .cell), h .closed, k .bound span);
+        passed = h .passed ∙ k .fifos;
+        closed = omega (arith, closing-carries a (v .cell) (v .code) (register-closing (v .code) (h .code)), h .closed, k .bound span fifos);
       })
   ending-carries (passes {from = from} {v = v} h e) s d =
       passes
@@ -70,31 +81,34 @@ module _ {rename : ℕ → ℕ} {R Q : Rules} (k : Carries rename R Q) where
       })
       (ending-carries e _ (arrive-carries d from (v .cell) (h .reached .wired)))
   ending-carries (buffers {from = from} {v = v} h e) s d =
-      let f : Buffering (v .code) = record { someGate = h .someGate; noRegister = h .noRegister } in
+      let f : Buffering (v .code) = record { someGate = h .someGate; noClose = h .noClose } in
       let a = buffered-carries (arrive-carries d from (v .cell) (h .reached .wired)) (v .cell) (v .code) f (h .stands) in
       buffers
       {v = renamedVisit rename v}
       (record {
         reached = reached-carries d (h .reached);
         someGate = k .buffering (v .code) f .someGate;
-        noRegister = k .buffering (v .code) f .noRegister;
+        noClose = k .buffering (v .code) f .noClose;
         stands = k .stands (v .cell) (v .code) (h .stands);
         lightAfter = omega (arith, a .load, h .lightAfter, k .limit);
       })
       (ending-carries e _ a)
-  ending-carries (closes {from = from} {span = span} {v = v} h e) s d =
+  ending-carries (closes {from = from} {span = span} {fifos = fifos} {v = v} {vs = vs} h e) s d =
+      let same = close-kept (v .code) (h .code) in
       let a = arrive-carries d from (v .cell) (h .reached .wired) in
       closes
       {span = span}
+      {fifos = fifos}
       {v = renamedVisit rename v}
+      {vs = renamed rename vs}
       (record {
         reached = reached-carries d (h .reached);
-        code = ap rename (h .code) ∙ k .register;
+        code = rw same (h .code);
         stands = k .stands (v .cell) (v .code) (h .stands);
-        lightAfter = omega (arith, k .fresh .load, h .lightAfter, k .limit);
-        closed = omega (arith, closing-carries a (v .cell), h .closed, k .bound span);
+        lightAfter = rw same (omega (arith, k .fresh (v .code) (h .code) .load, h .lightAfter, k .limit));
+        closed = omega (arith, closing-carries a (v .cell) (v .code) (h .code), h .closed, k .bound span fifos);
       })
-      (ending-carries e _ (k .fresh))
+      (rw same (ending-carries e _ (k .fresh (v .code) (h .code))))
 
   pub legal-carries : (r : Route) → T (legal R r) → T (legal Q (renamed rename r))
   unfolding renamed renamedVisit
@@ -111,7 +125,7 @@ module _ {rename : ℕ → ℕ} {R Q : Rules} (k : Carries rename R Q) where
             inPlan = omega (arith, f .inPlan, k .cells, k .sink);
             light = omega (arith, f .light, k .start .load, k .limit);
           })
-          (subst (λ (c : ℕ). Ending Q c 0 (Q .start) (renamed rename vs)) (k .sink) (ending-carries e (Q .start) (k .start))))
+          (subst (λ (c : ℕ). Ending Q c 0 0 (Q .start) (renamed rename vs)) (k .sink) (ending-carries e (Q .start) (k .start))))
 
 -- No renaming
 
@@ -147,11 +161,13 @@ carries-self R =
       wires = λ a b h. wire-grows (R .wire a b);
       none = refl;
       register = refl;
+      fifo = refl;
       buffering = λ code f. f;
       stands = λ cell code h. h;
       buffers = λ cell code f h. buffer-grows (R .buffer code);
       start = stage-same (R .start);
-      fresh = stage-same (R .fresh);
-      closers = λ cell. driver-grows (R .closer cell);
-      bound = λ span. omega arith;
+      fresh = λ code h. stage-same (R .fresh code);
+      closers = λ cell code h. driver-grows (R .closer cell code);
+      fifos = refl;
+      bound = λ span fifos. omega arith;
     }

@@ -1,7 +1,7 @@
 -- "A chain of uncut wires" (document 02, C-13): under rules without loads and delays each is a legal route, no gate between its ends; and every legal route follows one.
 use Prim.Native.Nat.{ℕ, _<_}
 use mathlib.Core.List.{List, [], _∷_}
-use mathlib.Core.Path.{_≡_, refl}
+use mathlib.Core.Path.{_≡_, refl, sym}
 use native.Mathlib.Omega.{arith}
 use lib.Dec.{T, eqb→eq}
 use Rattle.timing.specs.Formulas.{wireLoad}
@@ -18,6 +18,7 @@ pub record Weightless (R : Rules) : Type 0 where
   pub timeless : Timeless R
   pub wires : (a b : ℕ) → wireLoad (R .wire a b) ≡ 0
   pub start : R .start .load ≡ 0
+  pub fifos : R .fifos ≡ 0
   pub inPlan : (a b : ℕ) → T (R .linked a b) → b < R .cellCount
   pub clear : (cell : ℕ) → T (mayStand R cell noGate)
 
@@ -45,9 +46,9 @@ module _ (R : Rules) (w : Weightless R) where
         delay = omega (arith, w .timeless .wires from to (s .load), h .delay);
       }
 
-  closes-soon : (span : ℕ) (s : Stage) (cell : ℕ) → Empty s → closing R s cell < R .bound span
+  closes-soon : (span fifos : ℕ) (s : Stage) (cell code : ℕ) → Empty s → closing R s cell code < R .bound span fifos
   unfolding closing
-  closes-soon span s cell h = omega (arith, w .timeless .closers cell (s .load), w .timeless .bound span, h .delay)
+  closes-soon span fifos s cell code h = omega (arith, w .timeless .closers cell code (s .load), w .timeless .bound span fifos, h .delay)
 
   reached : (from : ℕ) (s : Stage) (n : ℕ) (ns : List ℕ) → Empty s → T (chainFrom R from (n ∷ ns)) → Reached R from s n
   unfolding chainFrom
@@ -63,7 +64,7 @@ module _ (R : Rules) (w : Weightless R) where
   unfolding chainFrom
   closed n t = eqb→eq n (R .source) t
 
-  chain-ending : (from span : ℕ) (s : Stage) (n : ℕ) (ns : List ℕ) → Empty s → T (chainFrom R from (n ∷ ns)) → Ending R from span s (along (n ∷ ns))
+  chain-ending : (from span : ℕ) (s : Stage) (n : ℕ) (ns : List ℕ) → Empty s → T (chainFrom R from (n ∷ ns)) → Ending R from span 0 s (along (n ∷ ns))
   unfolding along
   chain-ending from span s n [] h t =
       ends
@@ -72,7 +73,8 @@ module _ (R : Rules) (w : Weightless R) where
         reached = reached from s n [] h t;
         atSource = closed n (rest from n [] t);
         code = refl;
-        closed = closes-soon span (arrive R from s n) n (arrives from s n h);
+        passed = sym (w .fifos);
+        closed = closes-soon span 0 (arrive R from s n) n registerCode (arrives from s n h);
       })
   chain-ending from span s n (m ∷ ns) h t =
       passes
@@ -107,7 +109,7 @@ at-source : (R : Rules) (cell : ℕ) → cell ≡ R .source → T (chainFrom R c
 unfolding chainFrom
 at-source R cell e = eq→eqb cell (R .source) e
 
-pub ending-chain : {R : Rules} {from span : ℕ} {s : Stage} {vs : Route} → Ending R from span s vs → T (chainFrom R from (cellsOf vs))
+pub ending-chain : {R : Rules} {from span fifos : ℕ} {s : Stage} {vs : Route} → Ending R from span fifos s vs → T (chainFrom R from (cellsOf vs))
 unfolding cellsOf
 ending-chain {R} (ends {v = v} h) = linked-chain (v .cell) [] (h .reached) (at-source R (v .cell) (h .atSource))
 ending-chain (passes {v = v} {vs = vs} h e) = linked-chain (v .cell) (cellsOf vs) (h .reached) (ending-chain e)

@@ -13,10 +13,10 @@ use Rattle.timing.specs.declared.elements.Elements.{Elements}
 use Rattle.timing.specs.Ranges.{buffersMax}
 use Rattle.timing.specs.Formulas.{registerDriver, registerLoad, setupDelay}
 use Rattle.timing.specs.Elements.{bufferOf}
-use Rattle.rules.specs.Rules.{Rules, noGate, registerCode, siteOf, wireBetween, rulesOf}
+use Rattle.rules.specs.Rules.{Rules, noGate, registerCode, fifoCode, isClosing, siteOf, wireBetween, rulesOf}
 use Rattle.rules.specs.Legal.{isEnd, mayStand}
 use Rattle.plan.proofs.Truth.{decided, split}
-use Rattle.rules.proofs.View.{may-stand, may-pass-end, stands-between, stands-site, not-end, not-sink, not-source}
+use Rattle.rules.proofs.View.{closing-codes, may-stand, may-pass-end, stands-between, stands-site, not-end, not-sink, not-source}
 
 -- The fields
 
@@ -61,21 +61,29 @@ module _ (p : Plan) (e : Elements) (from to : ℕ) where
   unfolding rulesOf
   rules-start-delay = refl
 
-  pub rules-fresh-load : rulesOf p e from to .fresh .load ≡ registerLoad (e .register)
+  pub rules-fresh-load : (code : ℕ) → rulesOf p e from to .fresh code .load ≡ registerLoad (e .register)
   unfolding rulesOf
-  rules-fresh-load = refl
+  rules-fresh-load code = refl
 
-  pub rules-fresh-delay : rulesOf p e from to .fresh .delay ≡ setupDelay (e .register)
+  pub rules-fresh-delay : (code : ℕ) → rulesOf p e from to .fresh code .delay ≡ setupDelay (e .register)
   unfolding rulesOf
-  rules-fresh-delay = refl
+  rules-fresh-delay code = refl
 
-  pub rules-closer : (cell : ℕ) → rulesOf p e from to .closer cell ≡ registerDriver (e .register)
+  pub rules-closer : (cell code : ℕ) → rulesOf p e from to .closer cell code ≡ registerDriver (e .register)
   unfolding rulesOf
-  rules-closer cell = refl
+  rules-closer cell code = refl
 
-  pub rules-bound : (span : ℕ) → rulesOf p e from to .bound span ≡ 2 * e .period + 1
+  pub rules-bound : (span fifos : ℕ) → rulesOf p e from to .bound span fifos ≡ 2 * e .period + 1
   unfolding rulesOf
-  rules-bound span = refl
+  rules-bound span fifos = refl
+
+  pub rules-fifos : rulesOf p e from to .fifos ≡ 0
+  unfolding rulesOf
+  rules-fifos = refl
+
+  pub rules-weight : (fifos : ℕ) → rulesOf p e from to .weight fifos ≡ 1
+  unfolding rulesOf
+  rules-weight fifos = refl
 
 -- Which gate may stand on a cell that is no end's: every code is in one of these four cases.
 
@@ -165,3 +173,11 @@ module _ (p : Plan) (e : Elements) (from to cell : ℕ) where
   unfolding rulesOf
   register-stands k h =
       may-stand R cell registerCode (not-end R cell (h .notSink) (h .notSource)) (rw (site-register p e cell k) (h .tapped))
+
+  -- the only gate that closes a span is the register
+  pub closing-register : (code : ℕ) → e .count ≤ buffersMax → T (isClosing code) → T (mayStand (rulesOf p e from to) cell code) → code ≡ registerCode
+  closing-register code k c h = go (closing-codes code c)
+    where
+      go : (code ≡ registerCode) ⊎ (code ≡ fifoCode) → code ≡ registerCode
+      go (inl q) = q
+      go (inr q) = absurd (omega (arith, k, buffer-site code (λ z. omega arith) (λ z. omega arith) h .listed))

@@ -14,16 +14,16 @@ use Rattle.rules.proofs.Beginning.{legal-split}
 use Rattle.rules.proofs.View.{Ending, ending-view, ending-test}
 use Rattle.rules.proofs.Carrying.{renamed-id, ending-carries, carries-self}
 
--- the two stages are those after the last visit of each beginning, to `cell`, with `span` closed spans behind it
-pub dominance : (R : Rules) (cell span : ℕ) (s t : Stage) → NoLater s t → (vs : Route) → T (legalFrom R cell span t vs) → T (legalFrom R cell span s vs)
-dominance R cell span s t d vs h =
+-- the two stages are those after the last visit of each beginning, to `cell`, with `span` closed spans and `fifos` FIFOs behind it
+pub dominance : (R : Rules) (cell span fifos : ℕ) (s t : Stage) → NoLater s t → (vs : Route) → T (legalFrom R cell span fifos t vs) → T (legalFrom R cell span fifos s vs)
+dominance R cell span fifos s t d vs h =
     let better : NotWorse s t = record { load = omega (arith, d .load); delay = d .delay } in
-    let e = ending-carries (carries-self R) (ending-view R cell span t vs h) s better in
-    ending-test (subst (Ending R cell span s) (renamed-id vs) e)
+    let e = ending-carries (carries-self R) (ending-view R cell span fifos t vs h) s better in
+    ending-test (subst (Ending R cell span fifos s) (renamed-id vs) e)
 
 -- The same of whole routes: `v ∷ b` and `w ∷ c` are the beginnings, `x ∷ e` is the ending.
 pub dominance-of-beginnings : (R : Rules) (v w : Visit) (b c : Route) → T (begins R v b) → Dominates (placeAfter R v b) (placeAfter R w c) → (x : Visit) (e : Route) → T (legal R (w ∷ (c ++ (x ∷ e)))) → T (legal R (v ∷ (b ++ (x ∷ e))))
 dominance-of-beginnings R v w b c k d x e h =
-    let rest : T (legalFrom R (placeAfter R w c .cell) (placeAfter R w c .span) (placeAfter R w c .stage) (x ∷ e)) = snd (begins R w c) _ (rw (legal-split R w c x e) at h) in
-    let same : T (legalFrom R (placeAfter R v b .cell) (placeAfter R v b .span) (placeAfter R w c .stage) (x ∷ e)) = rw (d .cell, d .span) rest in
-    rw (legal-split R v b x e) (both (begins R v b) _ k (dominance R _ _ _ _ (d .stage) (x ∷ e) same))
+    let rest : T (legalFrom R (placeAfter R w c .cell) (placeAfter R w c .span) (placeAfter R w c .fifos) (placeAfter R w c .stage) (x ∷ e)) = snd (begins R w c) _ (rw (legal-split R w c x e) at h) in
+    let same : T (legalFrom R (placeAfter R v b .cell) (placeAfter R v b .span) (placeAfter R v b .fifos) (placeAfter R w c .stage) (x ∷ e)) = rw (d .cell, d .span, d .fifos) rest in
+    rw (legal-split R v b x e) (both (begins R v b) _ k (dominance R _ _ _ _ _ (d .stage) (x ∷ e) same))

@@ -34,10 +34,10 @@ module _ (p : Plan) (e : Elements) (from to : ℕ) where
       record {
         wires = λ a b load. wire (horizontal p a b) load;
         buffers = λ code load. rw (buffer-at loads (e .buffers) (code - 1)) (buffer-quick loads (bufferAt e (code - 1)) load);
-        closers = λ cell load. omega arith;
+        closers = λ cell code load. omega arith;
         start = refl;
-        fresh = refl;
-        bound = λ span. omega arith;
+        fresh = λ code. refl;
+        bound = λ span fifos. omega arith;
       }
     where
       wire : (across : Bool) (load : ℕ) → wireDelay (cond across (relaxedWire loads (e .horizontal)) (relaxedWire loads (e .vertical))) load ≡ 0
@@ -59,7 +59,8 @@ module _ (p : Plan) (e : Elements) (from to : ℕ) where
         wires = λ a b. wire (horizontal p a b);
         buffers = λ code. rw (buffer-at true (e .buffers) (code - 1)) (sym (buffer-load true (bufferAt e (code - 1))));
         start = refl;
-        fresh = refl;
+        fresh = λ code. refl;
+        fifos = refl;
       }
     where
       wire : (across : Bool) → wireLoad (cond across (e .horizontal) (e .vertical)) ≡ wireLoad (cond across (relaxedWire true (e .horizontal)) (relaxedWire true (e .vertical)))
@@ -79,7 +80,8 @@ module _ (p : Plan) (e : Elements) (from to : ℕ) where
         wires = λ a b. refl;
         buffers = λ code. refl;
         start = refl;
-        fresh = refl;
+        fresh = λ code. refl;
+        fifos = refl;
       }
 
   pub fits-untimed : (r : Route) → fits (rulesOf p e from to) r ≡ legal (rulesOf p (relaxed true e) from to) r
@@ -108,6 +110,7 @@ module _ (p : Plan) (e : Elements) (from to : ℕ) where
         timeless = relaxed-timeless false;
         wires = λ a b. wire (horizontal p a b);
         start = refl;
+        fifos = refl;
         inPlan = λ a b h. joined-in p a b h .1;
         clear = no-gate-stands p (relaxed false e) from to;
       }

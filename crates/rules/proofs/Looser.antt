@@ -47,13 +47,15 @@ looser-carries p {d} {e} from to k =
       wires = λ a b h. wire (horizontal p a b);
       none = refl;
       register = refl;
+      fifo = refl;
       buffering = λ code f. f;
       stands = λ cell code h. rw (sym (k .count)) h;
       buffers = λ cell code f h. k .buffers (code - 1);
       start = record { load = k .load; delay = k .setup };
-      fresh = record { load = k .load; delay = k .setup };
-      closers = λ cell. k .driver;
-      bound = λ span. omega (arith, k .period);
+      fresh = λ code h. record { load = k .load; delay = k .setup };
+      closers = λ cell code h. k .driver;
+      fifos = refl;
+      bound = λ span fifos. omega (arith, k .period);
     }
   where
     wire : (across : Bool) → NotWorseWire (cond across (e .horizontal) (e .vertical)) (cond across (d .horizontal) (d .vertical))

@@ -8,7 +8,7 @@ use borrow.Author.Tests.{lt-ltb}
 use lib.Dec.{T, eqb, leb, ltb}
 use Rattle.timing.specs.Formulas.{wireDelay, wireLoad, gateDelay, bufferDriver, bufferLoad}
 use Rattle.plan.proofs.Truth.{both, parts}
-use Rattle.rules.specs.Rules.{Stage, Rules, noGate, registerCode}
+use Rattle.rules.specs.Rules.{Stage, Rules, noGate, registerCode, isClosing, sideAfter}
 use Rattle.rules.specs.Legal.{Visit, Route, arrive, buffered, leave, closing, inTime, isEnd, mayStand, isLast, cellRight, wireRight, codeRight, loadRight, periodRight, visitRight, spanAfter, legalFrom, firstRight, legal}
 use Rattle.rules.specs.Beginning.{Place, nextPlace, startPlace}
 use Rattle.rules.specs.Relaxed.{visitFits, fitsFrom, fits}
@@ -19,13 +19,13 @@ either : (a b c : Bool) → (T b → T c) → T (a || b) → T (a || c)
 either true b c f h = tt
 either false b c f h = f h
 
-from-fitting : (R : Rules) (a : Place) (vs : Route) → T (legalFrom R (a .cell) (a .span) (a .stage) vs) → T (fitsFrom R a vs)
+from-fitting : (R : Rules) (a : Place) (vs : Route) → T (legalFrom R (a .cell) (a .span) (a .fifos) (a .stage) vs) → T (fitsFrom R a vs)
 unfolding legalFrom fitsFrom nextPlace visitRight visitFits
 from-fitting R a [] h = absurd h
 from-fitting R a (v ∷ vs) h =
     let s = arrive R (a .cell) (a .stage) (v .cell) in
     let next = nextPlace R a v in
-    both (visitFits R (a .cell) s (isLast vs) v) _ (search parts) (either (isLast vs) (legalFrom R (next .cell) (next .span) (next .stage) vs) _ (from-fitting R next vs) (search parts))
+    both (visitFits R (a .cell) (a .fifos) s (isLast vs) v) _ (search parts) (either (isLast vs) (legalFrom R (next .cell) (next .span) (next .fifos) (next .stage) vs) _ (from-fitting R next vs) (search parts))
 
 pub legal-fitting : (R : Rules) (r : Route) → T (legal R r) → T (fits R r)
 unfolding legal fits startPlace
@@ -36,10 +36,10 @@ legal-fitting R (v ∷ vs) h = both (firstRight R v) _ (search parts) (from-fitt
 pub record Timeless (R : Rules) : Type 0 where
   pub wires : (a b load : ℕ) → wireDelay (R .wire a b) load ≡ 0
   pub buffers : (code load : ℕ) → gateDelay (bufferDriver (R .buffer code)) load ≡ 0
-  pub closers : (cell load : ℕ) → gateDelay (R .closer cell) load ≡ 0
+  pub closers : (cell code load : ℕ) → gateDelay (R .closer cell code) load ≡ 0
   pub start : R .start .delay ≡ 0
-  pub fresh : R .fresh .delay ≡ 0
-  pub bound : (span : ℕ) → 0 < R .bound span
+  pub fresh : (code : ℕ) → R .fresh code .delay ≡ 0
+  pub bound : (span fifos : ℕ) → 0 < R .bound span fifos
 
 module _ (R : Rules) (q : Timeless R) where
   arrive-quick : (from : ℕ) (s : Stage) (to : ℕ) → s .delay ≡ 0 → arrive R from s to .delay ≡ 0
@@ -48,26 +48,26 @@ module _ (R : Rules) (q : Timeless R) where
 
   leave-quick : (s : Stage) (code : ℕ) → s .delay ≡ 0 → leave R s code .delay ≡ 0
   unfolding leave buffered
-  leave-quick s code h = go (eqb code noGate) (eqb code registerCode)
+  leave-quick s code h = go (eqb code noGate) (isClosing code)
     where
-      go : (none register : Bool) → cond {A = Stage} none s (cond {A = Stage} register (R .fresh) (buffered R s code)) .delay ≡ 0
-      go true register = h
-      go false true = q .fresh
+      go : (none closing : Bool) → cond {A = Stage} none s (cond {A = Stage} closing (R .fresh code) (buffered R s code)) .delay ≡ 0
+      go true closing = h
+      go false true = q .fresh code
       go false false = omega (arith, h, q .buffers code (s .load))
 
-  period-passes : (span : ℕ) (s : Stage) (v : Visit) → s .delay ≡ 0 → periodRight R span s v ≡ true
+  period-passes : (span fifos : ℕ) (s : Stage) (v : Visit) → s .delay ≡ 0 → periodRight R span fifos s v ≡ true
   unfolding periodRight inTime closing
-  period-passes span s v h = go (eqb (v .code) registerCode)
+  period-passes span fifos s v h = go (isClosing (v .code))
     where
-      go : (register : Bool) → cond register (ltb (s .delay + gateDelay (R .closer (v .cell)) (s .load)) (R .bound span)) true ≡ true
-      go true = lt-ltb (s .delay + gateDelay (R .closer (v .cell)) (s .load)) (R .bound span) (omega (arith, h, q .closers (v .cell) (s .load), q .bound span))
+      go : (closing : Bool) → cond closing (ltb (s .delay + gateDelay (R .closer (v .cell) (v .code)) (s .load)) (R .bound span fifos)) true ≡ true
+      go true = lt-ltb (s .delay + gateDelay (R .closer (v .cell) (v .code)) (s .load)) (R .bound span fifos) (omega (arith, h, q .closers (v .cell) (v .code) (s .load), q .bound span fifos))
       go false = refl
 
-  visit-fits : (from span : ℕ) (s : Stage) (last : Bool) (v : Visit) → s .delay ≡ 0 → visitRight R from span s last v ≡ visitFits R from s last v
+  visit-fits : (from span fifos : ℕ) (s : Stage) (last : Bool) (v : Visit) → s .delay ≡ 0 → visitRight R from span fifos s last v ≡ visitFits R from fifos s last v
   unfolding visitRight visitFits
-  visit-fits from span s last v h = simp (period-passes span s v h, and-true)
+  visit-fits from span fifos s last v h = simp (period-passes span fifos s v h, and-true)
 
-  from-fits : (a : Place) (vs : Route) → a .stage .delay ≡ 0 → legalFrom R (a .cell) (a .span) (a .stage) vs ≡ fitsFrom R a vs
+  from-fits : (a : Place) (vs : Route) → a .stage .delay ≡ 0 → legalFrom R (a .cell) (a .span) (a .fifos) (a .stage) vs ≡ fitsFrom R a vs
   unfolding legalFrom fitsFrom nextPlace
   from-fits a [] h = refl
   from-fits a (v ∷ vs) h =
@@ -75,7 +75,7 @@ module _ (R : Rules) (q : Timeless R) where
       let z = arrive-quick (a .cell) (a .stage) (v .cell) h in
       ap₂
       (λ (now later : Bool). now && (isLast vs || later))
-      (visit-fits (a .cell) (a .span) s (isLast vs) v z)
+      (visit-fits (a .cell) (a .span) (a .fifos) s (isLast vs) v z)
       (from-fits (nextPlace R a v) vs (leave-quick s (v .code) z))
 
   pub legal-fits : (r : Route) → legal R r ≡ fits R r
@@ -94,7 +94,8 @@ pub record SameLoads (R Q : Rules) : Type 0 where
   pub wires : (a b : ℕ) → wireLoad (R .wire a b) ≡ wireLoad (Q .wire a b)
   pub buffers : (code : ℕ) → bufferLoad (R .buffer code) ≡ bufferLoad (Q .buffer code)
   pub start : R .start .load ≡ Q .start .load
-  pub fresh : R .fresh .load ≡ Q .fresh .load
+  pub fresh : (code : ℕ) → R .fresh code .load ≡ Q .fresh code .load
+  pub fifos : R .fifos ≡ Q .fifos
 
 module _ {R Q : Rules} (e : SameLoads R Q) where
   arrive-alike : (from : ℕ) (s t : Stage) (to : ℕ) → s .load ≡ t .load → arrive R from s to .load ≡ arrive Q from t to .load
@@ -103,37 +104,37 @@ module _ {R Q : Rules} (e : SameLoads R Q) where
 
   leave-alike : (s t : Stage) (code : ℕ) → s .load ≡ t .load → leave R s code .load ≡ leave Q t code .load
   unfolding leave buffered
-  leave-alike s t code h = go (eqb code noGate) (eqb code registerCode)
+  leave-alike s t code h = go (eqb code noGate) (isClosing code)
     where
-      go : (none register : Bool) → cond {A = Stage} none s (cond {A = Stage} register (R .fresh) (buffered R s code)) .load ≡ cond {A = Stage} none t (cond {A = Stage} register (Q .fresh) (buffered Q t code)) .load
-      go true register = h
-      go false true = e .fresh
+      go : (none closing : Bool) → cond {A = Stage} none s (cond {A = Stage} closing (R .fresh code) (buffered R s code)) .load ≡ cond {A = Stage} none t (cond {A = Stage} closing (Q .fresh code) (buffered Q t code)) .load
+      go true closing = h
+      go false true = e .fresh code
       go false false = e .buffers code
 
   stand-alike : (cell code : ℕ) → mayStand R cell code ≡ mayStand Q cell code
   unfolding mayStand isEnd
   stand-alike cell code = λ i. cond (eqb cell (e .sink i) || eqb cell (e .source i)) (eqb code noGate) (e .site cell code i)
 
-  visit-alike : (from : ℕ) (s t : Stage) (last : Bool) (v : Visit) → s .load ≡ t .load → visitFits R from s last v ≡ visitFits Q from t last v
+  visit-alike : (from fifos : ℕ) (s t : Stage) (last : Bool) (v : Visit) → s .load ≡ t .load → visitFits R from fifos s last v ≡ visitFits Q from fifos t last v
   unfolding visitFits cellRight wireRight codeRight loadRight
-  visit-alike from s t last v h =
+  visit-alike from fifos s t last v h =
       λ i.
       (ltb (v .cell) (e .cells i) && cond last (eqb (v .cell) (e .source i)) true)
       && e .linked from (v .cell) i
-      && cond last (eqb (v .code) registerCode) (stand-alike (v .cell) (v .code) i)
+      && cond last (eqb (v .code) registerCode && eqb fifos (e .fifos i)) (stand-alike (v .cell) (v .code) i)
       && (leb (h i) (e .limit i) && (last || leb (leave-alike s t (v .code) h i) (e .limit i)))
 
-  from-alike : (cell span : ℕ) (s t : Stage) (vs : Route) → s .load ≡ t .load → fitsFrom R (record { cell = cell; span = span; stage = s }) vs ≡ fitsFrom Q (record { cell = cell; span = span; stage = t }) vs
+  from-alike : (cell span fifos : ℕ) (s t : Stage) (vs : Route) → s .load ≡ t .load → fitsFrom R (record { cell = cell; span = span; fifos = fifos; stage = s }) vs ≡ fitsFrom Q (record { cell = cell; span = span; fifos = fifos; stage = t }) vs
   unfolding fitsFrom nextPlace
-  from-alike cell span s t [] h = refl
-  from-alike cell span s t (v ∷ vs) h =
+  from-alike cell span fifos s t [] h = refl
+  from-alike cell span fifos s t (v ∷ vs) h =
       let a = arrive R cell s (v .cell) in
       let b = arrive Q cell t (v .cell) in
       let k : a .load ≡ b .load = arrive-alike cell s t (v .cell) h in
       ap₂
       (λ (now later : Bool). now && (isLast vs || later))
-      (visit-alike cell a b (isLast vs) v k)
-      (from-alike (v .cell) (spanAfter span v) (leave R a (v .code)) (leave Q b (v .code)) vs (leave-alike a b (v .code) k))
+      (visit-alike cell fifos a b (isLast vs) v k)
+      (from-alike (v .cell) (spanAfter span v) (sideAfter fifos (v .code)) (leave R a (v .code)) (leave Q b (v .code)) vs (leave-alike a b (v .code) k))
 
   pub fits-alike : (r : Route) → fits R r ≡ fits Q r
   unfolding fits firstRight startPlace
@@ -142,4 +143,4 @@ module _ {R Q : Rules} (e : SameLoads R Q) where
       ap₂
       _&&_
       (λ i. eqb (v .cell) (e .sink i) && ltb (v .cell) (e .cells i) && eqb (v .code) registerCode && leb (e .start i) (e .limit i))
-      (from-alike (v .cell) 0 (R .start) (Q .start) vs (e .start))
+      (from-alike (v .cell) 0 0 (R .start) (Q .start) vs (e .start))

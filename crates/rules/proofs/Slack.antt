@@ -1,33 +1,33 @@
 -- Laws of the spare figure: one visit more, its sign, and that the route's figure is the smallest of its spans'.
-use Prim.Native.Nat.{ℕ, zero, suc, _+_, _*_, _-_, _≤_, _<_}
+use Prim.Native.Nat.{ℕ, zero, suc, _+_, _-_, _≤_, _<_}
 use mathlib.Core.Bool.{Bool, true, false, cond}
 use mathlib.Core.List.{List, [], _∷_, _++_}
 use mathlib.Core.Logic.{_⊎_, inl, inr}
 use mathlib.Core.Path.{_≡_, refl, sym, ap, _∙_, subst}
 use native.Mathlib.Omega.{arith}
-use lib.Dec.{T, eqb, ltb}
+use lib.Dec.{T, ltb}
 use lib.IntN.{ℤ, pos}
 use lib.ListN.{length, getD}
 use lib.Signed.{leZ, _≤ℤ_, leZ-yes, ≤ℤ-refl}
 use Rattle.plan.specs.Plan.{Plan}
 use Rattle.timing.specs.declared.elements.Elements.{Elements}
 use Rattle.timing.specs.Valid.{Valid}
-use Rattle.timing.specs.Slack.{slackMost, slackOf, smaller}
+use Rattle.timing.specs.Slack.{slackMost, smaller}
 use Rattle.plan.proofs.Truth.{parts}
 use Rattle.timing.proofs.SlackLaws.{slack-below, slack-most, le-trans, le-antisym, smaller-left, smaller-right, smaller-either}
-use Rattle.rules.specs.Rules.{Rules, registerCode, rulesOf}
-use Rattle.rules.specs.Legal.{Visit, Route, arrive, closing, inTime, isLast, periodRight, visitRight, legalFrom, legal}
-use Rattle.rules.specs.Ranking.{codeSevens, registers}
+use Rattle.rules.specs.Rules.{Rules, isClosing, rulesOf}
+use Rattle.rules.specs.Legal.{Visit, Route, arrive, inTime, isLast, periodRight, visitRight, legalFrom, legal}
+use Rattle.rules.specs.Ranking.{registers}
 use Rattle.rules.specs.Beginning.{Place, nextPlace, startPlace}
 use Rattle.rules.specs.Slack.{slackAt, slacksFrom, slacks, leastFrom, slackAfter, leastSlack, Smallest}
 use Rattle.rules.proofs.View.{LegalRoute, starts, route-view}
-use Rattle.rules.proofs.Figures.{ending-sevens, route-registers}
+use Rattle.rules.proofs.Figures.{closings, route-closings}
 use Rattle.rules.proofs.Document01.{rules-bound}
 
 -- one visit more
 pub least-next : (R : Rules) (a : Place) (least : ℤ) (v : Visit) (vs : Route) → leastFrom least (slacksFrom R a (v ∷ vs)) ≡ leastFrom (slackAfter R a least v) (slacksFrom R (nextPlace R a v) vs)
 unfolding slacksFrom slackAfter leastFrom
-least-next R a least v vs = go (eqb (v .code) registerCode)
+least-next R a least v vs = go (isClosing (v .code))
   where
     go : (b : Bool) → leastFrom least (cond b (slackAt R a v ∷ []) [] ++ slacksFrom R (nextPlace R a v) vs) ≡ leastFrom (cond b (smaller least (slackAt R a v)) least) (slacksFrom R (nextPlace R a v) vs)
     go true = refl
@@ -38,11 +38,11 @@ unfolding slacksFrom leastFrom
 least-none R a least = refl
 
 -- "zero when it just fits, below zero by the miss": the sign is the period test
-pub slack-in-time : (R : Rules) (a : Place) (v : Visit) → 0 < R .bound (a .span) → leZ (pos 0) (slackAt R a v) ≡ inTime R (a .span) (arrive R (a .cell) (a .stage) (v .cell)) (v .cell)
+pub slack-in-time : (R : Rules) (a : Place) (v : Visit) → 0 < R .bound (a .span) (a .fifos) → leZ (pos 0) (slackAt R a v) ≡ inTime R (a .span) (a .fifos) (arrive R (a .cell) (a .stage) (v .cell)) v
 unfolding slackAt inTime
 slack-in-time R a v h = slack-below _ _ ∙ ap (ltb _) whole
   where
-    whole : R .bound (a .span) - 1 + 1 ≡ R .bound (a .span)
+    whole : R .bound (a .span) (a .fifos) - 1 + 1 ≡ R .bound (a .span) (a .fifos)
     whole = omega arith
 
 -- The smallest of a list of figures, none above the start
@@ -87,34 +87,34 @@ least-smallest zs h most = go (least-is slackMost zs)
     go (inl e) =
         made (record { place = 0; inList = h; has = le-antisym (subst (λ (z : ℤ). getD zs 0 slackMost ≤ℤ z) (sym e) (most 0 h)) (least-at slackMost zs 0 h) })
 
--- each visit with a register's code closes a span
-slacks-sevens : (R : Rules) (a : Place) (vs : Route) → length (slacksFrom R a vs) ≡ codeSevens vs
-unfolding slacksFrom codeSevens
-slacks-sevens R a [] = refl
-slacks-sevens R a (v ∷ vs) = go (eqb (v .code) registerCode) (slacks-sevens R (nextPlace R a v) vs)
+-- each visit that closes a span has a figure
+slacks-closings : (R : Rules) (a : Place) (vs : Route) → length (slacksFrom R a vs) ≡ closings vs
+unfolding slacksFrom closings
+slacks-closings R a [] = refl
+slacks-closings R a (v ∷ vs) = go (isClosing (v .code)) (slacks-closings R (nextPlace R a v) vs)
   where
-    go : (b : Bool) → length (slacksFrom R (nextPlace R a v) vs) ≡ codeSevens vs → length (cond b (slackAt R a v ∷ []) [] ++ slacksFrom R (nextPlace R a v) vs) ≡ cond b 1 0 + codeSevens vs
+    go : (b : Bool) → length (slacksFrom R (nextPlace R a v) vs) ≡ closings vs → length (cond b (slackAt R a v ∷ []) [] ++ slacksFrom R (nextPlace R a v) vs) ≡ cond b 1 0 + closings vs
     go true rest = omega arith
     go false rest = omega arith
 
--- "Registers counted exclude both ends": a legal route has one span more
-pub slacks-count : (R : Rules) (r : Route) → T (legal R r) → length (slacks R r) ≡ registers r + 1
+-- "Registers counted exclude both ends": a legal route has one span more, and one more for each FIFO
+pub slacks-count : (R : Rules) (r : Route) → T (legal R r) → length (slacks R r) ≡ registers r + 1 + R .fifos
 unfolding slacks
 slacks-count R r h = go (route-view R r h)
   where
-    go : {r : Route} → LegalRoute R r → length (slacks R r) ≡ registers r + 1
-    go (starts {v} {vs} f e) = omega (arith, slacks-sevens R (startPlace R v) vs, ending-sevens e, route-registers f e)
+    go : {r : Route} → LegalRoute R r → length (slacks R r) ≡ registers r + 1 + R .fifos
+    go (starts {v} {vs} f e) = omega (arith, slacks-closings R (startPlace R v) vs, route-closings f e)
 
 -- No bound is above 2 · 30,000 + 1: no figure is above the start
 
-at-most : (R : Rules) (a : Place) (v : Visit) → ((k : ℕ) → R .bound k ≤ 60001) → slackAt R a v ≤ℤ slackMost
+at-most : (R : Rules) (a : Place) (v : Visit) → ((k f : ℕ) → R .bound k f ≤ 60001) → slackAt R a v ≤ℤ slackMost
 unfolding slackAt
-at-most R a v low = slack-most (R .bound (a .span) - 1) _ 60000 (omega (arith, low (a .span)))
+at-most R a v low = slack-most (R .bound (a .span) (a .fifos) - 1) _ 60000 (omega (arith, low (a .span) (a .fifos)))
 
-figures-most : (R : Rules) → ((k : ℕ) → R .bound k ≤ 60001) → (a : Place) (vs : Route) (i : ℕ) → i < length (slacksFrom R a vs) → getD (slacksFrom R a vs) i slackMost ≤ℤ slackMost
+figures-most : (R : Rules) → ((k f : ℕ) → R .bound k f ≤ 60001) → (a : Place) (vs : Route) (i : ℕ) → i < length (slacksFrom R a vs) → getD (slacksFrom R a vs) i slackMost ≤ℤ slackMost
 unfolding slacksFrom
 figures-most R low a [] i h = absurd (omega arith)
-figures-most R low a (v ∷ vs) i h = go (eqb (v .code) registerCode) i h (figures-most R low (nextPlace R a v) vs)
+figures-most R low a (v ∷ vs) i h = go (isClosing (v .code)) i h (figures-most R low (nextPlace R a v) vs)
   where
     zs : List ℤ
     zs = slacksFrom R (nextPlace R a v) vs
@@ -129,14 +129,14 @@ pub slack-smallest : (p : Plan) (e : Elements) (from to : ℕ) (r : Route) → V
 unfolding leastSlack slacks legal
 slack-smallest p e from to [] valid h = absurd h
 slack-smallest p e from to (v ∷ vs) valid h =
-    least-smallest (slacksFrom R (startPlace R v) vs) (omega (arith, slacks-count R (v ∷ vs) h)) (figures-most R (λ k. rw (rules-bound p e from to k) (omega (arith, valid .most))) (startPlace R v) vs)
+    least-smallest (slacksFrom R (startPlace R v) vs) (omega (arith, slacks-count R (v ∷ vs) h)) (figures-most R (λ k f. rw (rules-bound p e from to k f) (omega (arith, valid .most))) (startPlace R v) vs)
   where
     R : Rules
     R = rulesOf p e from to
 
 -- A legal route's spans close in time: none of its figures is below zero.
 
-own-natural : (R : Rules) (a : Place) (v : Visit) → 0 < R .bound (a .span) → T (periodRight R (a .span) (arrive R (a .cell) (a .stage) (v .cell)) v) → eqb (v .code) registerCode ≡ true → pos 0 ≤ℤ slackAt R a v
+own-natural : (R : Rules) (a : Place) (v : Visit) → 0 < R .bound (a .span) (a .fifos) → T (periodRight R (a .span) (a .fifos) (arrive R (a .cell) (a .stage) (v .cell)) v) → isClosing (v .code) ≡ true → pos 0 ≤ℤ slackAt R a v
 unfolding periodRight
 own-natural R a v some h e = leZ-yes (rw (slack-in-time R a v some) (rw e at h))
 
@@ -146,16 +146,16 @@ more-natural true z zs own rest zero h = own refl
 more-natural true z zs own rest (suc i) h = rest i (omega arith)
 more-natural false z zs own rest i h = rest i h
 
-figures-natural : (R : Rules) → ((k : ℕ) → 0 < R .bound k) → (a : Place) (vs : Route) → T (legalFrom R (a .cell) (a .span) (a .stage) vs) → (i : ℕ) → i < length (slacksFrom R a vs) → pos 0 ≤ℤ getD (slacksFrom R a vs) i slackMost
+figures-natural : (R : Rules) → ((k f : ℕ) → 0 < R .bound k f) → (a : Place) (vs : Route) → T (legalFrom R (a .cell) (a .span) (a .fifos) (a .stage) vs) → (i : ℕ) → i < length (slacksFrom R a vs) → pos 0 ≤ℤ getD (slacksFrom R a vs) i slackMost
 unfolding slacksFrom legalFrom visitRight isLast nextPlace
 figures-natural R some a [] h i k = absurd h
 figures-natural R some a (v ∷ []) h i k =
-    more-natural (eqb (v .code) registerCode) (slackAt R a v) [] (own-natural R a v (some (a .span)) (search parts)) (λ j l. absurd (omega arith)) i k
+    more-natural (isClosing (v .code)) (slackAt R a v) [] (own-natural R a v (some (a .span) (a .fifos)) (search parts)) (λ j l. absurd (omega arith)) i k
 figures-natural R some a (v ∷ w ∷ vs) h i k =
-    more-natural (eqb (v .code) registerCode) (slackAt R a v) (slacksFrom R (nextPlace R a v) (w ∷ vs)) (own-natural R a v (some (a .span)) (search parts)) (figures-natural R some (nextPlace R a v) (w ∷ vs) (search parts)) i k
+    more-natural (isClosing (v .code)) (slackAt R a v) (slacksFrom R (nextPlace R a v) (w ∷ vs)) (own-natural R a v (some (a .span) (a .fifos)) (search parts)) (figures-natural R some (nextPlace R a v) (w ∷ vs) (search parts)) i k
 
 pub slack-natural : (p : Plan) (e : Elements) (from to : ℕ) (r : Route) → T (legal (rulesOf p e from to) r) → (i : ℕ) → i < length (slacks (rulesOf p e from to) r) → pos 0 ≤ℤ getD (slacks (rulesOf p e from to) r) i slackMost
 unfolding slacks legal startPlace
 slack-natural p e from to [] h = absurd h
 slack-natural p e from to (v ∷ vs) h =
-    figures-natural (rulesOf p e from to) (λ k. rw (rules-bound p e from to k) (omega arith)) (startPlace (rulesOf p e from to) v) vs (search parts)
+    figures-natural (rulesOf p e from to) (λ k f. rw (rules-bound p e from to k f) (omega arith)) (startPlace (rulesOf p e from to) v) vs (search parts)

@@ -2,36 +2,81 @@
 use Prim.Native.Nat.{ℕ, suc, _≤_, _<_}
 use mathlib.Core.Bool.{not}
 use mathlib.Core.List.{[], _∷_}
-use mathlib.Core.Path.{_≡_, subst₂}
+use mathlib.Core.Path.{_≡_, refl, subst, subst₂}
 use mathlib.Core.Logic.{_⊎_, inl, inr}
 use native.Mathlib.Omega.{arith}
 use borrow.Author.Tests.{eq-eqb, ne-eqb}
 use lib.Dec.{T, eqb, ltb, leb→le, le→leb, ltb→lt, lt→ltb, eqb→eq, T-not, not-T}
-use Rattle.rules.specs.Rules.{Stage, Rules, noGate, registerCode}
+use Rattle.rules.specs.Rules.{Stage, Rules, noGate, registerCode, fifoCode, isClosing, sideAfter}
 use Rattle.rules.specs.Legal.{Visit, Route, arrive, buffered, leave, closing, inTime, isEnd, mayStand, isLast, cellRight, wireRight, codeRight, loadRight, periodRight, visitRight, spanAfter, legalFrom, firstRight, legal}
-use Rattle.plan.proofs.Truth.{both, parts, or-right, is-true, is-false, eq→eqb, equal}
+use Rattle.plan.proofs.Truth.{both, parts, or-left, or-right, or-cases, is-true, is-false, decided, eq→eqb, equal}
 
--- What a gate leaves, and the span after it, by the gate's code
+-- The codes that close a span
+
+pub closing-codes : (code : ℕ) → T (isClosing code) → (code ≡ registerCode) ⊎ (code ≡ fifoCode)
+unfolding isClosing
+closing-codes code h = go (or-cases (eqb code registerCode) _ h)
+  where
+    go : T (eqb code registerCode) ⊎ T (eqb code fifoCode) → (code ≡ registerCode) ⊎ (code ≡ fifoCode)
+    go (inl q) = inl (eqb→eq _ _ q)
+    go (inr q) = inr (eqb→eq _ _ q)
+
+pub register-closing : (code : ℕ) → code ≡ registerCode → T (isClosing code)
+unfolding isClosing
+register-closing code e = or-left (eqb code registerCode) _ (eq→eqb _ _ e)
+
+pub fifo-closing : (code : ℕ) → code ≡ fifoCode → T (isClosing code)
+unfolding isClosing
+fifo-closing code e = or-right (eqb code registerCode) _ (eq→eqb _ _ e)
+
+pub closing-some : (code : ℕ) → T (isClosing code) → code ≡ noGate → ⊥
+closing-some code h e = go (closing-codes code h)
+  where
+    go : (code ≡ registerCode) ⊎ (code ≡ fifoCode) → ⊥
+    go (inl q) = omega arith
+    go (inr q) = omega arith
+
+-- What a gate leaves, and the span and the side after it, by the gate's code
 
 pub leave-none : (R : Rules) (s : Stage) (code : ℕ) → code ≡ noGate → leave R s code ≡ s
 unfolding leave
 leave-none R s code e = simp (eq-eqb code noGate e)
 
-pub leave-buffer : (R : Rules) (s : Stage) (code : ℕ) → (code ≡ noGate → ⊥) → (code ≡ registerCode → ⊥) → leave R s code ≡ buffered R s code
+pub leave-buffer : (R : Rules) (s : Stage) (code : ℕ) → (code ≡ noGate → ⊥) → T (not (isClosing code)) → leave R s code ≡ buffered R s code
 unfolding leave
-leave-buffer R s code f g = simp (ne-eqb code noGate f, ne-eqb code registerCode g)
+leave-buffer R s code f g = simp (ne-eqb code noGate f, is-false (isClosing code) g)
 
-pub leave-register : (R : Rules) (s : Stage) (code : ℕ) → code ≡ registerCode → leave R s code ≡ R .fresh
+pub leave-closing : (R : Rules) (s : Stage) (code : ℕ) → T (isClosing code) → leave R s code ≡ R .fresh code
 unfolding leave
-leave-register R s code e = simp (ne-eqb code noGate (omega arith), eq-eqb code registerCode e)
+leave-closing R s code h = simp (ne-eqb code noGate (closing-some code h), is-true (isClosing code) h)
 
-pub span-kept : (span : ℕ) (v : Visit) → (v .code ≡ registerCode → ⊥) → spanAfter span v ≡ span
-unfolding spanAfter
-span-kept span v f = simp (ne-eqb (v .code) registerCode f)
+pub none-open : (code : ℕ) → code ≡ noGate → T (not (isClosing code))
+unfolding isClosing
+none-open code e = simp e tt
 
-pub span-closed : (span : ℕ) (v : Visit) → v .code ≡ registerCode → spanAfter span v ≡ suc span
+-- a code that is neither closes none
+pub open-code : (code : ℕ) → (code ≡ registerCode → ⊥) → (code ≡ fifoCode → ⊥) → T (not (isClosing code))
+unfolding isClosing
+open-code code f g = simp (ne-eqb code registerCode f, ne-eqb code fifoCode g) tt
+
+pub span-kept : (span : ℕ) (v : Visit) → T (not (isClosing (v .code))) → spanAfter span v ≡ span
 unfolding spanAfter
-span-closed span v e = simp (eq-eqb (v .code) registerCode e)
+span-kept span v f = simp (is-false (isClosing (v .code)) f)
+
+pub span-closed : (span : ℕ) (v : Visit) → T (isClosing (v .code)) → spanAfter span v ≡ suc span
+unfolding spanAfter
+span-closed span v h = simp (is-true (isClosing (v .code)) h)
+
+pub side-fifo : (fifos code : ℕ) → code ≡ fifoCode → sideAfter fifos code ≡ suc fifos
+unfolding sideAfter
+side-fifo fifos code e = simp (eq-eqb code fifoCode e)
+
+pub side-same : (fifos code : ℕ) → (code ≡ fifoCode → ⊥) → sideAfter fifos code ≡ fifos
+unfolding sideAfter
+side-same fifos code f = simp (ne-eqb code fifoCode f)
+
+pub side-kept : (fifos code : ℕ) → T (not (isClosing code)) → sideAfter fifos code ≡ fifos
+side-kept fifos code f = side-same fifos code (λ e. T-not (isClosing code) f (fifo-closing code e))
 
 -- A visit to `cell`, reached from cell `from` that was left with stage `s`
 pub record Reached (R : Rules) (from : ℕ) (s : Stage) (cell : ℕ) : Type 0 where
@@ -40,11 +85,12 @@ pub record Reached (R : Rules) (from : ℕ) (s : Stage) (cell : ℕ) : Type 0 wh
   pub light : arrive R from s cell .load ≤ R .limit
 
 -- the last visit: the source closes the route
-pub record LastVisit (R : Rules) (from span : ℕ) (s : Stage) (v : Visit) : Type 0 where
+pub record LastVisit (R : Rules) (from span fifos : ℕ) (s : Stage) (v : Visit) : Type 0 where
   pub reached : Reached R from s (v .cell)
   pub atSource : v .cell ≡ R .source
   pub code : v .code ≡ registerCode
-  pub closed : closing R (arrive R from s (v .cell)) (v .cell) < R .bound span
+  pub passed : fifos ≡ R .fifos
+  pub closed : closing R (arrive R from s (v .cell)) (v .cell) (v .code) < R .bound span fifos
 
 -- a visit in between without a gate
 pub record PlainVisit (R : Rules) (from : ℕ) (s : Stage) (v : Visit) : Type 0 where
@@ -56,24 +102,24 @@ pub record PlainVisit (R : Rules) (from : ℕ) (s : Stage) (v : Visit) : Type 0 
 pub record BufferVisit (R : Rules) (from : ℕ) (s : Stage) (v : Visit) : Type 0 where
   pub reached : Reached R from s (v .cell)
   pub someGate : v .code ≡ noGate → ⊥
-  pub noRegister : v .code ≡ registerCode → ⊥
+  pub noClose : T (not (isClosing (v .code)))
   pub stands : T (mayStand R (v .cell) (v .code))
   pub lightAfter : buffered R (arrive R from s (v .cell)) (v .code) .load ≤ R .limit
 
--- a visit in between with a register, which closes the span
-pub record RegisterVisit (R : Rules) (from span : ℕ) (s : Stage) (v : Visit) : Type 0 where
+-- a visit in between with a register or a FIFO, which closes the span
+pub record ClosingVisit (R : Rules) (from span fifos : ℕ) (s : Stage) (v : Visit) : Type 0 where
   pub reached : Reached R from s (v .cell)
-  pub code : v .code ≡ registerCode
+  pub code : T (isClosing (v .code))
   pub stands : T (mayStand R (v .cell) (v .code))
-  pub lightAfter : R .fresh .load ≤ R .limit
-  pub closed : closing R (arrive R from s (v .cell)) (v .cell) < R .bound span
+  pub lightAfter : R .fresh (v .code) .load ≤ R .limit
+  pub closed : closing R (arrive R from s (v .cell)) (v .cell) (v .code) < R .bound span fifos
 
--- A legal ending of a route from cell `from`, left with stage `s`, in span number `span`
-pub data Ending (R : Rules) : ℕ → ℕ → Stage → Route → Type 0 where
-  ends : {from span : ℕ} {s : Stage} {v : Visit} → LastVisit R from span s v → Ending R from span s (v ∷ [])
-  passes : {from span : ℕ} {s : Stage} {v : Visit} {vs : Route} → PlainVisit R from s v → Ending R (v .cell) span (arrive R from s (v .cell)) vs → Ending R from span s (v ∷ vs)
-  buffers : {from span : ℕ} {s : Stage} {v : Visit} {vs : Route} → BufferVisit R from s v → Ending R (v .cell) span (buffered R (arrive R from s (v .cell)) (v .code)) vs → Ending R from span s (v ∷ vs)
-  closes : {from span : ℕ} {s : Stage} {v : Visit} {vs : Route} → RegisterVisit R from span s v → Ending R (v .cell) (suc span) (R .fresh) vs → Ending R from span s (v ∷ vs)
+-- A legal ending of a route from cell `from`, left with stage `s`, in span number `span`, with `fifos` FIFOs passed
+pub data Ending (R : Rules) : ℕ → ℕ → ℕ → Stage → Route → Type 0 where
+  ends : {from span fifos : ℕ} {s : Stage} {v : Visit} → LastVisit R from span fifos s v → Ending R from span fifos s (v ∷ [])
+  passes : {from span fifos : ℕ} {s : Stage} {v : Visit} {vs : Route} → PlainVisit R from s v → Ending R (v .cell) span fifos (arrive R from s (v .cell)) vs → Ending R from span fifos s (v ∷ vs)
+  buffers : {from span fifos : ℕ} {s : Stage} {v : Visit} {vs : Route} → BufferVisit R from s v → Ending R (v .cell) span fifos (buffered R (arrive R from s (v .cell)) (v .code)) vs → Ending R from span fifos s (v ∷ vs)
+  closes : {from span fifos : ℕ} {s : Stage} {v : Visit} {vs : Route} → ClosingVisit R from span fifos s v → Ending R (v .cell) (suc span) (sideAfter fifos (v .code)) (R .fresh (v .code)) vs → Ending R from span fifos s (v ∷ vs)
 
 -- A legal route: the sink, then an ending from there
 pub record FirstVisit (R : Rules) (v : Visit) : Type 0 where
@@ -83,7 +129,7 @@ pub record FirstVisit (R : Rules) (v : Visit) : Type 0 where
   pub light : R .start .load ≤ R .limit
 
 pub data LegalRoute (R : Rules) : Route → Type 0 where
-  starts : {v : Visit} {vs : Route} → FirstVisit R v → Ending R (R .sink) 0 (R .start) vs → LegalRoute R (v ∷ vs)
+  starts : {v : Visit} {vs : Route} → FirstVisit R v → Ending R (R .sink) 0 0 (R .start) vs → LegalRoute R (v ∷ vs)
 
 pub same-first : {R : Rules} {v w : Visit} → FirstVisit R v → FirstVisit R w → v ≡ w
 same-first {R} {v} {w} h k =
@@ -92,35 +138,27 @@ same-first {R} {v} {w} h k =
     λ i. record { cell = same i; code = alike i }
 
 -- Any visit in between, in the words of the test
-record Between (R : Rules) (from span : ℕ) (s : Stage) (v : Visit) : Type 0 where
+record Between (R : Rules) (from span fifos : ℕ) (s : Stage) (v : Visit) : Type 0 where
   pub reached : Reached R from s (v .cell)
   pub stands : T (mayStand R (v .cell) (v .code))
   pub lightAfter : leave R (arrive R from s (v .cell)) (v .code) .load ≤ R .limit
-  pub period : T (periodRight R span (arrive R from s (v .cell)) v)
+  pub period : T (periodRight R span fifos (arrive R from s (v .cell)) v)
 
-module _ (R : Rules) (span : ℕ) (s : Stage) where
-  in-time : (cell : ℕ) → T (inTime R span s cell) → closing R s cell < R .bound span
-  unfolding inTime
-  in-time cell h = ltb→lt _ _ h
+module _ (R : Rules) (span fifos : ℕ) (s : Stage) (v : Visit) where
+  period-closed : T (isClosing (v .code)) → T (periodRight R span fifos s v) → closing R s (v .cell) (v .code) < R .bound span fifos
+  unfolding periodRight inTime
+  period-closed c h = ltb→lt _ _ (simp (is-true (isClosing (v .code)) c) at h)
 
-  in-time-back : (cell : ℕ) → closing R s cell < R .bound span → T (inTime R span s cell)
-  unfolding inTime
-  in-time-back cell h = lt→ltb _ _ h
+  period-closed-back : T (isClosing (v .code)) → closing R s (v .cell) (v .code) < R .bound span fifos → T (periodRight R span fifos s v)
+  unfolding periodRight inTime
+  period-closed-back c h = simp (is-true (isClosing (v .code)) c) (lt→ltb _ _ h)
 
-  period-closed : (v : Visit) → v .code ≡ registerCode → T (periodRight R span s v) → closing R s (v .cell) < R .bound span
+  period-open : T (not (isClosing (v .code))) → T (periodRight R span fifos s v)
   unfolding periodRight
-  period-closed v e h = in-time (v .cell) (simp (eq-eqb (v .code) registerCode e) at h)
+  period-open f = simp (is-false (isClosing (v .code)) f) tt
 
-  period-closed-back : (v : Visit) → v .code ≡ registerCode → closing R s (v .cell) < R .bound span → T (periodRight R span s v)
-  unfolding periodRight
-  period-closed-back v e h = simp (eq-eqb (v .code) registerCode e) (in-time-back (v .cell) h)
-
-  period-open : (v : Visit) → (v .code ≡ registerCode → ⊥) → T (periodRight R span s v)
-  unfolding periodRight
-  period-open v f = simp (ne-eqb (v .code) registerCode f) tt
-
-module _ (R : Rules) (from span : ℕ) (s : Stage) where
-  last-view : (v : Visit) → T (legalFrom R from span s (v ∷ [])) → LastVisit R from span s v
+module _ (R : Rules) (from span fifos : ℕ) (s : Stage) where
+  last-view : (v : Visit) → T (legalFrom R from span fifos s (v ∷ [])) → LastVisit R from span fifos s v
   unfolding legalFrom visitRight cellRight wireRight codeRight loadRight isLast
   last-view v h =
       let e : v .code ≡ registerCode = eqb→eq _ _ (search parts depth 8) in
@@ -128,21 +166,23 @@ module _ (R : Rules) (from span : ℕ) (s : Stage) where
         reached = record { inPlan = ltb→lt _ _ (search parts depth 8); wired = search parts depth 8; light = leb→le _ _ (search parts depth 8) };
         atSource = eqb→eq _ _ (search parts depth 8);
         code = e;
-        closed = period-closed R span (arrive R from s (v .cell)) v e (search parts depth 8);
+        passed = eqb→eq _ _ (search parts depth 8);
+        closed = period-closed R span fifos (arrive R from s (v .cell)) v (register-closing (v .code) e) (search parts depth 8);
       }
 
-  last-test : (v : Visit) → LastVisit R from span s v → T (legalFrom R from span s (v ∷ []))
+  last-test : (v : Visit) → LastVisit R from span fifos s v → T (legalFrom R from span fifos s (v ∷ []))
   unfolding legalFrom visitRight cellRight wireRight codeRight loadRight isLast
   last-test v h =
       let inPlan = lt→ltb _ _ (h .reached .inPlan) in
       let light = le→leb _ _ (h .reached .light) in
       let atSource = eq→eqb _ _ (h .atSource) in
       let code = eq→eqb _ _ (h .code) in
+      let passed = eq→eqb _ _ (h .passed) in
       let wired = h .reached .wired in
-      let period = period-closed-back R span (arrive R from s (v .cell)) v (h .code) (h .closed) in
+      let period = period-closed-back R span fifos (arrive R from s (v .cell)) v (register-closing (v .code) (h .code)) (h .closed) in
       search both depth 8
 
-  between-view : (v w : Visit) (vs : Route) → T (legalFrom R from span s (v ∷ w ∷ vs)) → Between R from span s v
+  between-view : (v w : Visit) (vs : Route) → T (legalFrom R from span fifos s (v ∷ w ∷ vs)) → Between R from span fifos s v
   unfolding legalFrom visitRight cellRight wireRight codeRight loadRight isLast
   between-view v w vs h =
       record {
@@ -152,11 +192,11 @@ module _ (R : Rules) (from span : ℕ) (s : Stage) where
         period = search parts depth 8;
       }
 
-  rest-view : (v w : Visit) (vs : Route) → T (legalFrom R from span s (v ∷ w ∷ vs)) → T (legalFrom R (v .cell) (spanAfter span v) (leave R (arrive R from s (v .cell)) (v .code)) (w ∷ vs))
+  rest-view : (v w : Visit) (vs : Route) → T (legalFrom R from span fifos s (v ∷ w ∷ vs)) → T (legalFrom R (v .cell) (spanAfter span v) (sideAfter fifos (v .code)) (leave R (arrive R from s (v .cell)) (v .code)) (w ∷ vs))
   unfolding legalFrom isLast
   rest-view v w vs h = search parts
 
-  between-test : (v : Visit) (vs : Route) → Between R from span s v → T (legalFrom R (v .cell) (spanAfter span v) (leave R (arrive R from s (v .cell)) (v .code)) vs) → T (legalFrom R from span s (v ∷ vs))
+  between-test : (v : Visit) (vs : Route) → Between R from span fifos s v → T (legalFrom R (v .cell) (spanAfter span v) (sideAfter fifos (v .code)) (leave R (arrive R from s (v .cell)) (v .code)) vs) → T (legalFrom R from span fifos s (v ∷ vs))
   unfolding legalFrom visitRight cellRight wireRight codeRight loadRight isLast
   between-test v [] h rest = absurd rest
   between-test v (w ∷ vs) h rest =
@@ -169,79 +209,81 @@ module _ (R : Rules) (from span : ℕ) (s : Stage) where
       search both depth 8
 
 -- A visit in between, by its gate. `a` is the stage before the gate.
-module _ (R : Rules) (from span : ℕ) (s : Stage) (v : Visit) (vs : Route) where
+module _ (R : Rules) (from span fifos : ℕ) (s : Stage) (v : Visit) (vs : Route) where
   abbrev a : Stage
   a = arrive R from s (v .cell)
 
-  gate-view : Between R from span s v → Ending R (v .cell) (spanAfter span v) (leave R a (v .code)) vs → Ending R from span s (v ∷ vs)
-  gate-view h e = go (equal (v .code) noGate) (equal (v .code) registerCode)
+  gate-view : Between R from span fifos s v → Ending R (v .cell) (spanAfter span v) (sideAfter fifos (v .code)) (leave R a (v .code)) vs → Ending R from span fifos s (v ∷ vs)
+  gate-view h e = go (equal (v .code) noGate) (decided (isClosing (v .code)))
     where
-      to : {k : ℕ} {t : Stage} → spanAfter span v ≡ k → leave R a (v .code) ≡ t → Ending R (v .cell) k t vs
-      to p q = subst₂ (λ (k : ℕ) (t : Stage). Ending R (v .cell) k t vs) p q e
+      to : {k f : ℕ} {t : Stage} → spanAfter span v ≡ k → sideAfter fifos (v .code) ≡ f → leave R a (v .code) ≡ t → Ending R (v .cell) k f t vs
+      to {k} {f} {t} p q r = subst (λ (f : ℕ). Ending R (v .cell) k f t vs) q (subst₂ (λ (k : ℕ) (t : Stage). Ending R (v .cell) k (sideAfter fifos (v .code)) t vs) p r e)
 
-      go : (v .code ≡ noGate) ⊎ (v .code ≡ noGate → ⊥) → (v .code ≡ registerCode) ⊎ (v .code ≡ registerCode → ⊥) → Ending R from span s (v ∷ vs)
+      go : (v .code ≡ noGate) ⊎ (v .code ≡ noGate → ⊥) → T (isClosing (v .code)) ⊎ T (not (isClosing (v .code))) → Ending R from span fifos s (v ∷ vs)
       go (inl none) d =
+          let noClose = none-open (v .code) none in
           passes
           (record { reached = h .reached; code = none; stands = h .stands })
-          (to (span-kept span v (λ k. omega arith)) (leave-none R a (v .code) none))
-      go (inr some) (inl register) =
+          (to (span-kept span v noClose) (side-kept fifos (v .code) noClose) (leave-none R a (v .code) none))
+      go (inr some) (inl closed) =
           closes
           (record {
             reached = h .reached;
-            code = register;
+            code = closed;
             stands = h .stands;
-            lightAfter = rw (leave-register R a (v .code) register) at (h .lightAfter);
-            closed = period-closed R span a v register (h .period);
+            lightAfter = rw (leave-closing R a (v .code) closed) at (h .lightAfter);
+            closed = period-closed R span fifos a v closed (h .period);
           })
-          (to (span-closed span v register) (leave-register R a (v .code) register))
-      go (inr some) (inr buffer) =
+          (to (span-closed span v closed) refl (leave-closing R a (v .code) closed))
+      go (inr some) (inr noClose) =
           buffers
           (record {
             reached = h .reached;
             someGate = some;
-            noRegister = buffer;
+            noClose = noClose;
             stands = h .stands;
-            lightAfter = rw (leave-buffer R a (v .code) some buffer) at (h .lightAfter);
+            lightAfter = rw (leave-buffer R a (v .code) some noClose) at (h .lightAfter);
           })
-          (to (span-kept span v buffer) (leave-buffer R a (v .code) some buffer))
+          (to (span-kept span v noClose) (side-kept fifos (v .code) noClose) (leave-buffer R a (v .code) some noClose))
 
-  gate-test : {k : ℕ} {t : Stage} → spanAfter span v ≡ k → leave R a (v .code) ≡ t → Reached R from s (v .cell) → T (mayStand R (v .cell) (v .code)) → t .load ≤ R .limit → T (periodRight R span a v) → T (legalFrom R (v .cell) k t vs) → T (legalFrom R from span s (v ∷ vs))
-  gate-test p q reached stands light period rest =
+  gate-test : {k f : ℕ} {t : Stage} → spanAfter span v ≡ k → sideAfter fifos (v .code) ≡ f → leave R a (v .code) ≡ t → Reached R from s (v .cell) → T (mayStand R (v .cell) (v .code)) → t .load ≤ R .limit → T (periodRight R span fifos a v) → T (legalFrom R (v .cell) k f t vs) → T (legalFrom R from span fifos s (v ∷ vs))
+  gate-test p q r reached stands light period rest =
       between-test
       R
       from
       span
+      fifos
       s
       v
       vs
-      (record { reached = reached; stands = stands; lightAfter = rw q light; period = period })
-      (rw (p, q) rest)
+      (record { reached = reached; stands = stands; lightAfter = rw r light; period = period })
+      (rw (p, q, r) rest)
 
-  passes-test : PlainVisit R from s v → T (legalFrom R (v .cell) span a vs) → T (legalFrom R from span s (v ∷ vs))
+  passes-test : PlainVisit R from s v → T (legalFrom R (v .cell) span fifos a vs) → T (legalFrom R from span fifos s (v ∷ vs))
   passes-test h =
-      let noRegister : v .code ≡ registerCode → ⊥ = λ k. omega arith in
-      gate-test (span-kept span v noRegister) (leave-none R a (v .code) (h .code)) (h .reached) (h .stands) (h .reached .light) (period-open R span a v noRegister)
+      let noClose = none-open (v .code) (h .code) in
+      gate-test (span-kept span v noClose) (side-kept fifos (v .code) noClose) (leave-none R a (v .code) (h .code)) (h .reached) (h .stands) (h .reached .light) (period-open R span fifos a v noClose)
 
-  buffers-test : BufferVisit R from s v → T (legalFrom R (v .cell) span (buffered R a (v .code)) vs) → T (legalFrom R from span s (v ∷ vs))
-  buffers-test h = gate-test (span-kept span v (h .noRegister)) (leave-buffer R a (v .code) (h .someGate) (h .noRegister)) (h .reached) (h .stands) (h .lightAfter) (period-open R span a v (h .noRegister))
+  buffers-test : BufferVisit R from s v → T (legalFrom R (v .cell) span fifos (buffered R a (v .code)) vs) → T (legalFrom R from span fifos s (v ∷ vs))
+  buffers-test h = gate-test (span-kept span v (h .noClose)) (side-kept fifos (v .code) (h .noClose)) (leave-buffer R a (v .code) (h .someGate) (h .noClose)) (h .reached) (h .stands) (h .lightAfter) (period-open R span fifos a v (h .noClose))
 
-  closes-test : RegisterVisit R from span s v → T (legalFrom R (v .cell) (suc span) (R .fresh) vs) → T (legalFrom R from span s (v ∷ vs))
-  closes-test h = gate-test (span-closed span v (h .code)) (leave-register R a (v .code) (h .code)) (h .reached) (h .stands) (h .lightAfter) (period-closed-back R span a v (h .code) (h .closed))
+  closes-test : ClosingVisit R from span fifos s v → T (legalFrom R (v .cell) (suc span) (sideAfter fifos (v .code)) (R .fresh (v .code)) vs) → T (legalFrom R from span fifos s (v ∷ vs))
+  closes-test h = gate-test (span-closed span v (h .code)) refl (leave-closing R a (v .code) (h .code)) (h .reached) (h .stands) (h .lightAfter) (period-closed-back R span fifos a v (h .code) (h .closed))
 
 -- The view of the test, and back. A list of one visit is judged as the last visit; a longer one gives a visit in between, whose code decides the constructor, and a shorter list. Back, no ending is empty, so a visit with an ending after it is not the last.
 
-pub ending-view : (R : Rules) (from span : ℕ) (s : Stage) (vs : Route) → T (legalFrom R from span s vs) → Ending R from span s vs
+pub ending-view : (R : Rules) (from span fifos : ℕ) (s : Stage) (vs : Route) → T (legalFrom R from span fifos s vs) → Ending R from span fifos s vs
 unfolding legalFrom
-ending-view R from span s [] h = absurd h
-ending-view R from span s (v ∷ []) h = ends (last-view R from span s v h)
-ending-view R from span s (v ∷ (w ∷ vs)) h =
-    gate-view R from span s v (w ∷ vs) (between-view R from span s v w vs h) (ending-view R (v .cell) _ _ (w ∷ vs) (rest-view R from span s v w vs h))
+ending-view R from span fifos s [] h = absurd h
+ending-view R from span fifos s (v ∷ []) h = ends (last-view R from span fifos s v h)
+ending-view R from span fifos s (v ∷ (w ∷ vs)) h =
+    gate-view R from span fifos s v (w ∷ vs) (between-view R from span fifos s v w vs h) (ending-view R (v .cell) _ _ _ (w ∷ vs) (rest-view R from span fifos s v w vs h))
 
-pub ending-test : {R : Rules} {from span : ℕ} {s : Stage} {vs : Route} → Ending R from span s vs → T (legalFrom R from span s vs)
-ending-test {R} (ends {from = from} {span = span} {s = s} {v = v} h) = last-test R from span s v h
-ending-test {R} (passes {from = from} {span = span} {s = s} {v = v} {vs = vs} h e) = passes-test R from span s v vs h (ending-test e)
-ending-test {R} (buffers {from = from} {span = span} {s = s} {v = v} {vs = vs} h e) = buffers-test R from span s v vs h (ending-test e)
-ending-test {R} (closes {from = from} {span = span} {s = s} {v = v} {vs = vs} h e) = closes-test R from span s v vs h (ending-test e)
+pub ending-test : {R : Rules} {from span fifos : ℕ} {s : Stage} {vs : Route} → Ending R from span fifos s vs → T (legalFrom R from span fifos s vs)
+ending-test {R} (ends {from = from} {span = span} {fifos = fifos} {s = s} {v = v} h) = last-test R from span fifos s v h
+ending-test {R} (passes {from = from} {span = span} {fifos = fifos} {s = s} {v = v} {vs = vs} h e) = passes-test R from span fifos s v vs h (ending-test e)
+ending-test {R} (buffers {from = from} {span = span} {fifos = fifos} {s = s} {v = v} {vs = vs} h e) = buffers-test R from span fifos s v vs h (ending-test e)
+ending-test {R} (closes {from = from} {span = span} {fifos = fifos} {s = s} {v = v} {vs = vs} h e) = closes-test R from span fifos s v vs h (ending-test e)
 
 pub route-view : (R : Rules) (r : Route) → T (legal R r) → LegalRoute R r
 unfolding legal firstRight
@@ -249,11 +291,11 @@ route-view R [] h = absurd h
 route-view R (v ∷ vs) h =
     let e : v .cell ≡ R .sink = eqb→eq _ _ (search parts) in
     let k : v .cell < R .cellCount = ltb→lt _ _ (search parts) in
-    let rest : T (legalFrom R (v .cell) 0 (R .start) vs) = search parts in
+    let rest : T (legalFrom R (v .cell) 0 0 (R .start) vs) = search parts in
     starts
     {v = v}
     (record { atSink = e; code = eqb→eq _ _ (search parts); inPlan = rw e at k; light = leb→le _ _ (search parts) })
-    (ending-view R (R .sink) 0 (R .start) vs (rw e at rest))
+    (ending-view R (R .sink) 0 0 (R .start) vs (rw e at rest))
 
 pub route-test : {R : Rules} {r : Route} → LegalRoute R r → T (legal R r)
 unfolding legal firstRight
@@ -262,7 +304,7 @@ route-test {R} (starts {v = v} {vs = vs} h e) =
     let inPlan : T (ltb (v .cell) (R .cellCount)) = rw (h .atSink) (lt→ltb _ _ (h .inPlan)) in
     let code = eq→eqb _ _ (h .code) in
     let light = le→leb _ _ (h .light) in
-    let rest : T (legalFrom R (v .cell) 0 (R .start) vs) = rw (h .atSink) (ending-test e) in
+    let rest : T (legalFrom R (v .cell) 0 0 (R .start) vs) = rw (h .atSink) (ending-test e) in
     search both
 
 -- Which gate may stand between the ends: on an end's cell none, elsewhere what the site allows

@@ -1,5 +1,6 @@
 -- When rules Q carry the legal routes of rules R, each gate's code renamed: nothing is allowed less, and nothing loads or delays more. The law is `legal-carries`, proofs/Carrying.antt.
 use Prim.Native.Nat.{ℕ, _≤_}
+use mathlib.Core.Bool.{not}
 use mathlib.Core.List.{[], _∷_}
 use mathlib.Core.Path.{_≡_}
 use lib.Dec.{T}
@@ -7,7 +8,7 @@ use Rattle.timing.specs.declared.elements.Wire.{Wire}
 use Rattle.timing.specs.declared.elements.Driver.{Driver}
 use Rattle.timing.specs.declared.elements.Buffer.{Buffer}
 use Rattle.timing.specs.Formulas.{wireDelay, wireLoad, gateDelay, bufferDriver, bufferLoad}
-use Rattle.rules.specs.Rules.{Stage, Rules, noGate, registerCode}
+use Rattle.rules.specs.Rules.{Stage, Rules, noGate, registerCode, fifoCode, isClosing}
 use Rattle.rules.specs.Legal.{Visit, Route, mayStand}
 
 -- no more load and no more delay
@@ -31,9 +32,9 @@ pub record NotWorseBuffer (b c : Buffer) : Type 0 where
 -- a buffer's code
 pub record Buffering (code : ℕ) : Type 0 where
   pub someGate : code ≡ noGate → ⊥
-  pub noRegister : code ≡ registerCode → ⊥
+  pub noClose : T (not (isClosing code))
 
--- Q carries the legal routes of R. The renaming keeps none, the register and the buffers as such; a buffer that stands somewhere is renamed to one that is no worse.
+-- Q carries the legal routes of R. The renaming keeps none, the register, the FIFO and the buffers as such; a buffer that stands somewhere is renamed to one that is no worse.
 pub record Carries (rename : ℕ → ℕ) (R Q : Rules) : Type 0 where
   pub cells : R .cellCount ≤ Q .cellCount
   pub source : R .source ≡ Q .source
@@ -43,13 +44,15 @@ pub record Carries (rename : ℕ → ℕ) (R Q : Rules) : Type 0 where
   pub wires : (a b : ℕ) → T (R .linked a b) → NotWorseWire (Q .wire a b) (R .wire a b)
   pub none : rename noGate ≡ noGate
   pub register : rename registerCode ≡ registerCode
+  pub fifo : rename fifoCode ≡ fifoCode
   pub buffering : (code : ℕ) → Buffering code → Buffering (rename code)
   pub stands : (cell code : ℕ) → T (mayStand R cell code) → T (mayStand Q cell (rename code))
   pub buffers : (cell code : ℕ) → Buffering code → T (mayStand R cell code) → NotWorseBuffer (Q .buffer (rename code)) (R .buffer code)
   pub start : NotWorse (Q .start) (R .start)
-  pub fresh : NotWorse (Q .fresh) (R .fresh)
-  pub closers : (cell : ℕ) → Quicker (Q .closer cell) (R .closer cell)
-  pub bound : (span : ℕ) → R .bound span ≤ Q .bound span
+  pub fresh : (code : ℕ) → T (isClosing code) → NotWorse (Q .fresh code) (R .fresh code)
+  pub closers : (cell code : ℕ) → T (isClosing code) → Quicker (Q .closer cell code) (R .closer cell code)
+  pub fifos : R .fifos ≡ Q .fifos
+  pub bound : (span fifos : ℕ) → R .bound span fifos ≤ Q .bound span fifos
 
 -- a route with its codes renamed
 

@@ -4,7 +4,7 @@ use mathlib.Core.Bool.{Bool, true, false, _&&_, _||_, cond}
 use mathlib.Core.List.{List, [], _∷_}
 use lib.Dec.{T, eqb, ltb}
 use lib.ListN.{length}
-use Rattle.rules.specs.Rules.{Rules, registerCode}
+use Rattle.rules.specs.Rules.{Rules, registerCode, isClosing, sideAfter}
 use Rattle.rules.specs.Legal.{Route, legal}
 
 -- visits with a register's code
@@ -24,6 +24,11 @@ steps r = length r - 1
 unfoldable pub latency : ℕ → Route → ℕ
 latency period r = period * (registers r + 1)
 
+-- what the spans of an ending count together, from a visit with `fifos` FIFOs passed
+unfoldable pub weigh : Rules → ℕ → Route → ℕ
+weigh R fifos [] = 0
+weigh R fifos (v ∷ vs) = cond (isClosing (v .code)) (R .weight fifos) 0 + weigh R (sideAfter fifos (v .code)) vs
+
 -- the route as numbers: cell, code, cell, code, ..
 unfoldable pub written : Route → List ℕ
 written [] = []
@@ -36,14 +41,14 @@ precedes [] (y ∷ ys) = true
 precedes (x ∷ xs) [] = false
 precedes (x ∷ xs) (y ∷ ys) = ltb x y || (eqb x y && precedes xs ys)
 
--- "the fewest registers, then the fewest steps, then first in written order"
-unfoldable pub key : Route → List ℕ
-key r = registers r ∷ steps r ∷ written r
+-- "the fewest registers, then the fewest steps, then first in written order"; between two clocks the least latency comes first
+unfoldable pub key : (Route → ℕ) → Route → List ℕ
+key cost r = cost r ∷ steps r ∷ written r
 
-unfoldable pub ranksBefore : Route → Route → Bool
-ranksBefore q r = precedes (key q) (key r)
+unfoldable pub ranksBefore : (Route → ℕ) → Route → Route → Bool
+ranksBefore cost q r = precedes (key cost q) (key cost r)
 
--- the answer of demand 2
-pub record IsBest (R : Rules) (r : Route) : Type 0 where
+-- the answer of demand 2, by what the route costs
+pub record IsBest (cost : Route → ℕ) (R : Rules) (r : Route) : Type 0 where
   pub isLegal : T (legal R r)
-  pub isFirst : (q : Route) → T (legal R q) → T (ranksBefore q r) → ⊥
+  pub isFirst : (q : Route) → T (legal R q) → T (ranksBefore cost q r) → ⊥

@@ -8,14 +8,14 @@ use Rattle.rules.specs.Legal.{Visit, Route, arrive, isLast, cellRight, w
 use Rattle.rules.specs.Beginning.{Place, nextPlace, startPlace}
 
 -- the tests of `visitRight`, "with the period test left out"
-unfoldable pub visitFits : Rules → ℕ → Stage → Bool → Visit → Bool
-visitFits R from s last v = cellRight R last v && wireRight R from v && codeRight R last v && loadRight R last s v
+unfoldable pub visitFits : Rules → ℕ → ℕ → Stage → Bool → Visit → Bool
+visitFits R from fifos s last v = cellRight R last v && wireRight R from v && codeRight R fifos last v && loadRight R last s v
 
 -- `legalFrom` with these
 unfoldable pub fitsFrom : Rules → Place → Route → Bool
 fitsFrom R a [] = false
 fitsFrom R a (v ∷ vs) =
-    visitFits R (a .cell) (arrive R (a .cell) (a .stage) (v .cell)) (isLast vs) v && (isLast vs || fitsFrom R (nextPlace R a v) vs)
+    visitFits R (a .cell) (a .fifos) (arrive R (a .cell) (a .stage) (v .cell)) (isLast vs) v && (isLast vs || fitsFrom R (nextPlace R a v) vs)
 
 -- legal, "with the period test left out"
 unfoldable pub fits : Rules → Route → Bool

@@ -1,6 +1,6 @@
 -- What a rule of routing may depend on, as one record; document 01's rules are the instance `rulesOf`.
 -- The theory is stated over the record, so that a later request that changes one field changes one line here.
-use Prim.Native.Nat.{ℕ, _+_, _*_, _-_}
+use Prim.Native.Nat.{ℕ, suc, _+_, _*_, _-_}
 use mathlib.Core.Bool.{Bool, _&&_, _||_, not, cond}
 use lib.Dec.{eqb, leb}
 use lib.ListN.{getD}
@@ -18,12 +18,23 @@ pub record Stage : Type 0 where
   pub load : ℕ
   pub delay : ℕ
 
--- gate codes: 0 none, 1 to 6 that buffer, 7 register
+-- gate codes: 0 none, 1 to 6 that buffer, 7 register, 8 the FIFO between two clocks
 abbrev pub noGate : ℕ
 noGate = 0
 
 abbrev pub registerCode : ℕ
 registerCode = 7
+
+abbrev pub fifoCode : ℕ
+fifoCode = 8
+
+-- a gate with this code closes a span
+unfoldable pub isClosing : ℕ → Bool
+isClosing code = eqb code registerCode || eqb code fifoCode
+
+-- the FIFOs passed, after a gate with this code
+unfoldable pub sideAfter : ℕ → ℕ → ℕ
+sideAfter fifos code = cond (eqb code fifoCode) (suc fifos) fifos
 
 pub record Rules : Type 0 where
   -- cells are numbered from 0 to cellCount - 1
@@ -39,13 +50,17 @@ pub record Rules : Type 0 where
   pub site : ℕ → ℕ → Bool
   -- the buffer with this code
   pub buffer : ℕ → Buffer
-  -- after the sink, and after a register
+  -- after the sink, and after a gate with this code that closes a span
   pub start : Stage
-  pub fresh : Stage
-  -- what drives the span that closes at this cell
-  pub closer : ℕ → Driver
-  -- the closing delay of span k, counted from the sink, is below this
-  pub bound : ℕ → ℕ
+  pub fresh : ℕ → Stage
+  -- what drives the span that closes at this cell with this code
+  pub closer : ℕ → ℕ → Driver
+  -- how many FIFOs a route has
+  pub fifos : ℕ
+  -- the closing delay of span k, counted from the sink, after f FIFOs, is below this
+  pub bound : ℕ → ℕ → ℕ
+  -- what a span counts in the ranking, after f FIFOs
+  pub weight : ℕ → ℕ
 
 -- Document 01: a buffer stands on a cell without mark 1, a register on a cell with mark 2, whatever other marks it has.
 unfoldable pub siteOf : Plan → Elements → ℕ → ℕ → Bool
@@ -68,8 +83,11 @@ rulesOf p e from to =
       site = siteOf p e;
       buffer = λ code. getD (e .buffers) (code - 1) (bufferOf 0 0 0);
       start = record { load = registerLoad (e .register); delay = setupDelay (e .register) };
-      fresh = record { load = registerLoad (e .register); delay = setupDelay (e .register) };
-      closer = λ cell. registerDriver (e .register);
+      fresh = λ code. record { load = registerLoad (e .register); delay = setupDelay (e .register) };
+      closer = λ cell code. registerDriver (e .register);
+      fifos = 0;
       -- at most 2T
-      bound = λ k. 2 * e .period + 1;
+      bound = λ span fifos. 2 * e .period + 1;
+      -- fewest registers
+      weight = λ fifos. 1;
     }

@@ -1,25 +1,24 @@
--- The spare figure of a route: document 02, C-12. Each span that a register or the source closes has one; the route's is the smallest.
+-- The spare figure of a route: document 02, C-12. Each span that is closed has one; the route's is the smallest.
 use Prim.Native.Nat.{ℕ, _-_, _<_}
 use mathlib.Core.Bool.{cond}
 use mathlib.Core.List.{List, [], _∷_, _++_}
 use mathlib.Core.Path.{_≡_}
-use lib.Dec.{eqb}
 use lib.IntN.{ℤ}
 use lib.ListN.{length, getD}
 use lib.Signed.{_≤ℤ_}
 use Rattle.timing.specs.Slack.{slackMost, slackOf, smaller}
-use Rattle.rules.specs.Rules.{Rules, registerCode}
+use Rattle.rules.specs.Rules.{Rules, isClosing}
 use Rattle.rules.specs.Legal.{Visit, Route, arrive, closing}
 use Rattle.rules.specs.Beginning.{Place, nextPlace, startPlace}
 
 -- "2T less the closing delay" of the span that a visit closes, from the place where the visits before it have come; the bound is one more than 2T
 unfoldable pub slackAt : Rules → Place → Visit → ℤ
-slackAt R a v = slackOf (R .bound (a .span) - 1) (closing R (arrive R (a .cell) (a .stage) (v .cell)) (v .cell))
+slackAt R a v = slackOf (R .bound (a .span) (a .fifos) - 1) (closing R (arrive R (a .cell) (a .stage) (v .cell)) (v .cell) (v .code))
 
 -- the figures of the spans that are closed from a place on, in their order
 unfoldable pub slacksFrom : Rules → Place → Route → List ℤ
 slacksFrom R a [] = []
-slacksFrom R a (v ∷ vs) = cond (eqb (v .code) registerCode) (slackAt R a v ∷ []) [] ++ slacksFrom R (nextPlace R a v) vs
+slacksFrom R a (v ∷ vs) = cond (isClosing (v .code)) (slackAt R a v ∷ []) [] ++ slacksFrom R (nextPlace R a v) vs
 
 -- the figures of a route's spans, the sink's first
 unfoldable pub slacks : Rules → Route → List ℤ
@@ -33,7 +32,7 @@ leastFrom least (z ∷ zs) = leastFrom (smaller least z) zs
 
 -- the smallest figure so far, after a visit
 unfoldable pub slackAfter : Rules → Place → ℤ → Visit → ℤ
-slackAfter R a least v = cond (eqb (v .code) registerCode) (smaller least (slackAt R a v)) least
+slackAfter R a least v = cond (isClosing (v .code)) (smaller least (slackAt R a v)) least
 
 -- "its smallest spare figure"; no span has more than the first one here (`slack-smallest` in proofs/Slack.antt)
 unfoldable pub leastSlack : Rules → Route → ℤ

@@ -1,302 +1,206 @@
--- The turns of the search on the scratch words: from one front to the next, or to the end.
-use Prim.Native.Nat.{ℕ, suc, _+_, _-_, _*_, _≤_, _<_}
-use mathlib.Core.Path.{_≡_, refl, sym, ap, _∙_}
-use mathlib.Core.Bool.{Bool, true, false}
+-- From front to front: the start, a layer that grew with its new labels, arrivals.
+use Prim.Native.Nat.{ℕ, suc, _+_, _*_, _≤_, _<_}
+use mathlib.Core.Path.{_≡_, refl, sym, _∙_}
 use mathlib.Core.Logic.{_⊎_, inl, inr}
 use mathlib.Core.List.{List}
 use native.Mathlib.Omega.{arith}
 use lib.Dec.{T}
-use lib.ListN.{getD}
-use Rattle.rules.specs.Rules.{Rules}
-use Rattle.plan.proofs.Truth.{split}
-use Rattle.budget.specs.Table.{Table, arrival, given, layer}
-use Rattle.budget.specs.Done.{NotAfter, Done, Least, Lawful, seedAt}
-use Rattle.budget.specs.Search.{FromSink, Next, IdleUntil, NonePending}
-use Rattle.budget.proofs.Done.{not-after-trans}
-use Rattle.budget.proofs.Active.{max-same, arrival-row, given-row, layer-least}
-use Rattle.budget.proofs.Search.{Arrived, seed-cases, seed-source, seed-arrived, same-table}
-use Rattle.budget.proofs.Turns.{layer-found, pending-turn, wave-turn, none-turn}
-use Rattle.layout.specs.Layout.{labelsAt, orderAt, activeAt}
-use Rattle.lists.specs.Lists.{ListedAt}
-use Rattle.lists.proofs.Lists.{empty-flags}
+use lib.ListN.{length, getD}
+use Rattle.rules.specs.Rules.{Rules, registerCode, fifoCode, sideAfter}
+use Rattle.rules.specs.Legal.{mayStand}
+use Rattle.plan.proofs.Truth.{equal}
+use Rattle.rules.proofs.View.{register-closing, side-same}
+use Rattle.budget.specs.Table.{Represents}
+use Rattle.budget.specs.Done.{Open, After, Lawful}
+use Rattle.budget.specs.Search.{Searching, Relabelled}
+use Rattle.budget.specs.Colours.{InStep}
+use Rattle.budget.proofs.Done.{none-before, not-after-trans}
+use Rattle.budget.proofs.Search.{same-table, next-table}
+use Rattle.budget.proofs.Turns.{search-start, layer-turn}
+use Rattle.budget.proofs.HandOver.{no-exits}
+use Rattle.budget.proofs.Colours.{label-in-step}
+use Rattle.layout.specs.Layout.{arrivalAt, labelsAt, weightHigh, labelWords, activeAt, listedAt, seedsAt, trailAt}
+use Rattle.lists.specs.Lists.{flagOf}
+use Rattle.lists.proofs.Lists.{listed-kept}
 use Rattle.rows.specs.Words.{Kept}
-use Rattle.table.specs.Problem.{budgetOf, seedOf}
+use Rattle.table.specs.Problem.{budgetOf}
 use Rattle.trail.specs.Trail.{noTrail}
 use Rattle.table.specs.declared.pushes.Grown.{Grown}
-use Rattle.table.specs.Layer.{Layered}
-use Rattle.table.proofs.Views.{seeds-kept}
-use Rattle.table.proofs.Colours.{coloured-none}
-use Rattle.labels.specs.Labels as labels
-use Rattle.labels.specs.Labels.{knownOf, registersOf, stepsOf, labelsOf, orderOf, Ordered}
-use Rattle.labels.proofs.Labels.{known-below, known-kept, label-kept, labelled-kept, ordered-count, ordered-kept, steps-ascend}
-use Rattle.search.specs.Front.{total, Waiting, Front}
-use Rattle.search.proofs.Total.{total-least, total-grows}
+use Rattle.table.specs.Layer.{Active, Layered}
+use Rattle.table.proofs.Views.{budget-kept}
+use Rattle.table.proofs.Colours.{coloured-none, coloured-kept, coloured-layer}
+use Rattle.labels.specs.Labels.{knownOf, weightOf, stepsOf, weightWord, labelsOf, labelsFor, orderOf, LabelBy, Labelable, LabelAdded, ArriveAsks, ArrivedAll}
+use Rattle.labels.specs.Additions.{LabelsAdded}
+use Rattle.labels.proofs.Labels.{known-below, by-kept, set-in, set-apart, ordered-none, ordered-count, word-unknown, unknown-not, added-known, labels-renewed, labelled-kept}
+use Rattle.labels.proofs.Additions.{labels-relabelled, labels-last}
+use Rattle.search.specs.Front.{Waiting, Front}
+use Rattle.search.specs.Search.{Blank}
+use Rattle.search.proofs.Arrivals.{seed-word, coloured-arrived, active-kept, active-arrived, cleared-table, cleared-active}
+use Rattle.search.proofs.Queue.{queue-added, queue-arrived, late-arrived, arrives-now}
+use Rattle.search.proofs.Layers.{layer-queue, layer-late, layer-found, layer-labels, layer-from, layer-next}
 
-pub bool-same : (a b : Bool) → (T a → T b) → (T b → T a) → a ≡ b
-bool-same true true f g = refl
-bool-same true false f g = absurd (f tt)
-bool-same false true f g = absurd (g tt)
-bool-same false false f g = refl
+-- a layer, and its new labels
+module _ {R : Rules} (law : Lawful R) {n : ℕ} (cells : R .cellCount ≡ n) {words : List ℕ} {k s active at count : ℕ} (f : Front R n words k s active at count) {new : List ℕ} {next : Grown} (l : Layered R n noTrail words new next) where
+  abbrev set : ℕ
+  set = n * labelsAt
 
--- a layer depends on the seeds of cells in the plan alone
-pub layer-seeds : (R : Rules) (seed seed′ : ℕ → Bool) (bound : ℕ) (A : Table) → ((c : ℕ) → c < R .cellCount → seed c ≡ seed′ c) → (c l : ℕ) → layer R seed bound A c l ≡ layer R seed′ bound A c l
-unfolding layer
-layer-seeds R seed seed′ bound A same c l =
-    rw
-    (max-same (R .cellCount) (λ n. given R (arrival R seed bound A) n c l) (λ n. given R (arrival R seed′ bound A) n c l)
-    (λ n h. given-row R (arrival R seed′ bound A) (arrival R seed bound A) n (arrival-row R seed′ seed bound A A n (λ l. refl) (same n h)) c l))
+  table : Represents (budgetOf n new) (Open R 0 k (suc s))
+  table =
+      next-table R law 0 k s (labelsFor n new) (layer-labels law cells f l) (budgetOf n words) (budgetOf n new) (f .waiting .searching .table) (layer-next law cells f l)
 
--- the order and its labels stay with their words
-module _ (n : ℕ) (old new : List ℕ) (count : ℕ) (o : Ordered n old count) (kept : Kept (n * labelsAt) (n * activeAt) old new) where
-  pub order-same : (i : ℕ) → i < count → orderOf n new i ≡ orderOf n old i
-  order-same i h = kept (n * orderAt + i) (omega arith) (omega (arith, ordered-count o))
+  -- a cell that is not listed has its label already: its row is as before
+  known-quiet : (c : ℕ) → c < n → flagOf n new c ≡ 0 → T (mayStand R c registerCode) → R .fresh registerCode .delay < budgetOf n new c (R .fresh registerCode .load) → T (knownOf n set new c)
+  unfolding labelsFor
+  known-quiet c h z may t =
+      let e : sideAfter 0 registerCode ≡ 0 = side-same 0 registerCode (λ z. omega arith) in
+      layer-labels law cells f l .registers .complete c
+      (After.atGate (register-closing registerCode refl) may
+      (rw e (f .waiting .searching .table .sound c (R .fresh registerCode .load) (R .fresh registerCode .delay) (omega (arith, l .quiet c h z (R .fresh registerCode .load))))))
 
-  pub order-registers : (i : ℕ) → i < count → registersOf n new (orderOf n new i) ≡ registersOf n old (orderOf n old i)
-  order-registers i h =
-      rw (order-same i h) (ap (λ (x : ℕ). x - 1) (kept (n * labelsAt + orderOf n old i) (omega arith) (omega (arith, o .cells i h))))
+  known-source : 0 ≡ R .fifos → T (knownOf n set new (R .source))
+  unfolding labelsFor
+  known-source e = layer-labels law cells f l .registers .complete (R .source) (After.atSource refl e refl)
 
-  pub order-steps : (i : ℕ) → i < count → stepsOf n new (orderOf n new i) ≡ stepsOf n old (orderOf n old i)
-  order-steps i h =
-      rw (order-same i h)
-      (label-kept n old new (λ k lo hi. kept k lo (omega arith)) (orderOf n old i) (o .cells i h) .steps)
+  -- no label is after the new ones
+  pub labels-before : (c : ℕ) → T (knownOf n set new c) → LabelBy n set new (R .weight 0 + k) (suc s) c
+  labels-before c t =
+      not-after-trans (layer-found law cells f l c t) (inr (refl, omega arith))
 
--- the labels that wait ascend by steps
-pub waiting-ascend : {R : Rules} {n : ℕ} {words : List ℕ} {k s active at end count : ℕ} → Waiting R n words k s active at end count → (i : ℕ) → at ≤ i → i < end → stepsOf n words (orderOf n words at) ≤ stepsOf n words (orderOf n words i)
-waiting-ascend {at = at} w i lo hi =
-    steps-ascend (w .ordered) at i lo (omega (arith, w .endCount)) (omega (arith, w .waits at (omega arith) (omega arith), w .waits i lo hi))
+  module _ {last : List ℕ} {count′ : ℕ} (added : LabelsAdded R n set (R .weight 0 + k) (suc s) new last count count′) where
+    relabelled : Relabelled (After R 0 registerCode) (R .weight 0 + k) (suc s) (labelsOf n set new) (labelsOf n set last)
+    relabelled = labels-relabelled 0 k (l .listed) added table known-quiet known-source
 
-module _ (R : Rules) (law : Lawful R) (n : ℕ) (cells : R .cellCount ≡ n) where
-  -- the seed flags are the seeds by the labels
-  module _ (words : List ℕ) (k s active at end count : ℕ) (f : Front R n words k s active at end count) where
-    w : Waiting R n words k s active at end count
-    w = f .waiting
+    last-table : (c d : ℕ) → budgetOf n last c d ≡ budgetOf n new c d
+    last-table = budget-kept n new last (λ i lo hi. added .low i (omega arith))
 
-    place-seed : (c : ℕ) → ListedAt n words (n * orderAt) count c → Arrived (labelsOf n words) k s c → T (seedOf n words c)
-    place-seed c p a = go (split at (p .at)) (split end (p .at))
-      where
-        registers-are : registersOf n words (orderOf n words (p .at)) ≡ registersOf n words c
-        registers-are = ap (registersOf n words) (p .holds)
+    searching : Searching R 0 k (suc s) (budgetOf n new) (labelsFor n last)
+    unfolding labelsFor
+    searching =
+        rw (labels-renewed n new last) at (layer-turn R law 0 (layer-from law cells f l) (layer-next law cells f l) relabelled)
 
-        steps-are : stepsOf n words (orderOf n words (p .at)) ≡ stepsOf n words c
-        steps-are = ap (stepsOf n words) (p .holds)
+    list : Active R n last (next .count)
+    list =
+        active-kept R n new last (l .active (f .waiting .list))
+        (listed-kept (l .listed) last (λ c h. added .high (n * listedAt + c) (omega arith)) (λ i h. added .high (n * activeAt + i) (omega arith)))
+        (λ i q. added .low i (omega arith))
+        (λ c h t z. (t, (sym (added .high (n * listedAt + c) (omega arith)) ∙ z, added .high (n * seedsAt + c) (omega arith))))
 
-        too-late : at ≤ p .at → p .at < end → NotAfter (suc (registersOf n words c)) (stepsOf n words c) k s → ⊥
-        too-late lo hi (inl h) = omega (arith, w .waits (p .at) lo hi, registers-are)
-        too-late lo hi (inr h) =
-            omega (arith, steps-are, waiting-ascend w (p .at) lo hi, f .late (omega arith))
+    pub grown-front : budgetOf n new (R .sink) (R .start .load) ≤ R .start .delay → Waiting R n last k (suc s) (next .count) at count′
+    grown-front not-yet =
+        record {
+          searching = record { table = same-table (Open R 0 k (suc s)) last-table (searching .table); labels = searching .labels };
+          list = list;
+          queue =
+              queue-added (layer-queue law cells f l) last (layer-late law cells f l) (omega (arith, law .heavy 0)) added
+              (λ i lo hi. added .high i (omega arith));
+          found = labels-last added labels-before;
+          coloured = coloured-kept (coloured-layer l (f .waiting .coloured)) last (λ c h o. omega (arith, added .high (n * listedAt + c) (omega arith)));
+          unreached = omega (arith, last-table (R .sink) (R .start .load));
+        }
 
-        own-wave : end ≤ p .at → NotAfter (suc (registersOf n words c)) (stepsOf n words c) k s → ⊥
-        own-wave lo (inl h) = omega (arith, w .own (p .at) lo (p .below), registers-are)
-        own-wave lo (inr h) = omega (arith, w .own (p .at) lo (p .below), registers-are)
+-- labels that have come become seeds
+pub arrive-front : {R : Rules} → Lawful R → {n : ℕ} {words : List ℕ} {k s active at count : ℕ} → Waiting R n words k s active at count → {new : List ℕ} {to active′ : ℕ} → ArrivedAll n (n * labelsAt) at count k s words new to active′ → Front R n new k s active′ to count
+unfolding labelsFor
+arrive-front {R} law {n} {words} {k} {s} {active} {at} w {new} {to} {active′} a =
+    record {
+      waiting =
+          record {
+            searching =
+                record {
+                  table = same-table (Open R 0 k s) same (w .searching .table);
+                  labels = labelled-kept n words new (λ i lo hi. low i (omega arith)) R 0 k s (w .searching .labels);
+                };
+            list = active-arrived R n words new (n * labelsAt) at to k s active active′ (w .list) (a .arrived);
+            queue = queue-arrived (w .queue) new kept a;
+            found = by-kept n (n * labelsAt) words new (λ i lo hi. low i (omega arith)) (R .weight 0 + k) s (w .found);
+            coloured = coloured-arrived (w .coloured) in-step (a .arrived);
+            unreached = omega (arith, same (R .sink) (R .start .load), w .unreached);
+          };
+      late = late-arrived (w .queue) new kept a;
+    }
+  where
+    low : (i : ℕ) → i < n * activeAt → getD new i 0 ≡ getD words i 0
+    low = a .arrived .low
 
-        go : (at ≤ p .at) ⊎ (p .at < at) → (end ≤ p .at) ⊎ (p .at < end) → T (seedOf n words c)
-        go (inr h) q = rw (p .holds) at (w .orderSeed (p .at) h)
-        go (inl h) (inr q) = absurd (too-late h q (a .early))
-        go (inl h) (inl q) = absurd (own-wave q (a .early))
+    kept : Kept (n * labelsAt) (n * labelsAt + n * labelWords) words new
+    kept i lo hi = low i (omega arith)
 
-    pub front-seeds : (c : ℕ) → c < n → seedOf n words c ≡ seedAt R (labelsOf n words) k s c
-    front-seeds c h = bool-same (seedOf n words c) (seedAt R (labelsOf n words) k s c) (λ t. to (w .seeds c h t)) (λ t. back (seed-cases R (labelsOf n words) k s c t))
-      where
-        arrived : ListedAt n words (n * orderAt) at c → Arrived (labelsOf n words) k s c
-        arrived p = rw (p .holds) at early
-          where
-            early : Arrived (labelsOf n words) k s (orderOf n words (p .at))
-            early = record { known = w .ordered .known (p .at) (omega (arith, p .below, w .atEnd, w .endCount)); early = w .past (p .at) (p .below) }
+    same : (c l : ℕ) → budgetOf n new c l ≡ budgetOf n words c l
+    same = budget-kept n words new (λ i lo hi. low i (omega arith))
 
-        to : (c ≡ R .source) ⊎ ListedAt n words (n * orderAt) at c → T (seedAt R (labelsOf n words) k s c)
-        to (inl e) = seed-source R (labelsOf n words) k s c e
-        to (inr p) = seed-arrived R (labelsOf n words) k s c (arrived p)
+    in-step : (i : ℕ) → at ≤ i → i < to → InStep R s (orderOf n (n * labelsAt) words i)
+    in-step i lo hi =
+        rw (arrives-now (w .queue) new kept a i lo hi) at (label-in-step law (w .searching .labels) registerCode (orderOf n (n * labelsAt) words i) (register-closing registerCode refl) (w .queue .ordered .known i (omega (arith, a .within))))
 
-        back : (c ≡ R .source) ⊎ Arrived (labelsOf n words) k s c → T (seedOf n words c)
-        back (inl e) = rw e (w .sourceSeed)
-        back (inr a) = place-seed c (w .ordered .covered c (a .known)) a
+-- words of zeros have no label
+no-label : (n : ℕ) (words : List ℕ) → Blank n words → (c : ℕ) → c < n → weightWord n (n * labelsAt) words c ≡ 0
+no-label n words blank c h = rw (blank .labels (n * labelsAt + c) (omega arith) (omega arith), blank .labels (n * labelsAt + n * weightHigh + c) (omega arith) (omega arith))
 
-    -- the layer on the words is the layer of the search
-    module _ (new : List ℕ) (next : Grown) (l : Layered R n noTrail words new next) where
-      pub front-next : Next R (labelsOf n words) k s (budgetOf n words) (budgetOf n new)
-      front-next c d =
-          l .table (w .list) c (λ x t. tt) d ∙ layer-seeds R (seedOf n words) (seedAt R (labelsOf n words) k s) (R .bound 0) (budgetOf n words) (λ x h. front-seeds x (omega arith)) c d
+unlabelled : (n : ℕ) (words : List ℕ) → Blank n words → (c : ℕ) → T (knownOf n (n * labelsAt) words c) → ⊥
+unlabelled n words blank c t = unknown-not (word-unknown n (n * labelsAt) words c (no-label n words blank c (known-below n (n * labelsAt) words c t))) t
 
-      pub front-least : (c d : ℕ) → budgetOf n words c d ≤ budgetOf n new c d
-      front-least c d = omega (arith, l .table (w .list) c (λ x t. tt) d, layer-least R (seedOf n words) (R .bound 0) (budgetOf n words) c d)
+-- what `label` and `arrive` ask
 
-      -- a layer that lists a cell has raised the table
-      pub front-grows : 0 < next .count → total n words < total n new
-      front-grows h =
-          total-grows n words new front-least (getD new (n * activeAt + 0) 0)
-          (l .grew (getD new (n * activeAt + 0) 0) (l .listed .cells 0 h) (l .listed .flagged 0 h))
+pub start-labelable : (n : ℕ) (words : List ℕ) → Blank n words → n ≤ 1024 → n * trailAt ≤ length words → (cell : ℕ) → cell < n → Labelable n (n * labelsAt) cell 0 0 0 words
+start-labelable n words blank few room cell h =
+    record {
+      ordered = ordered-none n (n * labelsAt) words (no-label n words blank);
+      inPlan = h;
+      unlabelled = word-unknown n (n * labelsAt) words cell (no-label n words blank cell h);
+      last = λ c t. absurd (unlabelled n words blank c t);
+      few = omega arith;
+      setIn = set-in n words few room;
+    }
 
-      pub front-sink : R .start .delay < budgetOf n new (R .sink) (R .start .load) → Least R k (suc s) (R .sink) (R .start .load) (R .start .delay)
-      front-sink h = layer-found R law (w .searching) front-next h
+pub waiting-asks : {R : Rules} {n : ℕ} {words : List ℕ} {k s active at count : ℕ} → Waiting R n words k s active at count → n ≤ 1024 → n * trailAt ≤ length words → ArriveAsks n (n * labelsAt) at count active words
+waiting-asks {n = n} {words = words} w few room =
+    record {
+      listed = w .list .listed;
+      start = w .queue .atCount;
+      short = ordered-count (w .queue .ordered);
+      known = w .queue .ordered .known;
+      setIn = set-in n words few room;
+      room = room;
+      apart = set-apart n;
+    }
 
-      -- labels and order stay
-      new-order : Ordered n new count
-      new-order = ordered-kept (w .ordered) new (λ i lo hi. l .labels i lo hi)
+-- words of zeros, with the source's label
+module _ {R : Rules} (law : Lawful R) (fifos : R .fifos ≡ 0) {n : ℕ} {words : List ℕ} (blank : Blank n words) {new : List ℕ} (a : LabelAdded n (n * labelsAt) (R .source) 0 0 0 words new) where
+  abbrev base : ℕ
+  base = n * labelsAt
 
-      -- a layer that lists no cell changed nothing
-      module _ (none : next .count ≡ 0) where
-        pub still : (c d : ℕ) → budgetOf n new c d ≡ budgetOf n words c d
-        still c d = go (split n c)
-          where
-            go : (n ≤ c) ⊎ (c < n) → budgetOf n new c d ≡ budgetOf n words c d
-            go (inl h) = Rattle.table.proofs.Views.budget-outside n new c d (λ a b. omega arith) ∙ sym (Rattle.table.proofs.Views.budget-outside n words c d (λ a b. omega arith))
-            go (inr h) = l .quiet c h (empty-flags (l .listed) none c h) d
+  only : (c : ℕ) → T (knownOf n base new c) → (0 ≡ R .fifos) × ((c ≡ R .source) × ((weightOf n base new c ≡ 0) × (stepsOf n base new c ≡ 0)))
+  only c t = go (equal c (R .source))
+    where
+      go : (c ≡ R .source) ⊎ (c ≡ R .source → ⊥) → (0 ≡ R .fifos) × ((c ≡ R .source) × ((weightOf n base new c ≡ 0) × (stepsOf n base new c ≡ 0)))
+      go (inl e) = (omega arith, (e, (rw e (a .weightSet), rw e (a .stepsSet))))
+      go (inr f) = absurd (unlabelled n words blank c (added-known a c t f))
 
-        pub same-total : total n new ≡ total n words
-        same-total = omega (arith, total-least n words new (λ c d. omega (arith, still c d)), total-least n new words (λ c d. omega (arith, still c d)))
+  rows : (i : ℕ) → i < n * arrivalAt → getD new i 0 ≡ 0
+  rows i h = a .low i (omega arith) ∙ blank .table i h
 
-        pub quiet-front : Front R n new k s (next .count) at end count
-        quiet-front =
+  flags : (i : ℕ) → n * listedAt ≤ i → i < n * trailAt → getD new i 0 ≡ 0
+  flags i lo hi = a .high i (omega arith) ∙ blank .labels i (omega arith) hi
+
+  start-list : Active R n new 0
+  start-list = cleared-active R n new rows flags
+
+  pub start-front : Waiting R n new 0 0 0 0 1
+  unfolding labelsFor
+  start-front =
+      record {
+        searching = search-start R law 0 (budgetOf n new) (labelsFor n new) (cleared-table n new rows) (no-exits R 0 (omega arith) (labelsFor n new fifoCode) (λ c t. t)) only (λ e c z. rw z (a .known));
+        list = start-list;
+        queue =
             record {
-              waiting =
-                  record {
-                    searching =
-                        record {
-                          table = same-table (Done R k s) still (w .searching .table);
-                          labels = labelled-kept n words new (λ i lo hi. l .labels i lo (omega arith)) R k s (w .searching .labels);
-                          unreached = w .searching .unreached;
-                        };
-                    list = l .active (w .list);
-                    ordered = new-order;
-                    sourceIn = w .sourceIn;
-                    sourceSeed = rw (seeds-kept n words new (l .seeds) (R .source) (w .sourceIn)) (w .sourceSeed);
-                    orderSeed = λ i h. rw (seeds-kept n words new (l .seeds) (orderOf n new i) (new-order .cells i (omega (arith, w .atEnd, w .endCount))), order-same n words new count (w .ordered) (l .labels) i (omega (arith, w .atEnd, w .endCount))) (w .orderSeed i h);
-                    seeds = λ c h t. seeds c h (rw (seeds-kept n words new (l .seeds) c h) at t);
-                    past = λ i h. rw (order-registers n words new count (w .ordered) (l .labels) i (omega (arith, w .atEnd, w .endCount)), order-steps n words new count (w .ordered) (l .labels) i (omega (arith, w .atEnd, w .endCount))) (w .past i h);
-                    waits = λ i lo hi. rw (order-registers n words new count (w .ordered) (l .labels) i (omega (arith, w .endCount))) (w .waits i lo hi);
-                    own = λ i lo hi. rw (order-registers n words new count (w .ordered) (l .labels) i hi) (w .own i lo hi);
-                    atEnd = w .atEnd;
-                    endCount = w .endCount;
-                    waves = w .waves;
-                    soon = λ h. omega (arith, later h);
-                    coloured = coloured-none R s (l .listed) none;
-                    stepsLow = omega (arith, w .stepsLow, same-total);
-                    labelsLow = λ c t. labels-low c (rw (known-kept n words new (λ i lo hi. l .labels i lo (omega arith)) c) at t);
-                  };
-              late = later;
-            }
-          where
-            later : at < end → s < stepsOf n new (orderOf n new at)
-            later h = rw (order-steps n words new count (w .ordered) (l .labels) at (omega (arith, w .endCount))) (f .late h)
-
-            seeds : (c : ℕ) → c < n → T (seedOf n words c) → (c ≡ R .source) ⊎ ListedAt n new (n * orderAt) at c
-            seeds c h t = go (w .seeds c h t)
-              where
-                go : (c ≡ R .source) ⊎ ListedAt n words (n * orderAt) at c → (c ≡ R .source) ⊎ ListedAt n new (n * orderAt) at c
-                go (inl e) = inl e
-                go (inr p) = inr (record { at = p .at; below = p .below; holds = order-same n words new count (w .ordered) (l .labels) (p .at) (omega (arith, p .below, w .atEnd, w .endCount)) ∙ p .holds })
-
-            labels-low : (c : ℕ) → T (knownOf n words c) → stepsOf n new c ≤ total n new
-            labels-low c t = omega (arith, label-kept n words new (λ i lo hi. l .labels i lo (omega arith)) c (known-below n words c t) .steps, w .labelsLow c t, same-total)
-
-    -- After a layer that changed nothing: the next label that waits, the next wave, or no route.
-    module _ (quiet : Next R (labelsOf n words) k s (budgetOf n words) (budgetOf n words)) where
-      -- the place of a labelled cell in the order
-      place : (c : ℕ) → T (knownOf n words c) → ListedAt n words (n * orderAt) count c
-      place c t = w .ordered .covered c t
-
-      label-at : (c : ℕ) (p : ListedAt n words (n * orderAt) count c) → (registersOf n words (orderOf n words (p .at)) ≡ registersOf n words c) × (stepsOf n words (orderOf n words (p .at)) ≡ stepsOf n words c)
-      label-at c p = (ap (registersOf n words) (p .holds), ap (stepsOf n words) (p .holds))
-
-      -- labels with registers and a place before `end` that wait have at least the steps of the first that waits
-      idle : at < end → IdleUntil (labelsOf n words) k s (stepsOf n words (orderOf n words at))
-      idle h c t e = go (place c t)
-        where
-          go : ListedAt n words (n * orderAt) count c → (stepsOf n words c ≤ s) ⊎ (stepsOf n words (orderOf n words at) ≤ stepsOf n words c)
-          go p = pick (split at (p .at)) (split end (p .at))
-            where
-              early : NotAfter (suc (registersOf n words (orderOf n words (p .at)))) (stepsOf n words (orderOf n words (p .at))) k s → stepsOf n words c ≤ s
-              early (inl q) = absurd (omega (arith, label-at c p))
-              early (inr q) = omega (arith, label-at c p)
-
-              pick : (at ≤ p .at) ⊎ (p .at < at) → (end ≤ p .at) ⊎ (p .at < end) → (stepsOf n words c ≤ s) ⊎ (stepsOf n words (orderOf n words at) ≤ stepsOf n words c)
-              pick (inr q) z = inl (early (w .past (p .at) q))
-              pick (inl q) (inr z) = inr (omega (arith, waiting-ascend w (p .at) q z, label-at c p))
-              pick (inl q) (inl z) = absurd (omega (arith, w .own (p .at) z (p .below), label-at c p))
-
-      pub pending-front : active ≡ 0 → at < end → Waiting R n words k (stepsOf n words (orderOf n words at)) active at end count
-      pending-front none h =
-          record {
-            searching = pending-turn R law (w .searching) (stepsOf n words (orderOf n words at)) quiet (omega (arith, f .late h)) (idle h);
-            list = w .list;
-            ordered = w .ordered;
-            sourceIn = w .sourceIn;
-            sourceSeed = w .sourceSeed;
-            orderSeed = w .orderSeed;
-            seeds = w .seeds;
-            past = λ i g. not-after-trans (w .past i g) (inr (refl, omega (arith, f .late h)));
-            waits = w .waits;
-            own = w .own;
-            atEnd = w .atEnd;
-            endCount = w .endCount;
-            waves = w .waves;
-            soon = λ g. omega arith;
-            coloured = coloured-none R (stepsOf n words (orderOf n words at)) (w .list .listed) none;
-            stepsLow = w .labelsLow (orderOf n words at) (w .ordered .known at (omega (arith, w .endCount)));
-            labelsLow = w .labelsLow;
-          }
-
-      -- nothing waits
-      none-waits : at ≡ end → NonePending (labelsOf n words) k s
-      none-waits e c t q = go (place c t)
-        where
-          go : ListedAt n words (n * orderAt) count c → stepsOf n words c ≤ s
-          go p = pick (split at (p .at))
-            where
-              early : NotAfter (suc (registersOf n words (orderOf n words (p .at)))) (stepsOf n words (orderOf n words (p .at))) k s → stepsOf n words c ≤ s
-              early (inl z) = absurd (omega (arith, label-at c p))
-              early (inr z) = omega (arith, label-at c p)
-
-              pick : (at ≤ p .at) ⊎ (p .at < at) → stepsOf n words c ≤ s
-              pick (inr z) = early (w .past (p .at) z)
-              pick (inl z) = absurd (omega (arith, w .own (p .at) (omega arith) (p .below), label-at c p))
-
-      -- a label with k registers is this wave's own
-      own-place : (c : ℕ) → T (knownOf n words c) → registersOf n words c ≡ k → (p : ListedAt n words (n * orderAt) count c) → at ≡ end → end ≤ p .at
-      own-place c t q p e = pick (split end (p .at))
-        where
-          never : NotAfter (suc (registersOf n words (orderOf n words (p .at)))) (stepsOf n words (orderOf n words (p .at))) k s → ⊥
-          never (inl z) = omega (arith, label-at c p)
-          never (inr z) = omega (arith, label-at c p)
-
-          pick : (end ≤ p .at) ⊎ (p .at < end) → end ≤ p .at
-          pick (inl z) = z
-          pick (inr z) = absurd (never (w .past (p .at) (omega arith)))
-
-      pub wave-front : active ≡ 0 → at ≡ end → end < count → Waiting R n words (suc k) (stepsOf n words (orderOf n words at)) active at count count
-      wave-front none e h =
-          record {
-            searching = wave-turn R law (w .searching) (stepsOf n words (orderOf n words at)) quiet (none-waits e) first;
-            list = w .list;
-            ordered = w .ordered;
-            sourceIn = w .sourceIn;
-            sourceSeed = w .sourceSeed;
-            orderSeed = w .orderSeed;
-            seeds = w .seeds;
-            past = λ i g. not-after-trans (w .past i g) (inl (omega arith));
-            waits = λ i lo hi. ap suc (w .own i (omega arith) hi);
-            own = λ i lo hi. absurd (omega arith);
-            atEnd = omega arith;
-            endCount = omega arith;
-            waves = omega (arith, w .waves);
-            soon = λ g. omega arith;
-            coloured = coloured-none R (stepsOf n words (orderOf n words at)) (w .list .listed) none;
-            stepsLow = w .labelsLow (orderOf n words at) (w .ordered .known at (omega arith));
-            labelsLow = w .labelsLow;
-          }
-        where
-          first : (c : ℕ) → T (knownOf n words c) → registersOf n words c ≡ k → stepsOf n words (orderOf n words at) ≤ stepsOf n words c
-          first c t q = go (place c t)
-            where
-              go : ListedAt n words (n * orderAt) count c → stepsOf n words (orderOf n words at) ≤ stepsOf n words c
-              go p = sorted (w .ordered .ascending at (p .at) (omega (arith, own-place c t q p e)) (p .below))
-                where
-                  sorted : NotAfter (registersOf n words (orderOf n words at)) (stepsOf n words (orderOf n words at)) (registersOf n words (orderOf n words (p .at))) (stepsOf n words (orderOf n words (p .at))) → stepsOf n words (orderOf n words at) ≤ stepsOf n words c
-                  sorted (inl z) = absurd (omega (arith, w .own at (omega arith) (omega arith), label-at c p))
-                  sorted (inr z) = omega (arith, label-at c p)
-
-      pub none-front : at ≡ end → end ≡ count → (p q : ℕ) → FromSink R p q → ⊥
-      none-front e g = none-turn R law (w .searching) quiet (none-waits e) (λ c t q. go c t q (place c t))
-        where
-          go : (c : ℕ) → T (knownOf n words c) → registersOf n words c ≡ k → ListedAt n words (n * orderAt) count c → ⊥
-          go c t q p = omega (arith, own-place c t q p e, p .below)
+              ordered = a .ordered;
+              atCount = omega arith;
+              orderSeed = λ i h. absurd (omega arith);
+              seeds = λ c h t. absurd (omega (arith, seed-word n new registerCode c t, flags (n * seedsAt + c) (omega arith) (omega arith)));
+              past = λ i h. absurd (omega arith);
+              soon = λ h. none-before _ _;
+            };
+        found = λ c t. let o = only c t in inl (omega (arith, law .heavy 0));
+        coloured = coloured-none R 0 (start-list .listed) refl;
+        unreached = omega (arith, cleared-table n new rows (R .sink) (R .start .load));
+      }

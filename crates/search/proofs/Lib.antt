@@ -1,8 +1,9 @@
 pub mod Total
 pub mod Arrivals
-pub mod Fronts
-pub mod NextFront
-pub mod Quiet
+pub mod Seeds
 pub mod Ready
+pub mod Queue
+pub mod Layers
+pub mod Fronts
 pub mod TakeTurn
 pub mod Ends

@@ -1,4 +1,4 @@
--- What the search leaves: the least registers and steps from the sink, with the labels; or that there is no route.
+-- What the search leaves: the least weight and steps from the sink, with the labels; or that there is no route.
 use Prim.Native.Nat.{ℕ, _*_, _≤_, _<_}
 use mathlib.Core.Path.{_≡_}
 use mathlib.Core.List.{List}
@@ -8,7 +8,7 @@ use Rattle.budget.specs.Search.{FromSink}
 use Rattle.layout.specs.Layout.{arrivalAt, labelsAt, trailAt}
 use Rattle.rows.specs.Words.{KeptFrom}
 use Rattle.search.specs.Turn.{Reaching}
-use Rattle.search.specs.declared.waves.Reached.{Reached}
+use Rattle.search.specs.declared.loops.Reached.{Reached}
 
 -- the table is zero, and so are the labels, lists and flags
 pub record Blank (n : ℕ) (words : List ℕ) : Type 0 where
@@ -17,7 +17,7 @@ pub record Blank (n : ℕ) (words : List ℕ) : Type 0 where
 
 pub data SearchDone (R : Rules) (n : ℕ) (new : List ℕ) : Reached → Type 0 where
   sink : (k s count : ℕ) → Reaching R n new k s count → SearchDone R n new (Reached.Sink k s count)
-  nothing : ((p q : ℕ) → FromSink R p q → ⊥) → SearchDone R n new Reached.Nothing
+  nothing : ((w t : ℕ) → FromSink R w t → ⊥) → SearchDone R n new Reached.Nothing
 
 pub record SearchEffect (R : Rules) (n : ℕ) (old new : List ℕ) (r : Reached) : Type 0 where
   pub same : length new ≡ length old

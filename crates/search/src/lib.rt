@@ -1,7 +1,7 @@
-// The search: waves by registers to go, layers by steps to go, on the scratch words.
+// The search: labels by weight and steps to go, layers by steps to go, on the scratch words.
 mod anew;
+mod loops;
 mod turns;
-mod waves;
 
 pub use anew::search_anew;
-pub use waves::Reached;
+pub use loops::Reached;

@@ -1,9 +1,9 @@
-// One turn of the search: a layer, then the new labels, or the next label or wave.
+// One turn of the search: a layer, then the new labels; or, after a layer that changed nothing, the next label.
 ghost use mathlib.Core.Path.{_≡_};
 ghost use Prim.Native.Nat.{_+_, _*_, _≤_};
 ghost use lib.ListN.{length};
 ghost use Rattle.costs.specs.Costs.{CostsOf};
-ghost use Rattle.layout.specs.Layout.{trailAt};
+ghost use Rattle.layout.specs.Layout.{labelsAt, trailAt};
 ghost use Rattle.table.specs.Problem.{Ready, Room, rulesFor};
 ghost use Rattle.labels.specs.Labels.{Ordered};
 ghost use Rattle.search.specs.Turn.{FrontOf, turnWhenQuiet, TurnEffect};
@@ -11,66 +11,55 @@ use costs::COSTS;
 use labels::fresh_in;
 use labels::label_active;
 use labels::steps_of;
+use labels::weight_word;
+use layout::LABELS;
 use layout::ORDER;
 use problem::Problem;
 use table::next_layer;
 use trail::no_trail;
 
-// Where the search stands: registers and steps to go, the count of the active list, and three places of the order:
-// the labels before `at` are seeds, those before `end` wait for their steps, `count` is the order's length.
+// Where the search stands: the weight to go after the current span, the steps to go, the count of the active list,
+// and two places of the order: the labels before `at` are seeds, `count` is the order's length.
 pub struct Progress {
-    pub registers: u16,
+    pub weight: u32,
     pub steps: u32,
     pub active: usize,
     pub at: usize,
-    pub end: usize,
     pub count: usize,
 }
 
 pub enum Turn {
-    // Labels with at most these steps are to become seeds.
+    // Labels that are not after this weight and these steps are to become seeds.
     On(Progress),
-    // The sink is reached: registers, steps, labels.
-    Sink(u16, u32, usize),
+    // The sink is reached: weight after the first span, steps, labels.
+    Sink(u32, u32, usize),
     Nothing,
 }
 
-// After a layer that changed nothing.
+// After a layer that changed nothing: the next label, if one waits.
 fn after_quiet(scratch: &[u16], n: usize, f: Progress) -> Turn
-    requires { ⌜ Ordered n (now scratch) (f .count) × ((f .at ≤ f .end) × ((f .end ≤ f .count) × ((f .registers ≤ f .end) × ((n ≤ 1024) × (n * trailAt ≤ length (now scratch)))))) ⌝ }
+    requires { ⌜ Ordered n (n * labelsAt) (now scratch) (f .count) × ((f .at ≤ f .count) × ((n ≤ 1024) × (n * trailAt ≤ length (now scratch)))) ⌝ }
     ensures { λ r. ⌜ r ≡ turnWhenQuiet n (now (scratch .entry)) f ⌝ }
 {
     let at = f.at;
-    let end = f.end;
     let count = f.count;
-    if at == end {
-        if end == count {
-            return Turn::Nothing;
-        }
-        let first = scratch[n * ORDER + at] as usize;
-        let steps = steps_of(scratch, n, first);
-        return Turn::On(Progress {
-            registers: f.registers + 1,
-            steps: steps,
-            active: 0,
-            at: at,
-            end: count,
-            count: count,
-        });
+    if at == count {
+        return Turn::Nothing;
     }
-    let first = scratch[n * ORDER + at] as usize;
-    let steps = steps_of(scratch, n, first);
+    let set = n * LABELS;
+    let first = scratch[set + n * ORDER + at] as usize;
+    let weight = weight_word(scratch, n, set, first) - 1;
+    let steps = steps_of(scratch, n, set, first);
     Turn::On(Progress {
-        registers: f.registers,
+        weight: weight,
         steps: steps,
         active: 0,
         at: at,
-        end: end,
         count: count,
     })
 }
 
-// One layer; then, if it grew, the sink is tested and new labels are set; if not, the next label or wave is next.
+// One layer; then, if it grew, the sink is tested and new labels are set; if not, the next label is next.
 pub fn take_turn(
     plan: &[u8],
     scratch: &mut [u16],
@@ -90,15 +79,23 @@ pub fn take_turn(
     let steps = f.steps + 1;
     let sink = p.sink;
     if fresh_in(scratch, p, sink) {
-        return Turn::Sink(f.registers, steps, f.count);
+        return Turn::Sink(f.weight, steps, f.count);
     }
-    let count = label_active(plan, scratch, p, active, f.registers, steps, f.count);
+    let count = label_active(
+        plan,
+        scratch,
+        p,
+        n * LABELS,
+        active,
+        f.weight + 1,
+        steps,
+        f.count,
+    );
     Turn::On(Progress {
-        registers: f.registers,
+        weight: f.weight,
         steps: steps,
         active: active,
         at: f.at,
-        end: f.end,
         count: count,
     })
 }

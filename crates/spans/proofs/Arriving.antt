@@ -6,7 +6,7 @@ use mathlib.Core.List.{List}
 use native.Mathlib.Omega.{arith}
 use lib.ListN.{length, getD}
 use Rattle.timing.specs.Formulas.{gateDelay, registerDriver, bufferLoad}
-use Rattle.rules.specs.Rules.{Rules, rulesOf}
+use Rattle.rules.specs.Rules.{Rules, rulesOf, registerCode}
 use Rattle.rows.specs.Rows.{viewOf}
 use Rattle.problem.specs.declared.Problem.{Problem}
 use Rattle.table.specs.Problem.{rulesFor}
@@ -23,7 +23,7 @@ module _ (p : Problem) (marks : List ℕ) where
   abbrev R : Rules
   R = rulesFor p marks
 
-  closer-named : (cell : ℕ) → R .closer cell ≡ registerDriver (p .elements .register)
+  closer-named : (cell : ℕ) → R .closer cell registerCode ≡ registerDriver (p .elements .register)
   unfolding rulesFor rulesOf
   closer-named cell = refl
 

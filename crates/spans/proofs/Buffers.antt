@@ -9,11 +9,13 @@ use borrow.Author.Count.{below-more}
 use lib.Dec.{T, T-not}
 use lib.ListN.{length, getD}
 use Rattle.timing.specs.Formulas.{gateDelay, bufferDriver, bufferLoad}
-use Rattle.rules.specs.Rules.{Rules}
+use Rattle.rules.specs.Rules.{Rules, registerCode, isClosing}
 use Rattle.rules.specs.Legal.{mayStand}
 use Rattle.rules.specs.Carrying.{Buffering}
+use Rattle.rules.proofs.View.{register-closing}
 use Rattle.rules.proofs.Document01.{buffer-site, buffer-stands}
 use Rattle.plan.proofs.Truth.{of-false}
+use Rattle.budget.proofs.Codes.{buffer-open}
 use Rattle.costs.specs.Costs.{bufferAt}
 use Rattle.rows.specs.Rows.{viewOf}
 use Rattle.problem.specs.declared.Problem.{Problem}
@@ -26,6 +28,9 @@ use Rattle.spans.specs.Opens.{Opens}
 use Rattle.spans.specs.Eases.{Ground, Eases}
 use Rattle.spans.specs.Arrive.{ArriveAsks, BuffersIn}
 use Rattle.spans.proofs.Eases.{eases-self, eases-then, ground-eases, eased-eases, eased-in}
+
+no-register : {code : ℕ} → Buffering code → code ≡ registerCode → ⊥
+no-register {code} b e = T-not (isClosing code) (b .noClose) (register-closing code e)
 
 -- the delay after buffer i
 abbrev pub drivenBy : Problem → ℕ → ℕ → ℕ → ℕ
@@ -44,11 +49,11 @@ module _ (p : Problem) (marks : List ℕ) (cell : ℕ) where
   -- a buffer that may stand is one of the list, and the cell takes buffers
   listed : (i : ℕ) → Buffering (suc i) → T (mayStand R cell (suc i)) → i < p .elements .count
   unfolding rulesFor
-  listed i b t = omega (arith, buffer-site (planFor p marks) (p .elements) (p .source) (p .sink) cell (suc i) (b .someGate) (b .noRegister) t .listed)
+  listed i b t = omega (arith, buffer-site (planFor p marks) (p .elements) (p .source) (p .sink) cell (suc i) (b .someGate) (no-register b) t .listed)
 
   takes-some : (code : ℕ) → Buffering code → T (mayStand R cell code) → T (takesBuffers (getD marks cell 0) p cell)
   unfolding rulesFor
-  takes-some code b t = site-takes p marks cell code (buffer-site (planFor p marks) (p .elements) (p .source) (p .sink) cell code (b .someGate) (b .noRegister) t)
+  takes-some code b t = site-takes p marks cell code (buffer-site (planFor p marks) (p .elements) (p .source) (p .sink) cell code (b .someGate) (no-register b) t)
 
   -- What the buffers leave, as the rules name them
   module _ (words : List ℕ) (load delay : ℕ) where
@@ -86,7 +91,7 @@ module _ (p : Problem) (marks : List ℕ) (t : ℕ) (old : List ℕ) (count cell
 
     module _ (takes : takesBuffers (getD marks cell 0) p cell ≡ true) (inList : i < p .elements .count) (light : bufferLoad (bufferAt (p .elements) i) ≤ p .elements .limit .0) where
       buffering : Buffering (suc i)
-      buffering = record { someGate = λ z. omega arith; noRegister = λ z. omega (arith, asks .ground .ready .valid .count) }
+      buffering = record { someGate = λ z. omega arith; noClose = buffer-open i (omega (arith, asks .ground .ready .valid .count)) }
 
       opened : Opens p marks t cell (bufferLoad (bufferAt (p .elements) i)) (drivenBy p load delay i)
       opened =

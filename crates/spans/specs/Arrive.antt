@@ -6,7 +6,7 @@ use lib.ListN.{length}
 use Rattle.timing.specs.declared.elements.Elements.{Elements}
 use Rattle.timing.specs.Formulas.{gateDelay, bufferDriver, bufferLoad, registerLoad}
 use Rattle.timing.specs.Valid.{Valid}
-use Rattle.rules.specs.Rules.{Rules}
+use Rattle.rules.specs.Rules.{Rules, registerCode}
 use Rattle.rules.specs.Legal.{mayStand}
 use Rattle.rules.specs.Carrying.{Buffering}
 use Rattle.costs.specs.Costs.{bufferAt}
@@ -52,4 +52,4 @@ ShutIn n words cell closing = closing ≤ latest → closesOf n words cell ≤ c
 pub record Arrived (R : Rules) (n : ℕ) (words : List ℕ) (cell load delay : ℕ) : Type 0 where
   pub passes : viewOf words cell load ≤ delay
   pub buffers : (code : ℕ) → Buffering code → T (mayStand R cell code) → bufferLoad (R .buffer code) ≤ R .limit → delay + gateDelay (bufferDriver (R .buffer code)) load ≤ latest → viewOf words cell (bufferLoad (R .buffer code)) ≤ delay + gateDelay (bufferDriver (R .buffer code)) load
-  pub closes : MayClose R cell → ShutIn n words cell (delay + gateDelay (R .closer cell) load)
+  pub closes : MayClose R cell → ShutIn n words cell (delay + gateDelay (R .closer cell registerCode) load)

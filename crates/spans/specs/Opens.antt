@@ -26,7 +26,7 @@ module _ (p : Problem) (marks : List ℕ) where
   module _ (t : ℕ) where
     -- a span has left the cell with this load and delay
     abbrev pub Opens : ℕ → ℕ → ℕ → Type 0
-    Opens cell load delay = (u : ℕ) → t ≤ u → (vs : Route) → T (legalFrom (rulesAt u) cell 0 (stage load delay) vs) → HasRoute (rulesAt u)
+    Opens cell load delay = (u : ℕ) → t ≤ u → (vs : Route) → T (legalFrom (rulesAt u) cell 0 0 (stage load delay) vs) → HasRoute (rulesAt u)
 
   -- after a register on the cell
   abbrev pub OpensFresh : ℕ → ℕ → Type 0
@@ -42,4 +42,4 @@ module _ (p : Problem) (marks : List ℕ) where
     pub record Comes (cell load delay : ℕ) : Type 0 where
       pub passes : Opens t cell load delay
       pub buffers : (code : ℕ) → Buffering code → T (mayStand (rulesFor p marks) cell code) → bufferLoad (rulesFor p marks .buffer code) ≤ p .elements .limit .0 → Opens t cell (bufferLoad (rulesFor p marks .buffer code)) (delay + gateDelay (bufferDriver (rulesFor p marks .buffer code)) load)
-      pub closes : MayClose (rulesFor p marks) cell → Shuts cell (delay + gateDelay (rulesFor p marks .closer cell) load)
+      pub closes : MayClose (rulesFor p marks) cell → Shuts cell (delay + gateDelay (rulesFor p marks .closer cell registerCode) load)

@@ -10,11 +10,11 @@ use lib.ListN.{length, getD}
 use Rattle.plan.specs.Plan.{marksAt}
 use Rattle.timing.specs.declared.elements.Elements.{Elements}
 use Rattle.timing.specs.Formulas.{gateDelay, bufferDriver, bufferLoad, registerDriver}
-use Rattle.rules.specs.Rules.{Rules, rulesOf, noGate}
+use Rattle.rules.specs.Rules.{Rules, rulesOf, noGate, registerCode, fifoCode}
 use Rattle.rules.specs.Legal.{mayStand}
 use Rattle.plan.proofs.Truth.{both, parts, is-true, is-false, of-true, of-false, neqb→ne, ne→neqb}
 use Rattle.rules.proofs.Document01.{BufferSite, no-gate-stands, buffer-site, buffer-stands}
-use Rattle.budget.specs.Table.{Table, only, maxBelow, viaBuffer, arrival, loadOf, bufferCost, closeCost}
+use Rattle.budget.specs.Table.{Table, only, maxBelow, viaBuffer, viaClose, arrival, loadOf, bufferCost, closeCost}
 use Rattle.budget.proofs.Max.{max-longer}
 use Rattle.budget.proofs.Active.{max-same}
 use Rattle.costs.specs.Costs.{rowWords, bufferAt}
@@ -126,18 +126,24 @@ module _ (p : Problem) (marks words : List ℕ) (cell : ℕ) (ready : Ready p ma
   unfoldable pub through : ℕ → ℕ
   through l = only (leb l (e .limit .0)) (max (getD words (cell * rowWords + l) 0) (maxBelow 6 (λ i. viaBuffer R A cell l (suc i))))
 
+  -- no cell is marked for a FIFO
+  no-fifo-seed : seedOf (length marks) words fifoCode cell ≡ false
+  unfolding seedOf
+  no-fifo-seed = refl
+
   -- `arrival` at a cell of the plan
-  whole : (l : ℕ) → l < rowWords → arrival R (seedOf (length marks) words) (R .bound 0) A cell l ≡ only (leb l (e .limit .0)) (max (getD words (cell * rowWords + l) 0) (max (maxBelow 6 (λ i. viaBuffer R A cell l (suc i))) (only (seedOf (length marks) words cell) (2 * e .period + 1 - gateDelay (registerDriver (e .register)) l))))
-  unfolding arrival closeCost rulesFor rulesOf only
+  whole : (l : ℕ) → l < rowWords → arrival R (seedOf (length marks) words) (R .bound 0 0) A cell l ≡ only (leb l (e .limit .0)) (max (getD words (cell * rowWords + l) 0) (max (maxBelow 6 (λ i. viaBuffer R A cell l (suc i))) (only (seedOf (length marks) words registerCode cell) (2 * e .period + 1 - gateDelay (registerDriver (e .register)) l))))
+  unfolding arrival viaClose closeCost rulesFor rulesOf only
   whole l h =
       simp
-      (is-true (mayStand R cell noGate) (no-gate-stands (planFor p marks) e (p .source) (p .sink) cell), budget-word l h)
+      (is-true (mayStand R cell noGate) (no-gate-stands (planFor p marks) e (p .source) (p .sink) cell), budget-word l h, no-fifo-seed)
+      (ap (only (leb l (e .limit .0))) (omega arith))
 
   pub limited-through : site p marks cell ≡ false → (l : ℕ) → limited words cell (e .limit .0) l ≡ through l
   unfolding through
   limited-through s l = rw (buffers-none s l) (ap (only (leb l (e .limit .0))) (omega arith))
 
-  pub through-arrival : seedOf (length marks) words cell ≡ false → (l : ℕ) → l < rowWords → through l ≡ arrival R (seedOf (length marks) words) (R .bound 0) A cell l
+  pub through-arrival : seedOf (length marks) words registerCode cell ≡ false → (l : ℕ) → l < rowWords → through l ≡ arrival R (seedOf (length marks) words) (R .bound 0 0) A cell l
   unfolding through only
   through-arrival s l h = rw (whole l h) (simp s (ap (only (leb l (e .limit .0))) (omega arith)))
 
@@ -151,6 +157,6 @@ module _ (p : Problem) (marks words : List ℕ) (cell : ℕ) (ready : Ready p ma
         same =
             max-same (e .count) (behind mid cell e l) (behind words cell e l) (λ i h. simp (row (bufferLoad (bufferAt e i)) (buffer-load i h)))
 
-    pub driven-arrival : seedOf (length marks) words cell ≡ true → l < rowWords → getD mid (to + l) 0 ≡ through l → driven mid to (2 * e .period + 1) (registerDriver (e .register)) (e .limit .0) l ≡ arrival R (seedOf (length marks) words) (R .bound 0) A cell l
+    pub driven-arrival : seedOf (length marks) words registerCode cell ≡ true → l < rowWords → getD mid (to + l) 0 ≡ through l → driven mid to (2 * e .period + 1) (registerDriver (e .register)) (e .limit .0) l ≡ arrival R (seedOf (length marks) words) (R .bound 0 0) A cell l
     unfolding through only
     driven-arrival s h here = rw (whole l h) (simp s (raised-twice (leb l (e .limit .0)) _ _ _ _ _ here))

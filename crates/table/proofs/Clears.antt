@@ -7,7 +7,7 @@ use native.Mathlib.Omega.{arith}
 use lib.ListN.{length, getD, set, length-set}
 use lib.Seq.{getD-set-same, getD-set-other}
 use Rattle.plan.proofs.Truth.{split, equal}
-use Rattle.layout.specs.Layout.{activeAt, listedAt, seedsAt, cellWords}
+use Rattle.layout.specs.Layout.{activeAt, listedAt, seedsAt, cellWords, trailAt}
 use Rattle.rows.specs.Words.{Kept, KeptFrom}
 use Rattle.costs.specs.Costs.{CostsOf}
 use Rattle.lists.specs.Lists.{flagOf, ListedAt, Listed}
@@ -57,7 +57,7 @@ clear-all {n} {active} {old} {now} listed f =
     clear c h (inr a) (inr z) = listed-clear c (listed .covered c h a)
 
 -- one more
-module _ (n active i : ℕ) (old now : List ℕ) (listed : Listed n old (n * activeAt) active) (room : n * cellWords ≤ length old) (short : i < active) (before : Clearing n i old now) where
+module _ (n active i : ℕ) (old now : List ℕ) (listed : Listed n old (n * activeAt) active) (room : n * trailAt ≤ length old) (short : i < active) (before : Clearing n i old now) where
   same-cell : getD now (n * activeAt + i) 0 ≡ getD old (n * activeAt + i) 0
   same-cell = before .low (n * activeAt + i) (omega arith) (omega (arith, listed-count listed))
 

@@ -31,7 +31,7 @@ use Rattle.costs.specs.Costs.{rowWords, costWords, stepCost, horizontalAt, vert
 use Rattle.rows.specs.Rows.{StepRow}
 use Rattle.rows.proofs.Leaves.{step-leaves}
 use Rattle.problem.proofs.Sizes.{cells-are, few-cells}
-use Rattle.table.specs.Problem.{planFor, rulesFor, Ready, budgetOf, seedOf}
+use Rattle.table.specs.Problem.{planFor, rulesFor, budgetOf, seedOf}
 use Rattle.table.specs.Layer.{arrivalOf, viaStep, arrivals, Raised, Follows, Offered, OfferAsks, Spread, SpreadAsks, SpreadAll, SpreadAllAsks}
 use Rattle.table.proofs.Views.{budget-kept, seeds-kept, arrival-at, arrival-outside, limit-named}
 use Rattle.table.proofs.Follows.{follows-same, follows-kept, follows-more}
@@ -96,7 +96,7 @@ module _ (p : Problem) (marks costs : List ℕ) (cell : ℕ) (next : Grown) (wor
         go : (rowWords ≤ l) ⊎ (l < rowWords) → arrivalOf n w₀ l ≡ arrivals R n words cell l
         go (inl h) =
             arrival-outside n w₀ l h
-            ∙ sym (arrival-past R (seedOf n words) (R .bound 0) (budgetOf n words) cell l (omega (arith, limit-named p marks, asks .ready .valid .limit)))
+            ∙ sym (arrival-past R (seedOf n words) (R .bound 0 0) (budgetOf n words) cell l (omega (arith, limit-named p marks, asks .ready .valid .limit)))
         go (inr h) = arrival-at n w₀ l h ∙ fill .done l h
 
     pub filled-listed : Listed n w₀ (n * nextAt) (next .count)
@@ -130,7 +130,7 @@ module _ (p : Problem) (marks costs : List ℕ) (cell : ℕ) (next : Grown) (wor
 
       -- nothing arrives past the limit
       past : (l : ℕ) → p .elements .limit .0 < l → arrivals R n words cell l ≡ 0
-      past l h = arrival-past R (seedOf n words) (R .bound 0) (budgetOf n words) cell l (omega (arith, limit-named p marks))
+      past l h = arrival-past R (seedOf n words) (R .bound 0 0) (budgetOf n words) cell l (omega (arith, limit-named p marks))
 
       -- what one wire leaves of the cell's arrival row
       via-wire-row : (wire : Wire) (base : ℕ) → RowAt (stepCost wire (p .elements .limit .0)) base costs → (old : List ℕ) → ((l : ℕ) → arrivalOf n old l ≡ arrivals R n words cell l) → (l : ℕ) → viaStep n old costs base (wireLoad wire) l ≡ viaWire wire (p .elements .limit .0) (arrivals R n words) cell l
@@ -256,7 +256,7 @@ module _ (p : Problem) (marks costs : List ℕ) (active : ℕ) (t : Trail) (word
         given-now c l =
             rw same-cell
             (given-row Q (arrivals Q m words) (arrivals Q m now) (activeCell i)
-            (arrival-row Q (seedOf m words) (seedOf m now) (Q .bound 0) (budgetOf m words) (budgetOf m now) (activeCell i) same-row (seeds-kept m words now (before .raised .seeds) (activeCell i) (asks .cells i short)))
+            (arrival-row Q (seedOf m words) (seedOf m now) (Q .bound 0 0) (budgetOf m words) (budgetOf m now) (activeCell i) same-row (seeds-kept m words now (before .raised .seeds) (activeCell i) (asks .cells i short)))
             c l)
 
         go : (j : ℕ) → j < i + 1 → (c l : ℕ) → (i ≤ j) ⊎ (j < i) → given Q (arrivals Q m words) (activeCell j) c l ≤ budgetOf m last c l

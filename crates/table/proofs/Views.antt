@@ -64,9 +64,9 @@ module _ (n : ℕ) where
       go (inl h) = arrival-outside new l h ∙ sym (arrival-outside old l h)
       go (inr h) = arrival-at new l h ∙ (kept (n * arrivalAt + l) (omega arith) (omega arith) ∙ sym (arrival-at old l h))
 
-  pub seeds-kept : (old new : List ℕ) → Kept (n * seedsAt) (n * trailAt) old new → (c : ℕ) → c < n → seedOf n new c ≡ seedOf n old c
+  pub seeds-kept : (old new : List ℕ) → Kept (n * seedsAt) (n * trailAt) old new → (c : ℕ) → c < n → (code : ℕ) → seedOf n new code c ≡ seedOf n old code c
   unfolding seedOf
-  seeds-kept old new kept c h = rw (kept (n * seedsAt + c) (omega arith) (omega arith))
+  seeds-kept old new kept c h code = rw (kept (n * seedsAt + c) (omega arith) (omega arith))
 
 -- what the rules of a problem name
 

@@ -65,23 +65,23 @@ module _ (R : Rules) (n : ℕ) (t : Trail) (old mid pushed new : List ℕ) (acti
   gives i h c l =
       let x : ℕ = getD old (n * activeAt + i) 0 in
       let e : getD mid (n * activeAt + i) 0 ≡ x = same-list i h in
-      rw e (given-row R B (arrivals R n mid) x (arrival-row R (seedOf n old) (seedOf n mid) (R .bound 0) (budgetOf n old) (budgetOf n mid) x (same-budget x) (seeds-kept n old mid (λ k lo hi. cleared .rest k lo) x (start .cells i h))) c l)
+      rw e (given-row R B (arrivals R n mid) x (arrival-row R (seedOf n old) (seedOf n mid) (R .bound 0 0) (budgetOf n old) (budgetOf n mid) x (same-budget x) (seeds-kept n old mid (λ k lo hi. cleared .rest k lo) x (start .cells i h))) c l)
 
   least : (c l : ℕ) → budgetOf n old c l ≤ budgetOf n new c l
   least c l = omega (arith, same-budget c l, spread .least c l, final-budget c l)
 
-  most : (c l : ℕ) → budgetOf n new c l ≤ layer R (seedOf n old) (R .bound 0) (budgetOf n old) c l
+  most : (c l : ℕ) → budgetOf n new c l ≤ layer R (seedOf n old) (R .bound 0 0) (budgetOf n old) c l
   most c l =
       omega (
         arith,
         final-budget c l,
-        spread .most (layer R (seedOf n old) (R .bound 0) (budgetOf n old) c l) c l
-            (omega (arith, same-budget c l, layer-least R (seedOf n old) (R .bound 0) (budgetOf n old) c l))
+        spread .most (layer R (seedOf n old) (R .bound 0 0) (budgetOf n old) c l) c l
+            (omega (arith, same-budget c l, layer-least R (seedOf n old) (R .bound 0 0) (budgetOf n old) c l))
             (λ i h.
             omega (
               arith,
               gives i h c l,
-              given-most R (seedOf n old) (R .bound 0) (budgetOf n old) (getD old (n * activeAt + i) 0) c l (omega (arith, start .cells i h)),
+              given-most R (seedOf n old) (R .bound 0 0) (budgetOf n old) (getD old (n * activeAt + i) 0) c l (omega (arith, start .cells i h)),
             )),
       )
 
@@ -134,7 +134,7 @@ module _ (R : Rules) (n : ℕ) (t : Trail) (old mid pushed new : List ℕ) (acti
       omega (
         arith,
         given-row R B (arrivals R n new) x
-            (arrival-row R (seedOf n old) (seedOf n new) (R .bound 0) (budgetOf n old) (budgetOf n new) x (quiet x h f) (seeds-kept n old new seeds x h)) c l,
+            (arrival-row R (seedOf n old) (seedOf n new) (R .bound 0 0) (budgetOf n old) (budgetOf n new) x (quiet x h f) (seeds-kept n old new seeds x h)) c l,
         all right x c l h t,
       )
 
@@ -143,7 +143,7 @@ module _ (R : Rules) (n : ℕ) (t : Trail) (old mid pushed new : List ℕ) (acti
       record {
         same = taken .same ∙ (spread .raised .same ∙ cleared .same);
         listed = taken .listed;
-        table = λ right c near l. pushes-layer R (seedOf n old) (R .bound 0) (budgetOf n old) (budgetOf n new c l) c l (least c l) (most c l) (λ x h t. all right x c l (omega arith) (near x t));
+        table = λ right c near l. pushes-layer R (seedOf n old) (R .bound 0 0) (budgetOf n old) (budgetOf n new c l) c l (least c l) (most c l) (λ x h t. all right x c l (omega arith) (near x t));
         active = λ right. record { listed = taken .listed; settled = settled right };
         grew = grew;
         quiet = quiet;

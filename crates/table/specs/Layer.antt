@@ -31,7 +31,7 @@ viaStep n words costs base step l = arrivalOf n words (l + step) - getD costs (b
 
 -- the arrival rows of all cells, as the table in the words has them
 abbrev pub arrivals : Rules → ℕ → List ℕ → Table
-arrivals R n words = arrival R (seedOf n words) (R .bound 0) (budgetOf n words)
+arrivals R n words = arrival R (seedOf n words) (R .bound 0 0) (budgetOf n words)
 
 -- what cell n gives to its neighbours is in the table already
 abbrev pub Settled : Rules → ℕ → List ℕ → ℕ → Type 0
@@ -146,7 +146,7 @@ pub record SpreadAll (R : Rules) (n active : ℕ) (t : Trail) (old new : List �
 pub record Layered (R : Rules) (n : ℕ) (t : Trail) (old new : List ℕ) (next : Grown) : Type 0 where
   pub same : length new ≡ length old
   pub listed : Listed n new (n * activeAt) (next .count)
-  pub table : {P : ℕ → Bool} {active : ℕ} → ActiveIn R n P old active → (c : ℕ) → ((x : ℕ) → T (R .linked c x) → T (P x)) → (l : ℕ) → budgetOf n new c l ≡ layer R (seedOf n old) (R .bound 0) (budgetOf n old) c l
+  pub table : {P : ℕ → Bool} {active : ℕ} → ActiveIn R n P old active → (c : ℕ) → ((x : ℕ) → T (R .linked c x) → T (P x)) → (l : ℕ) → budgetOf n new c l ≡ layer R (seedOf n old) (R .bound 0 0) (budgetOf n old) c l
   pub active : {P : ℕ → Bool} {active : ℕ} → ActiveIn R n P old active → ActiveIn R n P new (next .count)
   pub grew : (c : ℕ) → c < n → flagOf n new c ≡ 1 → Grew n old new c
   pub quiet : (c : ℕ) → c < n → flagOf n new c ≡ 0 → SameRow n old new c

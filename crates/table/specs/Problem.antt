@@ -1,10 +1,11 @@
 -- What a routing problem has in the scratch words.
 use Prim.Native.Nat.{ℕ, _+_, _*_, _≤_}
-use mathlib.Core.Bool.{Bool, _&&_}
+use mathlib.Core.Bool.{_&&_}
 use mathlib.Core.List.{List}
 use lib.Dec.{eqb, ltb}
 use lib.ListN.{length, getD}
-use Rattle.budget.specs.Table.{Table, only}
+use Rattle.rules.specs.Rules.{registerCode}
+use Rattle.budget.specs.Table.{Table, Seeds, only}
 use Rattle.costs.specs.Costs.{rowWords}
 use Rattle.layout.specs.Layout.{seedsAt, cellWords}
 use Rattle.rows.specs.Rows.{viewOf}
@@ -19,9 +20,10 @@ Room n words = n * cellWords ≤ length words
 unfoldable pub budgetOf : ℕ → List ℕ → Table
 budgetOf n words c l = only (ltb c n && ltb l rowWords) (viewOf words c l)
 
--- a cell's seed flag
+-- a cell's seed mark
 abbrev pub seedWord : ℕ → List ℕ → ℕ → ℕ
 seedWord n words c = getD words (n * seedsAt + c) 0
 
-unfoldable pub seedOf : ℕ → List ℕ → ℕ → Bool
-seedOf n words c = eqb (seedWord n words c) 1
+-- the seeds by code: mark 1 is a register's, or the source's
+unfoldable pub seedOf : ℕ → List ℕ → Seeds
+seedOf n words code c = eqb code registerCode && eqb (seedWord n words c) 1

@@ -63,7 +63,7 @@ fn raise_buffers(
 // The arrival row of a cell, in the one row that there is for it.
 pub fn fill_arrival(plan: &[u8], scratch: &mut [u16], p: Problem, costs: &[u16; COSTS], cell: usize)
     requires { ⌜ CellReady p (now plan) (now costs) (now scratch) cell ⌝ }
-    ensures { λ _. ⌜ Filled (arrival (rulesFor p (now (plan .entry))) (seedOf (length (now (plan .entry))) (now (scratch .entry))) (rulesFor p (now (plan .entry)) .bound 0) (budgetOf (length (now (plan .entry))) (now (scratch .entry))) cell) (length (now (plan .entry)) * arrivalAt) rowWords (now (scratch .entry)) (now (scratch .exit)) ⌝ }
+    ensures { λ _. ⌜ Filled (arrival (rulesFor p (now (plan .entry))) (seedOf (length (now (plan .entry))) (now (scratch .entry))) (rulesFor p (now (plan .entry)) .bound 0 0) (budgetOf (length (now (plan .entry))) (now (scratch .entry))) cell) (length (now (plan .entry)) * arrivalAt) rowWords (now (scratch .entry)) (now (scratch .exit)) ⌝ }
 {
     let n = plan.len();
     let to = n * ARRIVAL;

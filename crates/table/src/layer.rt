@@ -3,7 +3,7 @@
 ghost use Prim.Native.Nat.{_+_, _*_, _≤_, _<_};
 ghost use lib.ListN.{length};
 ghost use Rattle.costs.specs.Costs.{CostsOf};
-ghost use Rattle.layout.specs.Layout.{activeAt};
+ghost use Rattle.layout.specs.Layout.{activeAt, trailAt};
 ghost use Rattle.lists.specs.Lists.{Listed};
 ghost use Rattle.trail.specs.Trail.{Sound};
 ghost use Rattle.table.specs.Problem.{Ready, Room, rulesFor};
@@ -19,8 +19,8 @@ use problem::Problem;
 use trail::Trail;
 
 // The flags of the active cells are cleared.
-fn clear_flags(scratch: &mut [u16], n: usize, active: usize)
-    requires { ⌜ (n ≤ 1024) × (Room n (now scratch) × Listed n (now scratch) (n * activeAt) active) ⌝ }
+pub fn clear_flags(scratch: &mut [u16], n: usize, active: usize)
+    requires { ⌜ (n ≤ 1024) × ((n * trailAt ≤ length (now scratch)) × Listed n (now scratch) (n * activeAt) active) ⌝ }
     ensures { λ _. ⌜ FlagsCleared n (now (scratch .entry)) (now (scratch .exit)) ⌝ }
 {
     let mut i = 0;

@@ -4,5 +4,6 @@ mod layer;
 mod pushes;
 
 pub use arrival::takes_buffers;
+pub use layer::clear_flags;
 pub use layer::next_layer;
 pub use pushes::Grown;

@@ -46,27 +46,27 @@ first-is true false c f g h P p q = q g
 first-is false b c f g h P p q = q f
 
 module _ (R : Rules) where
-  judge-from : (i : ℕ) (a : Place) (least : ℤ) (v : Visit) (vs : Route) → Says (judgeFrom R i a least (v ∷ vs)) (legalFrom R (a .cell) (a .span) (a .stage) (v ∷ vs)) (leastFrom least (slacksFrom R a (v ∷ vs)))
+  judge-from : (i : ℕ) (a : Place) (least : ℤ) (v : Visit) (vs : Route) → Says (judgeFrom R i a least (v ∷ vs)) (legalFrom R (a .cell) (a .span) (a .fifos) (a .stage) (v ∷ vs)) (leastFrom least (slacksFrom R a (v ∷ vs)))
   unfolding judgeFrom legalFrom visitCheck visitRight isLast nextPlace
   judge-from i a least v [] =
       let s = arrive R (a .cell) (a .stage) (v .cell) in
       let z = slackAfter R a least v in
-      check-is (cellRight R true v) (wireRight R (a .cell) v) (codeRight R true v) (loadRight R true s v) (periodRight R (a .span) s v) Cell Wire Site Load (Period (slackAt R a v))
+      check-is (cellRight R true v) (wireRight R (a .cell) v) (codeRight R (a .fifos) true v) (loadRight R true s v) (periodRight R (a .span) (a .fifos) s v) Cell Wire Site Load (Period (slackAt R a v))
       (λ x ok. Says (elim x [ wrong f ↦ AtFault i f | right ↦ Accepted z ]) (ok && true) (leastFrom least (slacksFrom R a (v ∷ []))))
       (refl, sym (least-next R a least v [] ∙ least-none R (nextPlace R a v) z)) (λ x. refl)
   judge-from i a least v (w ∷ vs) =
       let s = arrive R (a .cell) (a .stage) (v .cell) in
       let b = nextPlace R a v in
       let z = slackAfter R a least v in
-      check-is (cellRight R false v) (wireRight R (a .cell) v) (codeRight R false v) (loadRight R false s v) (periodRight R (a .span) s v) Cell Wire Site Load (Period (slackAt R a v))
-      (λ x ok. Says (elim x [ wrong f ↦ AtFault i f | right ↦ judgeFrom R (suc i) b z (w ∷ vs) ]) (ok && legalFrom R (b .cell) (b .span) (b .stage) (w ∷ vs)) (leastFrom least (slacksFrom R a (v ∷ w ∷ vs))))
+      check-is (cellRight R false v) (wireRight R (a .cell) v) (codeRight R (a .fifos) false v) (loadRight R false s v) (periodRight R (a .span) (a .fifos) s v) Cell Wire Site Load (Period (slackAt R a v))
+      (λ x ok. Says (elim x [ wrong f ↦ AtFault i f | right ↦ judgeFrom R (suc i) b z (w ∷ vs) ]) (ok && legalFrom R (b .cell) (b .span) (b .fifos) (b .stage) (w ∷ vs)) (leastFrom least (slacksFrom R a (v ∷ w ∷ vs))))
       (rw (least-next R a least v (w ∷ vs)) (judge-from (suc i) b z w vs)) (λ x. refl)
 
   judge-says : (v w : Visit) (vs : Route) → Says (judgeRoute R (v ∷ w ∷ vs)) (legal R (v ∷ w ∷ vs)) (leastSlack R (v ∷ w ∷ vs))
   unfolding judgeRoute legal firstCheck firstRight startPlace leastSlack slacks
   judge-says v w vs =
       first-is (eqb (v .cell) (R .sink) && ltb (v .cell) (R .cellCount)) (eqb (v .code) registerCode) (leb (R .start .load) (R .limit)) Cell Site Load
-      (λ x ok. Says (elim x [ wrong f ↦ AtFault 0 f | right ↦ judgeFrom R 1 (startPlace R v) slackMost (w ∷ vs) ]) (ok && legalFrom R (v .cell) 0 (R .start) (w ∷ vs)) (leastFrom slackMost (slacksFrom R (startPlace R v) (w ∷ vs))))
+      (λ x ok. Says (elim x [ wrong f ↦ AtFault 0 f | right ↦ judgeFrom R 1 (startPlace R v) slackMost (w ∷ vs) ]) (ok && legalFrom R (v .cell) 0 0 (R .start) (w ∷ vs)) (leastFrom slackMost (slacksFrom R (startPlace R v) (w ∷ vs))))
       (judge-from 1 (startPlace R v) slackMost w vs) (λ x. refl)
 
   said : (r : Route) → 2 ≤ length r → Says (judgeRoute R r) (legal R r) (leastSlack R r)

@@ -2,7 +2,7 @@
 use Prim.Native.Nat.{ℕ, _+_, _≤_, min}
 use mathlib.Core.Bool.{Bool, true, false, cond}
 use mathlib.Core.List.{List}
-use mathlib.Core.Path.{_≡_, _∙_}
+use mathlib.Core.Path.{_≡_, refl, _∙_}
 use native.Mathlib.Omega.{arith}
 use borrow.Author.Tests.{eq-eqb, ne-eqb, lt-ltb}
 use lib.Dec.{T, leb, ltb}
@@ -24,28 +24,28 @@ use Rattle.verdict.specs.Verdict.{right, wrong, visitCheck, firstCheck}
 use Rattle.verdict.specs.Gates.{delayCap, Carries, At, gateCheck}
 use Rattle.verdict.specs.declared.gates.Point.{Point}
 
--- `from`: the cell of the visit before it
+-- `from`: the point after the visit before it
 module _ (R : Rules) (a : Place) (last : Bool) (v : Visit) where
   pub cell-wrong : cellRight R last v ≡ false → visitCheck R a last v ≡ wrong VisitFault.Cell
   unfolding visitCheck
   cell-wrong e = rw e
 
-  module _ (cell : cellRight R last v ≡ true) (from : ℕ) (same : from ≡ a .cell) where
-    pub wire-wrong : R .linked from (v .cell) ≡ false → visitCheck R a last v ≡ wrong VisitFault.Wire
+  module _ (cell : cellRight R last v ≡ true) (from : Point) (k : At from a) where
+    pub wire-wrong : R .linked (from .cell) (v .cell) ≡ false → visitCheck R a last v ≡ wrong VisitFault.Wire
     unfolding visitCheck wireRight
-    wire-wrong e = rw (cell, ← same, e)
+    wire-wrong e = rw (cell, ← k .cell, e)
 
-    module _ (wire : T (R .linked from (v .cell))) where
+    module _ (wire : T (R .linked (from .cell) (v .cell))) where
       joined : R .linked (a .cell) (v .cell) ≡ true
-      joined = rw (← same) (is-true (R .linked from (v .cell)) wire)
+      joined = rw (← k .cell) (is-true (R .linked (from .cell) (v .cell)) wire)
 
-      pub site-wrong : codeRight R last v ≡ false → visitCheck R a last v ≡ wrong VisitFault.Site
+      pub site-wrong : codeRight R 0 last v ≡ false → visitCheck R a last v ≡ wrong VisitFault.Site
       unfolding visitCheck wireRight
-      site-wrong e = rw (cell, joined, e)
+      site-wrong e = rw (cell, joined, k .fifos, e)
 
-      pub gate-next : codeRight R last v ≡ true → visitCheck R a last v ≡ gateCheck R a last v
+      pub gate-next : codeRight R 0 last v ≡ true → visitCheck R a last v ≡ gateCheck R a last v
       unfolding visitCheck wireRight gateCheck
-      gate-next e = rw (cell, joined, e)
+      gate-next e = rw (cell, joined, k .fifos, e)
 
 -- the step over the wire
 pub arrived : (R : Rules) (a : Place) (cell : ℕ) (w : Wire) (from b : Point) → At from a → w ≡ R .wire (from .cell) cell → b .load .0 ≡ from .load .0 + wireLoad w → b .delay .0 ≡ min (from .delay .0 + wireDelay w (from .load .0)) delayCap → Carries b (arrive R (a .cell) (a .stage) cell)
@@ -101,4 +101,4 @@ module _ (p : Problem) (marks : List ℕ) where
     pub start-at : (v : Visit) (b : Point) → b .cell ≡ v .cell → b .load .0 ≡ registerLoad (p .elements .register) → b .delay .0 ≡ setupDelay (p .elements .register) → At b (startPlace Q v)
     unfolding startPlace rulesFor rulesOf setupDelay
     start-at v b c l d =
-        record { cell = c; carries = record { load = l; delay = omega (arith, ready .valid .register .setup) } }
+        record { cell = c; fifos = refl; carries = record { load = l; delay = omega (arith, ready .valid .register .setup) } }

@@ -1,9 +1,8 @@
 -- The wire between two cells, by the side of the one on which the other lies.
 use Prim.Native.Nat.{ℕ, _<_}
-use mathlib.Core.Bool.{false}
 use mathlib.Core.List.{List}
 use mathlib.Core.Path.{_≡_, sym, ap, _∙_}
-use mathlib.Core.Logic.{_⊎_, inl, inr}
+use mathlib.Core.Logic.{inl, inr}
 use lib.Dec.{not-T}
 use lib.ListN.{length}
 use Rattle.plan.specs.Joined.{neighboursOf}

@@ -1,8 +1,8 @@
 -- The first and the third test of a visit under document 01's rules, case by case as the code tells them apart.
 use Prim.Native.Nat.{ℕ, _≤_, _<_}
-use mathlib.Core.Bool.{Bool, true, false, not}
+use mathlib.Core.Bool.{Bool, true, false, not, and-true}
 use mathlib.Core.List.{List}
-use mathlib.Core.Path.{_≡_, refl}
+use mathlib.Core.Path.{_≡_, refl, sym, _∙_}
 use mathlib.Core.Logic.{_⊎_, inl, inr}
 use native.Mathlib.Omega.{arith}
 use borrow.Author.Tests.{eq-eqb, ne-eqb, lt-ltb, le-ltb, eqb-true, eqb-false}
@@ -75,10 +75,15 @@ module _ (p : Problem) (marks : List ℕ) (ready : Ready p marks) (cell : ℕ) w
           stands-buffer h =
               rw (ne-eqb cell (p .sink) sink, ne-eqb cell (p .source) source) (site-buffer (planFor p marks) (p .elements) cell code (omega arith) h other)
 
+  -- no FIFO has been passed, and a route has none
+  pub code-last : (code : ℕ) → codeRight R 0 true (record { cell = cell; code = code }) ≡ eqb code registerCode
+  unfolding codeRight rulesFor rulesOf
+  code-last code = and-true (eqb code registerCode)
+
   -- a code that is right: the last has 7, one in between no gate, a listed buffer or 7
-  pub right-code : (last : Bool) (code : ℕ) → codeRight R last (record { cell = cell; code = code }) ≡ true → (code ≡ registerCode) ⊎ ((last ≡ false) × (code ≤ p .elements .count))
+  pub right-code : (last : Bool) (code : ℕ) → codeRight R 0 last (record { cell = cell; code = code }) ≡ true → (code ≡ registerCode) ⊎ ((last ≡ false) × (code ≤ p .elements .count))
   unfolding codeRight
-  right-code true code e = inl (eqb-true code registerCode e)
+  right-code true code e = inl (eqb-true code registerCode (sym (code-last code) ∙ e))
   right-code false code e = go (eqb code registerCode) refl (split 1 code)
     where
       go : (b : Bool) → eqb code registerCode ≡ b → (1 ≤ code) ⊎ (code < 1) → (code ≡ registerCode) ⊎ ((false ≡ false) × (code ≤ p .elements .count))

@@ -34,9 +34,9 @@ sinkTest R v (Period z) = true
 unfoldable pub laterTest : Rules → Place → Bool → Visit → VisitFault → Bool
 laterTest R a last v Cell = cellRight R last v
 laterTest R a last v Wire = wireRight R (a .cell) v
-laterTest R a last v Site = codeRight R last v
+laterTest R a last v Site = codeRight R (a .fifos) last v
 laterTest R a last v Load = loadRight R last (arrive R (a .cell) (a .stage) (v .cell)) v
-laterTest R a last v (Period z) = periodRight R (a .span) (arrive R (a .cell) (a .stage) (v .cell)) v
+laterTest R a last v (Period z) = periodRight R (a .span) (a .fifos) (arrive R (a .cell) (a .stage) (v .cell)) v
 
 -- the tests of the visit that comes next
 unfoldable pub nextTest : Rules → Place → Route → VisitFault → Bool

@@ -28,9 +28,10 @@ pub record Carries (b : Point) (s : Stage) : Type 0 where
   pub load : b .load .0 ≡ s .load
   pub delay : b .delay .0 ≡ min (s .delay) delayCap
 
--- a point is where a place is
+-- a point is where a place is; with one clock no FIFO has been passed
 pub record At (b : Point) (a : Place) : Type 0 where
   pub cell : b .cell ≡ a .cell
+  pub fifos : a .fifos ≡ 0
   pub carries : Carries b (a .stage)
 
 -- a step on to a place: after a right visit the point stands there, and its figure is the smallest so far
@@ -49,12 +50,12 @@ StepIs limit last check to least (Fault f) = check ≡ wrong f
 unfoldable pub gateCheck : Rules → Place → Bool → Visit → VisitCheck
 gateCheck R a last v =
     orWrong (loadRight R last (arrive R (a .cell) (a .stage) (v .cell)) v) Load
-    (orWrong (periodRight R (a .span) (arrive R (a .cell) (a .stage) (v .cell)) v) (Period (slackAt R a v)) right)
+    (orWrong (periodRight R (a .span) (a .fifos) (arrive R (a .cell) (a .stage) (v .cell)) v) (Period (slackAt R a v)) right)
 
--- The gate with this code at the point `at`, which has come over the wire from a place, under document 01's rules for any plan and ends.
+-- The gate with this code at the point `at`, which has come over the wire from a place before any FIFO, under document 01's rules for any plan and ends.
 abbrev pub GateIs : Elements → Point → Bool → ℕ → VisitStep → Type 0
 GateIs e at last code r =
-    (P : Plan) (from to : ℕ) (a : Place) → Carries at (arrive (rulesOf P e from to) (a .cell) (a .stage) (at .cell)) → StepIs (e .limit .0) last (gateCheck (rulesOf P e from to) a last (record { cell = at .cell; code = code })) (nextPlace (rulesOf P e from to) a (record { cell = at .cell; code = code })) (slackAfter (rulesOf P e from to) a (at .slack) (record { cell = at .cell; code = code })) r
+    (P : Plan) (from to : ℕ) (a : Place) → a .fifos ≡ 0 → Carries at (arrive (rulesOf P e from to) (a .cell) (a .stage) (at .cell)) → StepIs (e .limit .0) last (gateCheck (rulesOf P e from to) a last (record { cell = at .cell; code = code })) (nextPlace (rulesOf P e from to) a (record { cell = at .cell; code = code })) (slackAfter (rulesOf P e from to) a (at .slack) (record { cell = at .cell; code = code })) r
 
 -- The same for a register or the source, where its own load is within the limit or need not be.
 abbrev pub ClosedIs : Elements → Point → VisitStep → Type 0

@@ -43,9 +43,9 @@ unfoldable pub visitCheck : Rules → Place → Bool → Visit → VisitCheck
 visitCheck R a last v =
     orWrong (cellRight R last v) Cell
     (orWrong (wireRight R (a .cell) v) Wire
-    (orWrong (codeRight R last v) Site
+    (orWrong (codeRight R (a .fifos) last v) Site
     (orWrong (loadRight R last (arrive R (a .cell) (a .stage) (v .cell)) v) Load
-    (orWrong (periodRight R (a .span) (arrive R (a .cell) (a .stage) (v .cell)) v) (Period (slackAt R a v)) right))))
+    (orWrong (periodRight R (a .span) (a .fifos) (arrive R (a .cell) (a .stage) (v .cell)) v) (Period (slackAt R a v)) right))))
 
 -- The first visit: no wire leads to it, and no span closes there.
 unfoldable pub firstCheck : Rules → Visit → VisitCheck

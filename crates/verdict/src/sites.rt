@@ -34,7 +34,7 @@ fn may_stand(plan: &[u8], p: Problem, cell: usize, code: u16) -> bool
 // Whether the code is allowed at the visit.
 pub fn code_right(plan: &[u8], p: Problem, last: bool, cell: usize, code: u16) -> bool
     requires { ⌜ Ready p (now plan) × (cell < length (now plan)) ⌝ }
-    ensures { λ r. ⌜ r ≡ codeRight (rulesFor p (now (plan .entry))) last (record { cell = cell; code = code }) ⌝ }
+    ensures { λ r. ⌜ r ≡ codeRight (rulesFor p (now (plan .entry))) 0 last (record { cell = cell; code = code }) ⌝ }
 {
     if last {
         return code == 7;

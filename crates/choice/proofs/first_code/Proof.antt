@@ -13,7 +13,8 @@ use mir.Syntax.{w32}
 use mir.Val.{toZ, ofZ}
 use Rattle.rules.specs.Rules.{registerCode}
 use Rattle.rows.specs.Rows.{viewOf}
-use Rattle.labels.specs.Labels.{labelsOf}
+use Rattle.problem.proofs.Sizes.{few-cells}
+use Rattle.labels.specs.Labels.{labelsFor}
 use Rattle.table.specs.Problem.{rulesFor, budgetOf}
 use Rattle.choice.specs.Choice.{delayMost}
 use Rattle.choice.specs.Codes.{goesAt}
@@ -30,7 +31,7 @@ tested : (c : tie.After-below) → let a = c .before .before .before .before .ar
 tested c = sym (rw (c .before .budget-at .ensures) at (c .below .ensures))
 
 -- past the buffers, no code below the register's goes on
-low : (c : tie.Joined2) → let a = c .before .before .before .before .before .before .before .before .before .args in (code : ℕ) → code < registerCode → T (goesAt (rulesFor (a .p) (a .plan .now)) (labelsOf (length (a .plan .now)) (a .scratch .now)) (budgetOf (length (a .plan .now)) (a .scratch .now)) (a .at) code) → ⊥
+low : (c : tie.Joined2) → let a = c .before .before .before .before .before .before .before .before .before .args in (code : ℕ) → code < registerCode → T (goesAt (rulesFor (a .p) (a .plan .now)) (labelsFor (length (a .plan .now)) (a .scratch .now)) (budgetOf (length (a .plan .now)) (a .scratch .now)) (a .at) code) → ⊥
 low c =
     let start = c .before .before .before .before .before .before .before .before .before in
     ⊎-elim
@@ -74,7 +75,9 @@ returns-2 c =
     code-buffer (start .args .p) (start .args .plan .now) (start .args .scratch .now) (start .args .at) (start .pre) (bits (c .before .before .before .before .before .before .before .before .before .before)) (tested (c .before .before .before .before .before .before .before .before) ∙ c .before .before .before .before .before .before .before .if1 .left) (sym (c .before .before .before .before .takes-buffers .ensures) ∙ c .before .before .before .if2 .taken) _ (c .before .before .first-buffer .ensures) (c .if3 .taken)
 
 is-seed-requires : tie.Need-is-seed-requires
-is-seed-requires c κs = search needs
+is-seed-requires c κs =
+    let start = c .before .before .before .before .before .before .before .before .before in
+    (record { small = few-cells _ _ (start .pre .ready); low = omega (arith, few-cells _ _ (start .pre .ready)); room = omega (arith, start .pre .room) }, start .pre .inPlan)
 
 slack-requires : tie.Need-slack-requires
 slack-requires c κs = search needs

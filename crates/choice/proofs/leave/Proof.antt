@@ -1,6 +1,6 @@
 -- One case a kind of gate.
 use Prim.Native.Nat.{_-_}
-use mathlib.Core.Path.{_≡_, refl, sym, ap₂, _∙_}
+use mathlib.Core.Path.{_≡_, refl, ap₂, _∙_}
 use native.Mathlib.Omega.{arith}
 use borrow.Author.Tests.{eq-eqb, ne-eqb}
 use borrow.Author.Needs.{needs}
@@ -9,26 +9,28 @@ use mir.Syntax.{w32}
 use Rattle.timing.specs.Elements.{bufferOf, driverOf}
 use Rattle.timing.specs.Formulas.{bufferDriver}
 use Rattle.timing.specs.Slack.{smaller}
-use Rattle.rules.specs.Rules.{noGate, registerCode}
-use Rattle.budget.proofs.Visit.{registers-closed, registers-kept}
+use Rattle.rules.specs.Rules.{noGate, isClosing}
+use Rattle.plan.proofs.Truth.{is-true, is-false}
+use Rattle.rules.proofs.View.{register-closing}
 use Rattle.costs.specs.Costs.{bufferAt}
-use Rattle.choice.specs.Codes.{leftLoad, leftDelay, leftSlack}
+use Rattle.choice.specs.Codes.{leftLoad, leftDelay, leftWeight, leftSlack}
 use Rattle.costs.proofs.Checked.{buffer-driver-fits}
+use Rattle.choice.proofs.Codes.{below-open}
 use Rattle.choice.proofs.leave.Statement.{statement}
 use Rattle.choice.proofs.leave.Tie as tie
 
 returns : tie.Need-returns
-unfolding leftLoad leftDelay leftSlack
+unfolding leftLoad leftDelay leftWeight leftSlack
 returns c =
     let code = c .before .args .code in
-    let other : code ≡ registerCode → ⊥ = λ z. omega (arith, c .if1 .taken) in
+    let passes = is-false (isClosing code) (below-open code (omega (arith, c .if1 .taken))) in
     record {
       cell = refl;
       load = simp (eq-eqb code noGate (c .if1 .taken));
       delay = simp (eq-eqb code noGate (c .if1 .taken));
-      registers = sym (registers-kept _ code other);
+      weight = simp passes;
       steps = refl;
-      slack = simp (ne-eqb code registerCode other);
+      slack = simp passes;
     }
 
 slack-requires : tie.Need-slack-requires
@@ -47,25 +49,25 @@ smaller-slack-requires : tie.Need-smaller-slack-requires
 smaller-slack-requires c κs = search needs
 
 returns-2 : tie.Need-returns-2
-unfolding leftLoad leftDelay leftSlack
+unfolding leftLoad leftDelay leftWeight leftSlack
 returns-2 c =
     let after-load = c .before .before .before .before in
     let after-slack = after-load .before .before in
     let start = after-slack .before .before .before in
     let at = start .args .at in
     let code = start .args .code in
-    let is : code ≡ registerCode = after-slack .before .if2 .taken in
+    let shuts = is-true (isClosing code) (register-closing code (after-slack .before .if2 .taken)) in
     let some = after-slack .before .before .if1 .left in
     let own = toZ-ofZ {w = w32} {z = at .slack} (record { sfits = c .before .struct-told .given .1 .1 .1 .1 .1 .0 .1 }) in
     let close = toZ-ofZ {w = w32} {z = after-slack .slack .result} (record { sfits = after-slack .slack .ok }) in
     let made = toZ-ofZ {w = w32} {z = c .smaller-slack .result} (record { sfits = c .smaller-slack .ok }) in
     record {
       cell = refl;
-      load = simp (ne-eqb code noGate some, eq-eqb code registerCode is) (after-load .load .ensures);
-      delay = simp (ne-eqb code noGate some, eq-eqb code registerCode is) (c .before .before .before .start-delay .ensures);
-      registers = c .before .before .fewer .ensures ∙ sym (registers-closed _ code is);
+      load = simp (ne-eqb code noGate some, shuts) (after-load .load .ensures);
+      delay = simp (ne-eqb code noGate some, shuts) (c .before .before .before .start-delay .ensures);
+      weight = simp shuts (c .before .before .fewer .ensures);
       steps = refl;
-      slack = simp (eq-eqb code registerCode is) (made ∙ (c .smaller-slack .ensures ∙ ap₂ smaller own (close ∙ after-slack .slack .ensures)));
+      slack = simp shuts (made ∙ (c .smaller-slack .ensures ∙ ap₂ smaller own (close ∙ after-slack .slack .ensures)));
     }
 
 sub-i : tie.Need-sub-i
@@ -94,7 +96,7 @@ after-requires c κs =
     (rw driver (buffer-driver-fits (start .pre .0) (start .args .code - 1) (omega (arith, c .before .before .before .if2 .left))), (start .pre .1 .0, omega (arith, start .pre .1 .1 .0)))
 
 returns-3 : tie.Need-returns-3
-unfolding leftLoad leftDelay leftSlack bufferAt bufferOf driverOf
+unfolding leftLoad leftDelay leftWeight leftSlack bufferAt bufferOf driverOf
 returns-3 c =
     let after-load = c .before .before .before in
     let else = after-load .before .before in
@@ -102,15 +104,15 @@ returns-3 c =
     let code = start .args .code in
     let b = bufferAt (start .args .t1) (code - 1) in
     let some = else .before .if1 .left in
-    let other : code ≡ registerCode → ⊥ = else .if2 .left in
+    let passes = is-false (isClosing code) (below-open code (omega (arith, else .if2 .left, start .pre .1 .1 .1))) in
     let driver : c .before .before .driver .result ≡ bufferDriver b = c .before .before .driver .ensures in
     record {
       cell = refl;
-      load = simp (ne-eqb code noGate some, ne-eqb code registerCode other) (after-load .load2 .ensures);
-      delay = simp (ne-eqb code noGate some, ne-eqb code registerCode other) (rw driver at (c .before .after .ensures));
-      registers = sym (registers-kept _ code other);
+      load = simp (ne-eqb code noGate some, passes) (after-load .load2 .ensures);
+      delay = simp (ne-eqb code noGate some, passes) (rw driver at (c .before .after .ensures));
+      weight = simp passes;
       steps = refl;
-      slack = simp (ne-eqb code registerCode other) (toZ-ofZ {w = w32} {z = start .args .at .slack} (record { sfits = c .struct-told2 .given .1 .1 .1 .1 .1 .0 .1 }));
+      slack = simp passes (toZ-ofZ {w = w32} {z = start .args .at .slack} (record { sfits = c .struct-told2 .given .1 .1 .1 .1 .1 .0 .1 }));
     }
 
 pub leave-spec : {M : Type 1} → statement M

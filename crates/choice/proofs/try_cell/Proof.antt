@@ -11,6 +11,7 @@ use mir.Val.{toZ, ofZ}
 use Rattle.timing.specs.Formulas.{wireDelay, wireLoad}
 use Rattle.timing.proofs.Bounds.{wire-delay-max}
 use Rattle.rules.specs.Rules.{registerCode}
+use Rattle.choice.proofs.Codes.{code-small}
 use Rattle.choice.proofs.Visits.{no-neighbour, too-heavy, at-asks, no-code, first-visit}
 use Rattle.choice.proofs.try_cell.Statement.{statement}
 use Rattle.choice.proofs.try_cell.Tie as tie
@@ -35,9 +36,9 @@ heavy c = leb-false _ _ (sym (c .before .at-most .ensures) ∙ not-true _ (c .if
 figure : (c : tie.After-struct-told) → let a = c .before .before .before .before .before .before .before .before .before .before .before .args in toZ w32 (ofZ w32 (a .from .slack)) ≡ a .from .slack
 figure c = toZ-ofZ {w = w32} (record { sfits = c .struct-told .given .1 .1 .1 .1 .1 .0 .1 })
 
--- a code that is not 8
+-- a code that is not 9
 small : (c : tie.Else3) → c .before .first-code .result ≤ registerCode
-small c = omega (arith, c .before .first-code .ensures .within, c .if3 .left)
+small c = code-small _ _ (c .before .first-code .ensures) (c .if3 .left)
 
 returns : tie.Need-returns
 returns c =

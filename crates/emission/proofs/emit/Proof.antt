@@ -1,5 +1,5 @@
 -- `emission::emit` meets its contract: the loop keeps `Emitting`, by proofs/Visits.
-use Prim.Native.Nat.{ℕ, _+_, _-_, _*_, _≤_}
+use Prim.Native.Nat.{ℕ, _-_, _≤_}
 use mathlib.Core.Path.{_≡_, refl, _∙_}
 use mathlib.Core.List.{List}
 use mathlib.Core.Logic.{inl, inr}
@@ -12,9 +12,10 @@ use mir.Syntax.{w32}
 use Rattle.rules.specs.Rules.{Rules, registerCode, rulesOf}
 use Rattle.timing.specs.Formulas.{registerLoad, setupDelay}
 use Rattle.budget.proofs.Colours.{label-in-step}
+use Rattle.budget.proofs.Document01.{rules-cost}
 use Rattle.table.specs.Problem.{rulesFor, budgetOf}
 use Rattle.problem.proofs.Sizes.{few-cells}
-use Rattle.labels.specs.Labels.{labelsOf}
+use Rattle.labels.specs.Labels.{labelsFor}
 use Rattle.search.proofs.Ready.{ready-lawful, ready-cells}
 use Rattle.choice.specs.Choice.{FirstVisit}
 use Rattle.emission.specs.Emission.{RoomOrNone, Emitting}
@@ -23,12 +24,12 @@ use Rattle.emission.proofs.emit.Statement.{statement}
 use Rattle.emission.proofs.emit.Tie as tie
 
 abbrev Inv-loop : tie.InvT-loop
-Inv-loop plan scratch₀ p costs count registers steps visits₀ sink at₀ layers₀ i₀ scratch visits at layers i =
+Inv-loop plan scratch₀ p costs count weight steps visits₀ sink at₀ layers₀ i₀ scratch visits at layers i =
     (v : List ℕ) → visits₀ ≡ set (set v 0 (p .sink)) 1 registerCode →
-    Emitting (rulesFor p plan) (length plan) registers steps count scratch₀ scratch v visits at layers i
+    Emitting (rulesFor p plan) (length plan) weight steps count scratch₀ scratch v visits at layers i
 
 abbrev μ-loop : tie.MeasureT-loop
-μ-loop plan scratch₀ p costs count registers steps visits₀ sink at₀ layers₀ i₀ scratch visits at layers i = at .steps
+μ-loop plan scratch₀ p costs count weight steps visits₀ sink at₀ layers₀ i₀ scratch visits at layers i = at .steps
 
 -- the entry, and what the loop keeps at its head
 
@@ -38,7 +39,7 @@ start a = a .before .before .before .before .before .before .before .before .bef
 abbrev R : tie.At-loop Inv-loop μ-loop → Rules
 R a = rulesFor (start a .args .p) (start a .args .plan .now)
 
-head : (a : tie.At-loop Inv-loop μ-loop) → Emitting (R a) (length (start a .args .plan .now)) (start a .args .registers) (start a .args .steps) (start a .args .count) (start a .args .scratch .now) (a .loop .scratch) (start a .args .visits .now) (a .loop .visits) (a .loop .at) (a .loop .layers) (a .loop .i)
+head : (a : tie.At-loop Inv-loop μ-loop) → Emitting (R a) (length (start a .args .plan .now)) (start a .args .weight) (start a .args .steps) (start a .args .count) (start a .args .scratch .now) (a .loop .scratch) (start a .args .visits .now) (a .loop .visits) (a .loop .at) (a .loop .layers) (a .loop .i)
 head a = a .loop .inv (start a .args .visits .now) (a .before .before .before .before .before .before .put-visit .ensures)
 
 -- room for fewer words, or none
@@ -81,7 +82,7 @@ sub-load-layer c = omega (arith, c .before .before .if1 .taken)
 load-layer-requires : tie.Need-load-layer-requires Inv-loop μ-loop
 load-layer-requires c κs =
     let a = c .before .before .before .before in
-    record { ready = start a .pre .ready; costed = start a .pre .costed; room = omega (arith, start a .pre .room, head a .same); held = head a .held; inStep = label-in-step (head a .labels) }
+    record { ready = start a .pre .ready; costed = start a .pre .costed; room = omega (arith, start a .pre .room, head a .same); held = head a .held; inStep = label-in-step (ready-lawful _ _ (start a .pre .ready)) (head a .labels) }
 
 choose-requires : tie.Need-choose-requires Inv-loop μ-loop
 choose-requires c κs =
@@ -100,7 +101,7 @@ enum-known-choice c = search needs
 abbrev words : tie.After-known-told Inv-loop μ-loop → List ℕ
 words c = c .before .before .before .before .before .before .before .load-layer .last .1 .0
 
-chosen : (c : tie.After-known-told Inv-loop μ-loop) → let a = c .before .before .before .before .before .before .before .before .before .before .before .before in FirstVisit (R a) (length (start a .args .plan .now)) (labelsOf (length (start a .args .plan .now)) (words c)) (budgetOf (length (start a .args .plan .now)) (words c)) (a .loop .at) (λ cell. T (R a .linked (a .loop .at .cell) cell)) (c .before .choice .given .0 .0) (c .before .choice .given .0 .1 .0)
+chosen : (c : tie.After-known-told Inv-loop μ-loop) → let a = c .before .before .before .before .before .before .before .before .before .before .before .before in FirstVisit (R a) (length (start a .args .plan .now)) (labelsFor (length (start a .args .plan .now)) (words c)) (budgetOf (length (start a .args .plan .now)) (words c)) (a .loop .at) (λ cell. T (R a .linked (a .loop .at .cell) cell)) (c .before .choice .given .0 .0) (c .before .choice .given .0 .1 .0)
 chosen c =
     chosen-visit (c .before .before .before .choose .ensures) (c .before .choice .given .0 .0) (c .before .choice .given .0 .1 .0) (c .before .choice .given .1)
 
@@ -158,7 +159,7 @@ returns-2 c =
     let s = start a in
     let figure = toZ-ofZ {w = w32} {z = a .loop .at .slack} (record { sfits = c .struct-told2 .given .1 .1 .1 .1 .1 .0 .1 }) in
     rw figure
-    (emit-done _ (ready-lawful _ _ (s .pre .ready)) _ _ _ _ _ _ _ _ _ _ _ (head a) (omega arith) (s .pre .reaching .least)
+    (emit-done _ (ready-lawful _ _ (s .pre .ready)) _ _ _ _ _ _ (rules-cost _ _ _ _) _ _ _ _ _ (head a) (omega arith) (s .pre .reaching .least)
     (omega (arith, s .pre .ready .sink, ready-cells _ _ (s .pre .ready))))
 
 pub emit-spec : {M : Type 1} → statement M

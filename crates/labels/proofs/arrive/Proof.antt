@@ -4,18 +4,20 @@ use mathlib.Core.Path.{_≡_, refl, sym, _∙_}
 use mathlib.Core.Logic.{_⊎_, inl, inr}
 use mathlib.Core.List.{List}
 use native.Mathlib.Omega.{arith}
+use lib.Dec.{T}
 use lib.ListN.{getD}
 use Rattle.plan.proofs.Truth.{equal}
-use Rattle.layout.specs.Layout.{stepsLowAt, stepsHighAt, orderAt, activeAt}
+use Rattle.layout.specs.Layout.{orderIn, labelWords, activeAt, trailAt}
 use Rattle.lists.specs.Lists.{flagOf, Listed}
 use Rattle.lists.proofs.Lists.{listed-some}
 use Rattle.table.specs.Problem.{seedWord}
-use Rattle.labels.specs.Labels.{stepsOf, orderOf, Planted, Arrived}
+use Rattle.labels.specs.Labels.{knownOf, orderOf, LabelBy, Apart, SameLabel, Planted, Arrived}
+use Rattle.labels.proofs.Labels.{known-below, label-kept}
 use Rattle.labels.proofs.arrive.Statement.{statement}
 use Rattle.labels.proofs.arrive.Tie as tie
 
-arrived-none : (n from steps : ℕ) (words : List ℕ) (active : ℕ) → Listed n words (n * activeAt) active → Arrived n from from steps words words active
-arrived-none n from steps words active l =
+arrived-none : (n set from k s : ℕ) (words : List ℕ) (active : ℕ) → Listed n words (n * activeAt) active → Arrived n set from from k s words words active
+arrived-none n set from k s words active l =
     record {
       same = refl;
       forth = omega arith;
@@ -33,20 +35,23 @@ arrived-none n from steps words active l =
       high = λ k h. refl;
     }
 
--- the order and the labels' steps stay
-module _ {n from to steps : ℕ} {old new : List ℕ} {active : ℕ} (a : Arrived n from to steps old new active) where
-  order-stays : (i : ℕ) → i < n → orderOf n new i ≡ orderOf n old i
-  order-stays i h = a .low (n * orderAt + i) (omega arith)
+-- the words of the set stay
+module _ {n set from to k s : ℕ} {old new : List ℕ} {active : ℕ} (apart : Apart n set) (a : Arrived n set from to k s old new active) where
+  set-stays : (i : ℕ) → set ≤ i → i < set + n * labelWords → getD new i 0 ≡ getD old i 0
+  set-stays i lo hi = go (apart .beside)
+    where
+      go : (set + n * labelWords ≤ n * activeAt) ⊎ (n * trailAt ≤ set) → getD new i 0 ≡ getD old i 0
+      go (inl h) = a .low i (omega arith)
+      go (inr h) = a .high i (omega arith)
 
-  steps-stay : (i : ℕ) → i < n → orderOf n new i < n → stepsOf n new (orderOf n new i) ≡ stepsOf n old (orderOf n old i)
-  steps-stay i h k =
-      let e : orderOf n new i ≡ orderOf n old i = order-stays i h in
-      let lo : getD new (n * stepsLowAt + orderOf n new i) 0 ≡ getD old (n * stepsLowAt + orderOf n new i) 0 = a .low (n * stepsLowAt + orderOf n new i) (omega arith) in
-      let hi : getD new (n * stepsHighAt + orderOf n new i) 0 ≡ getD old (n * stepsHighAt + orderOf n new i) 0 = a .low (n * stepsHighAt + orderOf n new i) (omega arith) in
-      cc
+  order-stays : (i : ℕ) → i < n → orderOf n set new i ≡ orderOf n set old i
+  order-stays i h = set-stays (set + n * orderIn + i) (omega arith) (omega arith)
+
+  label-stays : (c : ℕ) → c < n → SameLabel n set old new c
+  label-stays = label-kept n set old new (λ i lo hi. set-stays i lo (omega arith))
 
 -- one cell more
-module _ {n from to steps : ℕ} {old mid new : List ℕ} {active next cell : ℕ} (a : Arrived n from to steps old mid active) (e : cell ≡ orderOf n old to) (h : cell < n) (p : Planted n cell mid new next) where
+module _ {n set from to k s : ℕ} {old mid new : List ℕ} {active next cell : ℕ} (a : Arrived n set from to k s old mid active) (e : cell ≡ orderOf n set old to) (h : cell < n) (p : Planted n cell mid new next) where
   seed-stays : (c : ℕ) → c < n → seedWord n mid c ≡ 1 → (c ≡ cell) ⊎ (c ≡ cell → ⊥) → seedWord n new c ≡ 1
   seed-stays c k o (inl q) = rw q (p .nowSeed)
   seed-stays c k o (inr q) = p .otherSeeds c k q ∙ o
@@ -55,17 +60,17 @@ module _ {n from to steps : ℕ} {old mid new : List ℕ} {active next cell : �
   flag-stays c k o (inl q) = rw q (p .nowFlagged)
   flag-stays c k o (inr q) = p .others c k q ∙ o
 
-  module _ (cells : (i : ℕ) → i < to → orderOf n old i < n) where
-    seed : (i : ℕ) → from ≤ i → i < to + 1 → (i ≡ to) ⊎ (i ≡ to → ⊥) → seedWord n new (orderOf n old i) ≡ 1
+  module _ (cells : (i : ℕ) → i < to → orderOf n set old i < n) where
+    seed : (i : ℕ) → from ≤ i → i < to + 1 → (i ≡ to) ⊎ (i ≡ to → ⊥) → seedWord n new (orderOf n set old i) ≡ 1
     seed i k j (inl q) = rw (q, ← e) (p .nowSeed)
-    seed i k j (inr q) = seed-stays _ (cells i (omega arith)) (a .seeds i k (omega arith)) (equal (orderOf n old i) cell)
+    seed i k j (inr q) = seed-stays _ (cells i (omega arith)) (a .seeds i k (omega arith)) (equal (orderOf n set old i) cell)
 
-    flag : (i : ℕ) → from ≤ i → i < to + 1 → (i ≡ to) ⊎ (i ≡ to → ⊥) → flagOf n new (orderOf n old i) ≡ 1
+    flag : (i : ℕ) → from ≤ i → i < to + 1 → (i ≡ to) ⊎ (i ≡ to → ⊥) → flagOf n new (orderOf n set old i) ≡ 1
     flag i k j (inl q) = rw (q, ← e) (p .nowFlagged)
-    flag i k j (inr q) = flag-stays _ (cells i (omega arith)) (a .flags i k (omega arith)) (equal (orderOf n old i) cell)
+    flag i k j (inr q) = flag-stays _ (cells i (omega arith)) (a .flags i k (omega arith)) (equal (orderOf n set old i) cell)
 
-    arrived-more : stepsOf n old (orderOf n old to) ≤ steps → Arrived n from (to + 1) steps old new next
-    arrived-more s =
+    arrived-more : LabelBy n set old k s (orderOf n set old to) → Arrived n set from (to + 1) k s old new next
+    arrived-more early =
         record {
           same = p .same ∙ a .same;
           forth = omega (arith, a .forth);
@@ -85,46 +90,61 @@ module _ {n from to steps : ℕ} {old mid new : List ℕ} {active next cell : �
           high = λ k j. p .high k j ∙ a .high k j;
         }
       where
-        time : (i : ℕ) → from ≤ i → i < to + 1 → (i ≡ to) ⊎ (i ≡ to → ⊥) → stepsOf n old (orderOf n old i) ≤ steps
-        time i k j (inl q) = rw q s
+        time : (i : ℕ) → from ≤ i → i < to + 1 → (i ≡ to) ⊎ (i ≡ to → ⊥) → LabelBy n set old k s (orderOf n set old i)
+        time i k j (inl q) = rw q early
         time i k j (inr q) = a .inTime i k (omega arith)
 
 abbrev Inv-loop : tie.InvT-loop
-Inv-loop scratch₀ n at end steps active i₀ listed₀ scratch i listed = (i ≤ end) × Arrived n at i steps scratch₀ scratch listed
+Inv-loop scratch₀ n set at count weight steps active i₀ listed₀ scratch i listed = (i ≤ count) × Arrived n set at i weight steps scratch₀ scratch listed
 
 abbrev μ-loop : tie.MeasureT-loop
-μ-loop scratch₀ n at end steps active i₀ listed₀ scratch i listed = end - i
+μ-loop scratch₀ n set at count weight steps active i₀ listed₀ scratch i listed = count - i
 
 -- the cell of the turn
-cell-same : (c : tie.In-loop Inv-loop μ-loop) → orderOf (c .before .before .before .args .n) (c .before .loop .scratch) (c .before .loop .i) ≡ orderOf (c .before .before .before .args .n) (c .before .before .before .args .scratch .now) (c .before .loop .i)
-cell-same c = order-stays (c .before .loop .inv .1) (c .before .loop .i) (omega arith)
+module _ (c : tie.In-loop Inv-loop μ-loop) where
+  few : c .before .before .before .args .count ≤ c .before .before .before .args .n
+  few = c .before .before .before .pre .short
 
-cell-below : (c : tie.In-loop Inv-loop μ-loop) → orderOf (c .before .before .before .args .n) (c .before .loop .scratch) (c .before .loop .i) < c .before .before .before .args .n
-cell-below c = omega (arith, cell-same c, c .before .before .before .pre .1 .1 .1 .0 (c .before .loop .i) (omega arith))
+  cell-same : orderOf (c .before .before .before .args .n) (c .before .before .before .args .set) (c .before .loop .scratch) (c .before .loop .i) ≡ orderOf (c .before .before .before .args .n) (c .before .before .before .args .set) (c .before .before .before .args .scratch .now) (c .before .loop .i)
+  cell-same = order-stays (c .before .before .before .pre .apart) (c .before .loop .inv .1) (c .before .loop .i) (omega (arith, few))
 
-steps-same : (c : tie.In-loop Inv-loop μ-loop) → stepsOf (c .before .before .before .args .n) (c .before .loop .scratch) (orderOf (c .before .before .before .args .n) (c .before .loop .scratch) (c .before .loop .i)) ≡ stepsOf (c .before .before .before .args .n) (c .before .before .before .args .scratch .now) (orderOf (c .before .before .before .args .n) (c .before .before .before .args .scratch .now) (c .before .loop .i))
-steps-same c = steps-stay (c .before .loop .inv .1) (c .before .loop .i) (omega arith) (cell-below c)
+  cell-known : T (knownOf (c .before .before .before .args .n) (c .before .before .before .args .set) (c .before .before .before .args .scratch .now) (orderOf (c .before .before .before .args .n) (c .before .before .before .args .set) (c .before .loop .scratch) (c .before .loop .i)))
+  cell-known = rw cell-same (c .before .before .before .pre .known (c .before .loop .i) (omega arith))
+
+  cell-below : orderOf (c .before .before .before .args .n) (c .before .before .before .args .set) (c .before .loop .scratch) (c .before .loop .i) < c .before .before .before .args .n
+  cell-below = known-below _ _ _ _ cell-known
+
+  label-same : SameLabel (c .before .before .before .args .n) (c .before .before .before .args .set) (c .before .before .before .args .scratch .now) (c .before .loop .scratch) (orderOf (c .before .before .before .args .n) (c .before .before .before .args .set) (c .before .loop .scratch) (c .before .loop .i))
+  label-same = label-stays (c .before .before .before .pre .apart) (c .before .loop .inv .1) _ cell-below
 
 loop-holds : tie.Need-loop-holds Inv-loop μ-loop
-loop-holds c = (omega arith, arrived-none _ _ _ _ _ (c .before .pre .0))
+loop-holds c = (c .before .pre .start, arrived-none _ _ _ _ _ _ _ (c .before .pre .listed))
 
 mul-cell : tie.Need-mul-cell Inv-loop μ-loop
-mul-cell c = omega arith
+mul-cell c = omega (arith, c .before .before .before .pre .setIn .small)
 
 add-cell : tie.Need-add-cell Inv-loop μ-loop
-add-cell c = omega arith
+add-cell c = omega (arith, c .before .before .before .pre .setIn .small, c .before .before .before .pre .setIn .low)
+
+add-cell-2 : tie.Need-add-cell-2 Inv-loop μ-loop
+add-cell-2 c = omega (arith, c .before .before .before .pre .setIn .small, c .before .before .before .pre .setIn .low, few c)
 
 mul-cell-2 : tie.Need-mul-cell-2 Inv-loop μ-loop
-mul-cell-2 c = omega arith
+mul-cell-2 c = omega (arith, c .before .before .before .pre .setIn .small, c .before .before .before .pre .setIn .low, few c)
 
 slice-read-cell : tie.Need-slice-read-cell Inv-loop μ-loop
-slice-read-cell c = omega arith
+slice-read-cell c =
+    let w = c .before in
+    omega (arith, w .before .before .before .pre .setIn .room, few w, w .before .loop .inv .1 .same, w .loop-test .taken)
 
 cast-cell : tie.Need-cast-cell Inv-loop μ-loop
-cast-cell c = omega (arith, cell-below (c .before))
+cast-cell c = omega (arith, cell-below (c .before), c .before .before .before .before .pre .setIn .small)
 
-steps-of-requires : tie.Need-steps-of-requires Inv-loop μ-loop
-steps-of-requires c κs = omega (arith, cell-below (c .before .before))
+is-after-requires : tie.Need-is-after-requires Inv-loop μ-loop
+is-after-requires c κs =
+    let w : tie.In-loop Inv-loop μ-loop = c .before .before in
+    let a = w .before .before .before .pre .setIn in
+    (record { small = a .small; low = a .low; room = omega (arith, a .room, w .before .loop .inv .1 .same) }, rw (label-same w .known) (cell-known w))
 
 same-length : tie.Need-same-length Inv-loop μ-loop
 same-length c = omega arith
@@ -133,15 +153,16 @@ returns : tie.Need-returns Inv-loop μ-loop
 returns c =
     let w : tie.In-loop Inv-loop μ-loop = c .before .before .before .before in
     record {
-      within = omega arith;
-      late = λ h. omega (arith, steps-same w, c .before .steps-of .ensures);
+      within = w .before .loop .inv .0;
+      late = λ h. rw (← cell-same w) (rw (← label-same w .weight, ← label-same w .steps) (c .before .is-after .ensures .after (c .if1 .taken)));
       arrived = w .before .loop .inv .1;
     }
 
 plant-requires : tie.Need-plant-requires Inv-loop μ-loop
 plant-requires c κs =
     let w : tie.In-loop Inv-loop μ-loop = c .before .before .before .before .before in
-    (w .before .loop .inv .1 .listed, (cell-below w, (omega arith, omega arith)))
+    let a = w .before .before .before .pre in
+    (w .before .loop .inv .1 .listed, (cell-below w, (a .setIn .small, omega (arith, a .room, w .before .loop .inv .1 .same))))
 
 add-i : tie.Need-add-i Inv-loop μ-loop
 add-i c = omega arith
@@ -155,8 +176,8 @@ loop-again c =
     let w : tie.In-loop Inv-loop μ-loop = e .before .before .before .before in (
       omega arith,
       arrived-more (w .before .loop .inv .1) (cell-same w) (cell-below w) (c .before .before .plant .ensures)
-          (λ j h. w .before .before .before .pre .1 .1 .1 .0 j (omega arith))
-          (omega (arith, steps-same w, e .before .steps-of .ensures)),
+          (λ j h. known-below _ _ _ _ (w .before .before .before .pre .known j (omega arith)))
+          (rw (← cell-same w) (rw (← label-same w .weight, ← label-same w .steps) (e .before .is-after .ensures .by (e .if1 .left)))),
     )
 
 same-length-2 : tie.Need-same-length-2 Inv-loop μ-loop
@@ -179,10 +200,11 @@ arrive-spec =
     loop-holds
     mul-cell
     add-cell
+    add-cell-2
     mul-cell-2
     slice-read-cell
     cast-cell
-    steps-of-requires
+    is-after-requires
     same-length
     returns
     plant-requires

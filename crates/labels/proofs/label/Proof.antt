@@ -1,5 +1,5 @@
--- `labels::label`: the four words are written where nothing else is kept, and the cell takes the last place of the order.
-use Prim.Native.Nat.{ℕ, _+_, _*_, _/_, _%_, _<_}
+-- `labels::label`: the words are written where nothing else is kept, and the cell takes the last place of the order.
+use Prim.Native.Nat.{ℕ, _+_, _*_, _<_}
 use mathlib.Core.Path.{_≡_, _∙_}
 use mathlib.Core.List.{List}
 use native.Mathlib.Omega.{arith}
@@ -7,9 +7,8 @@ use lib.Dec.{T}
 use lib.ListN.{getD, set, length-set}
 use lib.Seq.{getD-set-same, getD-set-other}
 use borrow.Author.Needs.{needs}
-use Rattle.budget.specs.Done.{NotAfter}
-use Rattle.layout.specs.Layout.{labelsAt, stepsLowAt, stepsHighAt, orderAt}
-use Rattle.labels.specs.Labels.{knownOf, registersOf, stepsOf, orderOf, SameLabel, Labelable, LabelAdded}
+use Rattle.layout.specs.Layout.{weightHigh, stepsLow, stepsHigh, orderIn}
+use Rattle.labels.specs.Labels.{knownOf, weightWord, weightOf, stepsOf, orderOf, LabelBy, PairSet, SameLabel, Labelable, LabelAdded}
 use Rattle.labels.proofs.Labels.{word-known, same-label, ordered-room, ordered-more}
 use Rattle.labels.proofs.label.Statement.{statement}
 use Rattle.labels.proofs.label.Tie as tie
@@ -17,176 +16,155 @@ use Rattle.labels.proofs.label.Tie as tie
 room : (c : tie.Start) → c .args .count < c .args .n
 room c = ordered-room (c .pre .ordered) (c .args .cell) (c .pre .inPlan) (c .pre .unlabelled)
 
-module _ (n cell registers steps count : ℕ) (old : List ℕ) (pre : Labelable n cell registers steps count old) where
-  -- the words after each store
-  abbrev set1 : List ℕ
-  set1 = set old (n * labelsAt + cell) (registers + 1)
-
-  abbrev set2 : List ℕ
-  set2 = set set1 (n * stepsLowAt + cell) (steps % 65536)
-
-  abbrev set3 : List ℕ
-  set3 = set set2 (n * stepsHighAt + cell) (steps / 65536)
-
+module _ (n base cell weight steps count : ℕ) (old mid last : List ℕ) (pre : Labelable n base cell weight steps count old) (one : PairSet (base + cell) (base + n * weightHigh + cell) (weight + 1) old mid) (two : PairSet (base + n * stepsLow + cell) (base + n * stepsHigh + cell) steps mid last) where
   abbrev new : List ℕ
-  new = set set3 (n * orderAt + count) cell
+  new = set last (base + n * orderIn + count) cell
 
   free : count < n
   free = ordered-room (pre .ordered) cell (pre .inPlan) (pre .unlabelled)
 
-  other4 : (k : ℕ) → (k ≡ n * orderAt + count → ⊥) → getD new k 0 ≡ getD set3 k 0
-  other4 k q = getD-set-other set3 (n * orderAt + count) k cell 0 q
+  ordered-else : (k : ℕ) → (k ≡ base + n * orderIn + count → ⊥) → getD new k 0 ≡ getD last k 0
+  ordered-else k q = getD-set-other last (base + n * orderIn + count) k cell 0 q
 
-  other3 : (k : ℕ) → (k ≡ n * stepsHighAt + cell → ⊥) → getD set3 k 0 ≡ getD set2 k 0
-  other3 k q = getD-set-other set2 (n * stepsHighAt + cell) k (steps / 65536) 0 q
+  kept : (k : ℕ) → (k ≡ base + n * orderIn + count → ⊥) → (k ≡ base + cell → ⊥) → (k ≡ base + n * weightHigh + cell → ⊥) → (k ≡ base + n * stepsLow + cell → ⊥) → (k ≡ base + n * stepsHigh + cell → ⊥) → getD new k 0 ≡ getD old k 0
+  kept k p q r t u = ordered-else k p ∙ two .others k t u ∙ one .others k q r
 
-  other2 : (k : ℕ) → (k ≡ n * stepsLowAt + cell → ⊥) → getD set2 k 0 ≡ getD set1 k 0
-  other2 k q = getD-set-other set1 (n * stepsLowAt + cell) k (steps % 65536) 0 q
+  word : weightWord n base new cell ≡ weight + 1
+  word =
+      rw (
+        ordered-else (base + cell) (λ e. omega (arith, pre .inPlan)),
+        ordered-else (base + n * weightHigh + cell) (λ e. omega (arith, pre .inPlan)),
+        two .others (base + cell) (λ e. omega (arith, pre .inPlan)) (λ e. omega (arith, pre .inPlan)),
+        two .others (base + n * weightHigh + cell) (λ e. omega (arith, pre .inPlan)) (λ e. omega (arith, pre .inPlan)),
+      )
+      (one .holds)
 
-  kept : (k : ℕ) → (k ≡ n * orderAt + count → ⊥) → (k ≡ n * stepsHighAt + cell → ⊥) → (k ≡ n * stepsLowAt + cell → ⊥) → (k ≡ n * labelsAt + cell → ⊥) → getD new k 0 ≡ getD old k 0
-  kept k p q r t = other4 k p ∙ other3 k q ∙ other2 k r ∙ getD-set-other old (n * labelsAt + cell) k (registers + 1) 0 t
+  weight-set : weightOf n base new cell ≡ weight
+  weight-set = omega (arith, word)
 
-  word1 : getD new (n * labelsAt + cell) 0 ≡ registers + 1
-  word1 =
-      other4 _ (λ e. omega arith) ∙ other3 _ (λ e. omega arith) ∙ other2 _ (λ e. omega arith)
-      ∙ getD-set-same old (n * labelsAt + cell) (registers + 1) 0 (omega arith)
+  steps-set : stepsOf n base new cell ≡ steps
+  steps-set =
+      rw (ordered-else (base + n * stepsLow + cell) (λ e. omega (arith, pre .inPlan)), ordered-else (base + n * stepsHigh + cell) (λ e. omega (arith, pre .inPlan))) (two .holds)
 
-  word2 : getD new (n * stepsLowAt + cell) 0 ≡ steps % 65536
-  word2 =
-      other4 _ (λ e. omega arith) ∙ other3 _ (λ e. omega arith)
-      ∙ getD-set-same set1 (n * stepsLowAt + cell) (steps % 65536) 0 (simp length-set (omega arith))
+  at-end : orderOf n base new count ≡ cell
+  at-end = getD-set-same last (base + n * orderIn + count) cell 0 (omega (arith, free, one .same, two .same, pre .setIn .room))
 
-  word3 : getD new (n * stepsHighAt + cell) 0 ≡ steps / 65536
-  word3 = other4 _ (λ e. omega arith) ∙ getD-set-same set2 (n * stepsHighAt + cell) (steps / 65536) 0 (simp length-set (omega arith))
+  known : T (knownOf n base new cell)
+  known = word-known n base new cell (pre .inPlan) (omega (arith, word))
 
-  word4 : orderOf n new count ≡ cell
-  word4 = getD-set-same set3 (n * orderAt + count) cell 0 (simp length-set (omega (arith, free)))
-
-  known : T (knownOf n new cell)
-  known = word-known n new cell (pre .inPlan) (omega (arith, word1))
-
-  registers-set : registersOf n new cell ≡ registers
-  registers-set = omega (arith, word1)
-
-  steps-set : stepsOf n new cell ≡ steps
-  steps-set = omega (arith, word2, word3)
-
-  others : (c : ℕ) → c < n → (c ≡ cell → ⊥) → SameLabel n old new c
+  others : (c : ℕ) → c < n → (c ≡ cell → ⊥) → SameLabel n base old new c
   others c h q =
-      same-label n old new c (kept _ (λ e. omega (arith, free)) (λ e. omega arith) (λ e. omega arith) (λ e. omega arith))
-      (kept _ (λ e. omega (arith, free)) (λ e. omega arith) (λ e. omega arith) (λ e. omega arith))
-      (kept _ (λ e. omega (arith, free)) (λ e. omega arith) (λ e. omega arith) (λ e. omega arith))
+      same-label n base old new c
+      (rw (kept (base + c) (λ e. omega (arith, free, pre .inPlan)) (λ e. omega (arith, pre .inPlan)) (λ e. omega (arith, pre .inPlan)) (λ e. omega (arith, pre .inPlan)) (λ e. omega (arith, pre .inPlan)), kept (base + n * weightHigh + c) (λ e. omega (arith, free, pre .inPlan)) (λ e. omega (arith, pre .inPlan)) (λ e. omega (arith, pre .inPlan)) (λ e. omega (arith, pre .inPlan)) (λ e. omega (arith, pre .inPlan))))
+      (rw (kept (base + n * stepsLow + c) (λ e. omega (arith, free, pre .inPlan)) (λ e. omega (arith, pre .inPlan)) (λ e. omega (arith, pre .inPlan)) (λ e. omega (arith, pre .inPlan)) (λ e. omega (arith, pre .inPlan)), kept (base + n * stepsHigh + c) (λ e. omega (arith, free, pre .inPlan)) (λ e. omega (arith, pre .inPlan)) (λ e. omega (arith, pre .inPlan)) (λ e. omega (arith, pre .inPlan)) (λ e. omega (arith, pre .inPlan))))
 
-  earlier : (i : ℕ) → i < count → orderOf n new i ≡ orderOf n old i
-  earlier i h = kept (n * orderAt + i) (λ e. omega (arith, free)) (λ e. omega (arith, free)) (λ e. omega (arith, free)) (λ e. omega (arith, free))
+  earlier : (i : ℕ) → i < count → orderOf n base new i ≡ orderOf n base old i
+  earlier i h = kept (base + n * orderIn + i) (λ e. omega (arith, free)) (λ e. omega (arith, free, pre .inPlan)) (λ e. omega (arith, free, pre .inPlan)) (λ e. omega (arith, free, pre .inPlan)) (λ e. omega (arith, free, pre .inPlan))
 
-  not-after : (c : ℕ) → T (knownOf n old c) → NotAfter (registersOf n old c) (stepsOf n old c) (registersOf n new cell) (stepsOf n new cell)
-  not-after c t = rw (registers-set, steps-set) (pre .last c t)
+  not-after : (c : ℕ) → T (knownOf n base old c) → LabelBy n base old (weightOf n base new cell) (stepsOf n base new cell) c
+  not-after c t = rw (weight-set, steps-set) (pre .last c t)
 
-  added : LabelAdded n cell registers steps count old new
+  added : LabelAdded n base cell weight steps count old new
   added =
       record {
-        same = simp length-set;
-        ordered = ordered-more (pre .ordered) new cell (pre .inPlan) (pre .unlabelled) known others not-after earlier word4;
+        same = simp length-set (two .same ∙ one .same);
+        ordered = ordered-more (pre .ordered) new cell (pre .inPlan) (pre .unlabelled) known others not-after earlier at-end;
         earlier = earlier;
-        last = word4;
+        last = at-end;
         known = known;
-        registersSet = registers-set;
+        weightSet = weight-set;
         stepsSet = steps-set;
         others = others;
-        low = λ k h. kept k (λ e. omega arith) (λ e. omega arith) (λ e. omega arith) (λ e. omega arith);
-        high = λ k h. kept k (λ e. omega (arith, free)) (λ e. omega arith) (λ e. omega arith) (λ e. omega arith);
+        low = λ k h. kept k (λ e. omega arith) (λ e. omega arith) (λ e. omega arith) (λ e. omega arith) (λ e. omega arith);
+        high = λ k h. kept k (λ e. omega (arith, free)) (λ e. omega (arith, pre .inPlan)) (λ e. omega (arith, pre .inPlan)) (λ e. omega (arith, pre .inPlan)) (λ e. omega (arith, pre .inPlan));
       }
 
-add-scratch : tie.Need-add-scratch
-add-scratch c = search needs
+add-put-pair : tie.Need-add-put-pair
+add-put-pair c = search needs
 
-mul-scratch : tie.Need-mul-scratch
-mul-scratch c = search needs
+mul-put-pair : tie.Need-mul-put-pair
+mul-put-pair c = search needs
 
-add-scratch-2 : tie.Need-add-scratch-2
-add-scratch-2 c = search needs
+add-put-pair-2 : tie.Need-add-put-pair-2
+add-put-pair-2 c = search needs
 
-mul-scratch-2 : tie.Need-mul-scratch-2
-mul-scratch-2 c = search needs
+add-put-pair-3 : tie.Need-add-put-pair-3
+add-put-pair-3 c = search needs
 
-slice-write-scratch : tie.Need-slice-write-scratch
-slice-write-scratch c = search needs
+add-put-pair-4 : tie.Need-add-put-pair-4
+add-put-pair-4 c = search needs
+
+put-pair-requires : tie.Need-put-pair-requires
+put-pair-requires c κs = search needs
+
+mul-put-pair-2 : tie.Need-mul-put-pair-2
+mul-put-pair-2 c = search needs
+
+add-put-pair-5 : tie.Need-add-put-pair-5
+add-put-pair-5 c = search needs
+
+add-put-pair-6 : tie.Need-add-put-pair-6
+add-put-pair-6 c = search needs
+
+mul-put-pair-3 : tie.Need-mul-put-pair-3
+mul-put-pair-3 c = search needs
+
+add-put-pair-7 : tie.Need-add-put-pair-7
+add-put-pair-7 c = search needs
+
+add-put-pair-8 : tie.Need-add-put-pair-8
+add-put-pair-8 c = search needs
+
+put-pair-requires-2 : tie.Need-put-pair-requires-2
+put-pair-requires-2 c κs = search needs
 
 cast-scratch : tie.Need-cast-scratch
 cast-scratch c = search needs
 
-mul-scratch-3 : tie.Need-mul-scratch-3
-mul-scratch-3 c = search needs
+mul-scratch : tie.Need-mul-scratch
+mul-scratch c = search needs
 
-add-scratch-3 : tie.Need-add-scratch-3
-add-scratch-3 c = search needs
+add-scratch : tie.Need-add-scratch
+add-scratch c = search needs
 
-mul-scratch-4 : tie.Need-mul-scratch-4
-mul-scratch-4 c = search needs
+add-scratch-2 : tie.Need-add-scratch-2
+add-scratch-2 c = omega (arith, room (c .before .before .before .before .before .before .before .before .before))
 
-slice-write-scratch-2 : tie.Need-slice-write-scratch-2
-slice-write-scratch-2 c = simp length-set (omega arith)
+mul-scratch-2 : tie.Need-mul-scratch-2
+mul-scratch-2 c = omega (arith, room (c .before .before .before .before .before .before .before .before .before))
 
-cast-scratch-2 : tie.Need-cast-scratch-2
-cast-scratch-2 c = search needs
-
-mul-scratch-5 : tie.Need-mul-scratch-5
-mul-scratch-5 c = search needs
-
-add-scratch-4 : tie.Need-add-scratch-4
-add-scratch-4 c = search needs
-
-mul-scratch-6 : tie.Need-mul-scratch-6
-mul-scratch-6 c = search needs
-
-slice-write-scratch-3 : tie.Need-slice-write-scratch-3
-slice-write-scratch-3 c = simp length-set (omega arith)
-
-cast-scratch-3 : tie.Need-cast-scratch-3
-cast-scratch-3 c = search needs
-
-mul-scratch-7 : tie.Need-mul-scratch-7
-mul-scratch-7 c = search needs
-
-add-scratch-5 : tie.Need-add-scratch-5
-add-scratch-5 c = omega (arith, room c)
-
-mul-scratch-8 : tie.Need-mul-scratch-8
-mul-scratch-8 c = omega (arith, room c)
-
-slice-write-scratch-4 : tie.Need-slice-write-scratch-4
-slice-write-scratch-4 c = simp length-set (omega (arith, room c))
+slice-write-scratch : tie.Need-slice-write-scratch
+slice-write-scratch c = omega (arith, room (c .before .before .before .before .before .before .before .before .before))
 
 same-length : tie.Need-same-length
-same-length c = simp length-set
+same-length c = simp length-set (omega arith)
 
 returns : tie.Need-returns
-returns c = added _ _ _ _ _ _ (c .pre)
+returns c =
+    added _ _ _ _ _ _ _ _ _ (c .before .before .before .before .before .before .before .before .before .pre) (c .before .before .before .before .before .before .put-pair .ensures) (c .before .before .put-pair2 .ensures)
 
 pub label-spec : {M : Type 1} → statement M
 label-spec =
     tie.close
     (tie.spec
-    add-scratch
+    add-put-pair
+    mul-put-pair
+    add-put-pair-2
+    add-put-pair-3
+    add-put-pair-4
+    put-pair-requires
+    mul-put-pair-2
+    add-put-pair-5
+    add-put-pair-6
+    mul-put-pair-3
+    add-put-pair-7
+    add-put-pair-8
+    put-pair-requires-2
+    cast-scratch
     mul-scratch
+    add-scratch
     add-scratch-2
     mul-scratch-2
     slice-write-scratch
-    cast-scratch
-    mul-scratch-3
-    add-scratch-3
-    mul-scratch-4
-    slice-write-scratch-2
-    cast-scratch-2
-    mul-scratch-5
-    add-scratch-4
-    mul-scratch-6
-    slice-write-scratch-3
-    cast-scratch-3
-    mul-scratch-7
-    add-scratch-5
-    mul-scratch-8
-    slice-write-scratch-4
     same-length
     returns)

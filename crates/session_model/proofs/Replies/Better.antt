@@ -7,7 +7,7 @@ use mathlib.Core.Logic.{_↔_}
 use denote.Ref.{RefT, now}
 use lib.Dec.{T}
 use Rattle.rules.specs.Legal.{legal}
-use Rattle.rules.specs.Ranking.{ranksBefore}
+use Rattle.rules.specs.Ranking.{registers, ranksBefore}
 use Rattle.answers.specs.declared.answer.Refusal.{Refusal}
 use Rattle.answers.specs.declared.verdicts.Comparison.{Comparison}
 use Rattle.answers.specs.declared.verdicts.Comparison.the-variants.{First, Second, Refused}
@@ -39,7 +39,7 @@ module _ (q : Question) (a b : List ℕ) where
   unfolding comparisonAfter comparisonFor
   after-checks (fails r) e = notCompared r e
   after-checks passes e =
-      by-tests (legal (rulesAsked q) (routeIn a)) (legal (rulesAsked q) (routeIn b)) (ranksBefore (routeIn b) (routeIn a)) (CompareAnswered q a b)
+      by-tests (legal (rulesAsked q) (routeIn a)) (legal (rulesAsked q) (routeIn b)) (ranksBefore registers (routeIn b) (routeIn a)) (CompareAnswered q a b)
       (firstBetter e) (secondBetter e) (neitherLegal e)
 
   -- What `compare` hands back is that comparison.

@@ -7,7 +7,7 @@ use mathlib.Core.Path.{_≡_}
 use denote.Ref.{RefT, now}
 use lib.Dec.{T}
 use Rattle.rules.specs.Legal.{legal}
-use Rattle.rules.specs.Ranking.{ranksBefore}
+use Rattle.rules.specs.Ranking.{registers, ranksBefore}
 use Rattle.answers.specs.declared.answer.Refusal.{Refusal}
 use Rattle.answers.specs.declared.verdicts.Comparison.{Comparison}
 use Rattle.answers.specs.declared.verdicts.Comparison.the-variants.{First, Second, Refused}
@@ -33,9 +33,9 @@ pub data CompareAnswered (q : Question) (a b : List ℕ) : Comparison → Type 0
   -- 1 to 5 or 17, the first in its order
   notCompared : (r : Refusal) → listChecks q (badList a || badList b) ≡ fails r → CompareAnswered q a b (Refused r)
   -- the first is legal, and the second is not or does not rank before it
-  firstBetter : listChecks q (badList a || badList b) ≡ passes → T (legal (rulesAsked q) (routeIn a)) → (T (legal (rulesAsked q) (routeIn b)) → T (ranksBefore (routeIn b) (routeIn a)) → ⊥) → CompareAnswered q a b First
+  firstBetter : listChecks q (badList a || badList b) ≡ passes → T (legal (rulesAsked q) (routeIn a)) → (T (legal (rulesAsked q) (routeIn b)) → T (ranksBefore registers (routeIn b) (routeIn a)) → ⊥) → CompareAnswered q a b First
   -- the second is legal, and the first is not or the second ranks before it
-  secondBetter : listChecks q (badList a || badList b) ≡ passes → T (legal (rulesAsked q) (routeIn b)) → (T (legal (rulesAsked q) (routeIn a)) → T (ranksBefore (routeIn b) (routeIn a))) → CompareAnswered q a b Second
+  secondBetter : listChecks q (badList a || badList b) ≡ passes → T (legal (rulesAsked q) (routeIn b)) → (T (legal (rulesAsked q) (routeIn a)) → T (ranksBefore registers (routeIn b) (routeIn a))) → CompareAnswered q a b Second
   -- 18: neither is legal
   neitherLegal : listChecks q (badList a || badList b) ≡ passes → (T (legal (rulesAsked q) (routeIn a)) → ⊥) → (T (legal (rulesAsked q) (routeIn b)) → ⊥) → CompareAnswered q a b (Refused Refusal.NoneLegal)
 

@@ -6,7 +6,7 @@ use mathlib.Core.Path.{_≡_}
 use lib.Dec.{T, leb}
 use lib.ListN.{length, take}
 use Rattle.rules.specs.Legal.{Route, legal}
-use Rattle.rules.specs.Ranking.{steps, written, IsBest}
+use Rattle.rules.specs.Ranking.{registers, steps, written, IsBest}
 use Rattle.best.specs.Best.{Outcome, found, none, best}
 use Rattle.answers.specs.Numbers.{filledWords}
 use Rattle.answers.specs.declared.answer.Answer.{Answer}
@@ -65,6 +65,6 @@ pub data RouteAnswered (q : Question) (scratch room : ℕ) : RouteReply → Type
   -- 7: no legal route exists; the scratch words are zeroed
   noRoute : checks q scratch ≡ passes → ((r : Route) → T (legal (rulesAsked q) r) → ⊥) → RouteAnswered q scratch room (record { answer = Answer.Refused Refusal.NoRoute; filled = []; zeroed = zeros q })
   -- 8: the best legal route's figures, counted off it, its smallest spare figure among them; its visits need more words than lent, and none is filled
-  noRoom : (r : Route) → checks q scratch ≡ passes → IsBest (rulesAsked q) r → room < 2 * (steps r + 1) → RouteAnswered q scratch room (record { answer = Answer.NoRoom (figuresOf (rulesAsked q) (q .tables .period) r); filled = []; zeroed = zeros q })
+  noRoom : (r : Route) → checks q scratch ≡ passes → IsBest registers (rulesAsked q) r → room < 2 * (steps r + 1) → RouteAnswered q scratch room (record { answer = Answer.NoRoom (figuresOf (rulesAsked q) (q .tables .period) r); filled = []; zeroed = zeros q })
   -- 0: the best legal route, its figures counted off it and its visits filled in
-  isFound : (r : Route) → checks q scratch ≡ passes → IsBest (rulesAsked q) r → 2 * (steps r + 1) ≤ room → RouteAnswered q scratch room (record { answer = Answer.Found (figuresOf (rulesAsked q) (q .tables .period) r); filled = written r; zeroed = zeros q })
+  isFound : (r : Route) → checks q scratch ≡ passes → IsBest registers (rulesAsked q) r → 2 * (steps r + 1) ≤ room → RouteAnswered q scratch room (record { answer = Answer.Found (figuresOf (rulesAsked q) (q .tables .period) r); filled = written r; zeroed = zeros q })

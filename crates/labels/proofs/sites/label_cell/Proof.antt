@@ -1,5 +1,5 @@
 -- `labels::sites::label_cell`: on each early return the cell has a label or may have none; otherwise `label` adds one.
-use Prim.Native.Nat.{ℕ, _+_, _*_, _<_, _≤_}
+use Prim.Native.Nat.{ℕ, _+_, _<_, _≤_}
 use mathlib.Core.Bool.{Bool, true, false, not}
 use mathlib.Core.Path.{_≡_, sym, _∙_}
 use mathlib.Core.List.{List}
@@ -7,22 +7,21 @@ use native.Mathlib.Omega.{arith}
 use borrow.Author.Needs.{needs}
 use borrow.Author.Tests.{ltb-true, ltb-false, not-true, not-false}
 use lib.Dec.{T}
-use lib.ListN.{length, getD}
+use lib.ListN.{length}
 use Rattle.rules.specs.Rules.{Rules, registerCode}
 use Rattle.rules.specs.Legal.{mayStand}
 use Rattle.plan.proofs.Truth.{of-true}
-use Rattle.layout.specs.Layout.{labelsAt}
 use Rattle.problem.specs.declared.Problem.{Problem}
 use Rattle.table.specs.Problem.{rulesFor, budgetOf}
 use Rattle.problem.proofs.Sizes.{few-cells}
-use Rattle.labels.specs.Labels.{knownOf, Labelable, LabelAdded}
+use Rattle.labels.specs.Labels.{knownOf, weightWord, Labelable, LabelAdded}
 use Rattle.labels.specs.Additions.{FreshIn, LabelAsks, LabelsAddedAmong}
 use Rattle.labels.proofs.Labels.{word-known, word-unknown, unknown-not, ordered-count}
 use Rattle.labels.proofs.Additions.{labels-none, labels-one}
 use Rattle.labels.proofs.sites.label_cell.Statement.{statement}
 use Rattle.labels.proofs.sites.label_cell.Tie as tie
 
-module _ (p : Problem) (marks : List ℕ) (registers steps count : ℕ) (words : List ℕ) (cell : ℕ) (asks : LabelAsks p marks registers steps count words) (inPlan : cell < length marks) where
+module _ (p : Problem) (marks : List ℕ) (set weight steps count : ℕ) (words : List ℕ) (cell : ℕ) (asks : LabelAsks p marks set weight steps count words) (inPlan : cell < length marks) where
   abbrev n : ℕ
   n = length marks
 
@@ -30,28 +29,28 @@ module _ (p : Problem) (marks : List ℕ) (registers steps count : ℕ) (words :
   R = rulesFor p marks
 
   abbrev Added : List ℕ → ℕ → Type 0
-  Added new next = LabelsAddedAmong R n (λ c. c ≡ cell) registers steps words new count next
+  Added new next = LabelsAddedAmong R n set (λ c. c ≡ cell) weight steps words new count next
 
   -- nothing is added
-  none : (T (mayStand R cell registerCode) → R .fresh .delay < budgetOf n words cell (R .fresh .load) → T (knownOf n words cell)) → Added words count
+  none : (T (mayStand R cell registerCode) → R .fresh registerCode .delay < budgetOf n words cell (R .fresh registerCode .load) → T (knownOf n set words cell)) → Added words count
   none f = labels-none (λ c. c ≡ cell) words count (asks .ordered) (λ c e s b. rw e (f (rw e at s) (rw e at b)))
 
-  labelled : 0 < getD words (n * labelsAt + cell) 0 → Added words count
-  labelled k = none (λ s b. word-known n words cell inPlan k)
+  labelled : 0 < weightWord n set words cell → Added words count
+  labelled k = none (λ s b. word-known n set words cell inPlan k)
 
   not-fresh : (r : Bool) → FreshIn p words cell r → not r ≡ true → Added words count
   not-fresh r f e =
-      let late = ltb-false (R .fresh .delay) (budgetOf n words cell (R .fresh .load)) (sym (f .fresh marks inPlan) ∙ not-true r e) in
+      let late = ltb-false (R .fresh registerCode .delay) (budgetOf n words cell (R .fresh registerCode .load)) (sym (f .fresh marks inPlan) ∙ not-true r e) in
       none (λ s b. absurd (omega arith))
 
   no-site : (r : Bool) → r ≡ mayStand R cell registerCode → not r ≡ true → Added words count
   no-site r m e = none (λ s b. absurd (unknown-not (sym m ∙ not-true r e) s))
 
   -- one label
-  unlabelled : getD words (n * labelsAt + cell) 0 ≤ 0 → knownOf n words cell ≡ false
-  unlabelled z = word-unknown n words cell (omega arith)
+  unlabelled : weightWord n set words cell ≡ 0 → knownOf n set words cell ≡ false
+  unlabelled z = word-unknown n set words cell z
 
-  may-label : getD words (n * labelsAt + cell) 0 ≤ 0 → Labelable n cell registers steps count words
+  may-label : weightWord n set words cell ≡ 0 → Labelable n set cell weight steps count words
   may-label z =
       record {
         ordered = asks .ordered;
@@ -59,94 +58,89 @@ module _ (p : Problem) (marks : List ℕ) (registers steps count : ℕ) (words :
         unlabelled = unlabelled z;
         last = asks .last;
         few = asks .few;
-        small = few-cells p marks (asks .ready);
-        room = omega (arith, asks .room);
+        setIn = asks .setIn;
       }
 
-  one-more : getD words (n * labelsAt + cell) 0 ≤ 0 → (r q : Bool) → FreshIn p words cell r → not r ≡ false → q ≡ mayStand R cell registerCode → not q ≡ false → (new : List ℕ) → LabelAdded n cell registers steps count words new → Added new (count + 1)
+  one-more : weightWord n set words cell ≡ 0 → (r q : Bool) → FreshIn p words cell r → not r ≡ false → q ≡ mayStand R cell registerCode → not q ≡ false → (new : List ℕ) → LabelAdded n set cell weight steps count words new → Added new (count + 1)
   one-more z r q f e m d new a =
-      labels-one (unlabelled z) (of-true (mayStand R cell registerCode) (sym m ∙ not-false q d)) (ltb-true (R .fresh .delay) (budgetOf n words cell (R .fresh .load)) (sym (f .fresh marks inPlan) ∙ not-false r e)) a
+      labels-one (unlabelled z) (of-true (mayStand R cell registerCode) (sym m ∙ not-false q d)) (ltb-true (R .fresh registerCode .delay) (budgetOf n words cell (R .fresh registerCode .load)) (sym (f .fresh marks inPlan) ∙ not-false r e)) a
 
   few-labels : count ≤ 1024
   few-labels = omega (arith, ordered-count (asks .ordered), few-cells p marks (asks .ready))
 
-mul-if1 : tie.Need-mul-if1
-mul-if1 c = search needs
-
-add-if1 : tie.Need-add-if1
-add-if1 c = search needs
-
-mul-if1-2 : tie.Need-mul-if1-2
-mul-if1-2 c = search needs
-
-slice-read-if1 : tie.Need-slice-read-if1
-slice-read-if1 c = search needs
-
-returns : tie.Need-returns
-returns c =
-    let s = c .before .before .before .before in
-    labelled _ _ _ _ _ _ _ (s .pre .0) (s .pre .1) (c .if1 .taken)
-
-fresh-in-requires : tie.Need-fresh-in-requires
-fresh-in-requires c κs = search needs
+weight-word-requires : tie.Need-weight-word-requires
+weight-word-requires c κs = let s = c .before .before .before in (s .pre .0 .setIn, s .pre .1)
 
 same-length : tie.Need-same-length
 same-length c = search needs
 
-returns-2 : tie.Need-returns-2
-returns-2 c =
-    let s = c .before .before .before .before .before .before .before in
-    not-fresh _ _ _ _ _ _ _ (s .pre .0) (s .pre .1) _ (c .before .fresh-in .ensures) (c .if2 .taken)
+returns : tie.Need-returns
+returns c =
+    let s = c .before .before .before .before .before in
+    labelled _ _ _ _ _ _ _ _ (s .pre .0) (s .pre .1) (omega (arith, c .before .weight-word .ensures, c .if1 .taken))
 
-may-register-requires : tie.Need-may-register-requires
-may-register-requires c κs = search needs
+fresh-in-requires : tie.Need-fresh-in-requires
+fresh-in-requires c κs = search needs
 
 same-length-2 : tie.Need-same-length-2
 same-length-2 c = search needs
 
+returns-2 : tie.Need-returns-2
+returns-2 c =
+    let s = c .before .before .before .before .before .before .before .before in
+    not-fresh _ _ _ _ _ _ _ _ (s .pre .0) (s .pre .1) _ (c .before .fresh-in .ensures) (c .if2 .taken)
+
+may-register-requires : tie.Need-may-register-requires
+may-register-requires c κs = search needs
+
+same-length-3 : tie.Need-same-length-3
+same-length-3 c = search needs
+
 returns-3 : tie.Need-returns-3
 returns-3 c =
-    let s = c .before .before .before .before .before .before .before .before .before in
-    no-site _ _ _ _ _ _ _ (s .pre .0) (s .pre .1) _ (c .before .may-register .ensures) (c .if3 .taken)
+    let s = c .before .before .before .before .before .before .before .before .before .before in
+    no-site _ _ _ _ _ _ _ _ (s .pre .0) (s .pre .1) _ (c .before .may-register .ensures) (c .if3 .taken)
+
+-- the cell has no label
+unlabelled-word : (e : tie.Else1) → weightWord (length (e .before .before .before .before .before .args .plan .now)) (e .before .before .before .before .before .args .set) (e .before .before .before .before .before .args .scratch .now) (e .before .before .before .before .before .args .cell) ≡ 0
+unlabelled-word e = omega (arith, e .before .weight-word .ensures, e .if1 .left)
 
 label-requires : tie.Need-label-requires
 label-requires c κs =
     let e = c .before .before .before .before .before .before in
-    let s = e .before .before .before .before in
-    may-label _ _ _ _ _ _ _ (s .pre .0) (s .pre .1) (e .if1 .left)
+    let s = e .before .before .before .before .before in
+    may-label _ _ _ _ _ _ _ _ (s .pre .0) (s .pre .1) (unlabelled-word e)
 
 add-result : tie.Need-add-result
 add-result c =
-    let s = c .before .before .before .before .before .before .before .before .before .before .before .before .before in
-    omega (arith, few-labels _ _ _ _ _ _ _ (s .pre .0) (s .pre .1))
+    let s = c .before .before .before .before .before .before .before .before .before .before .before .before .before .before in
+    omega (arith, few-labels _ _ _ _ _ _ _ _ (s .pre .0) (s .pre .1))
 
-same-length-3 : tie.Need-same-length-3
-same-length-3 c = search needs
+same-length-4 : tie.Need-same-length-4
+same-length-4 c = search needs
 
 returns-4 : tie.Need-returns-4
 returns-4 c =
     let l = c .before .before in
     let q = l .before .before .before in
     let e = q .before .before .before .before in
-    let s = e .before .before .before .before in
-    one-more _ _ _ _ _ _ _ (s .pre .0) (s .pre .1) (e .if1 .left) _ _ (q .before .before .fresh-in .ensures) (q .before .if2 .left) (q .may-register .ensures) (l .before .before .if3 .left) _ (l .label .ensures)
+    let s = e .before .before .before .before .before in
+    one-more _ _ _ _ _ _ _ _ (s .pre .0) (s .pre .1) (unlabelled-word e) _ _ (q .before .before .fresh-in .ensures) (q .before .if2 .left) (q .may-register .ensures) (l .before .before .if3 .left) _ (l .label .ensures)
 
 pub label-cell-spec : {M : Type 1} → statement M
 label-cell-spec =
     tie.close
     (tie.spec
-    mul-if1
-    add-if1
-    mul-if1-2
-    slice-read-if1
+    weight-word-requires
+    same-length
     returns
     fresh-in-requires
-    same-length
+    same-length-2
     returns-2
     may-register-requires
-    same-length-2
+    same-length-3
     returns-3
     label-requires
     add-result
-    same-length-3
+    same-length-4
     returns-4)

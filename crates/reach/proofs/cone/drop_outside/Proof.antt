@@ -1,4 +1,4 @@
--- `reach::cone::drop_outside`: all flags are cleared, and the cells in the cone are listed again.
+-- `reach::cone::drop_outside`: the flags are cleared, and the cells in the cone are listed again.
 use Prim.Native.Nat.{ℕ, _+_, _*_, _-_, _<_}
 use mathlib.Core.Path.{_≡_, sym, _∙_}
 use mathlib.Core.Bool.{Bool}
@@ -8,8 +8,8 @@ use native.Mathlib.Omega.{arith}
 use borrow.Author.Needs.{needs}
 use lib.Dec.{T}
 use lib.ListN.{getD}
-use Rattle.layout.specs.Layout.{activeAt, listedAt, seedsAt}
-use Rattle.rows.specs.Words.{Filled}
+use Rattle.layout.specs.Layout.{activeAt, listedAt}
+use Rattle.table.specs.Layer.{FlagsCleared}
 use Rattle.lists.specs.Lists.{flagOf, ListedAt, Listed, Taken}
 use Rattle.lists.proofs.Lists.{bit-cases, listed-count}
 use Rattle.problem.specs.declared.Problem.{Problem}
@@ -17,20 +17,20 @@ use Rattle.reach.specs.Cone.{ListAsks, ListedInside, DropAsks, Dropped}
 use Rattle.reach.proofs.cone.drop_outside.Statement.{statement}
 use Rattle.reach.proofs.cone.drop_outside.Tie as tie
 
-asks : (p : Problem) (n active : ℕ) (old mid : List ℕ) → DropAsks p n active old → Filled (λ k. 0) (n * listedAt) (n * seedsAt - n * listedAt) old mid → ListAsks n active (p .width) mid
+asks : (p : Problem) (n active : ℕ) (old mid : List ℕ) → DropAsks p n active old → FlagsCleared n old mid → ListAsks n active (p .width) mid
 asks p n active old mid d f =
     record {
-      unflagged = λ c h. f .done c (omega arith);
+      unflagged = f .cleared;
       short = listed-count (d .listed);
-      cells = λ i h. omega (arith, f .low (n * activeAt + i) (omega (arith, listed-count (d .listed))), d .listed .cells i h);
+      cells = λ i h. omega (arith, f .low (n * activeAt + i) (omega arith) (omega (arith, listed-count (d .listed))), d .listed .cells i h);
       wide = d .wide;
       few = d .few;
       room = omega (arith, d .room, f .same);
     }
 
-module _ (n active : ℕ) (P : ℕ → Bool) (old : List ℕ) (a : Listed n old (n * activeAt) active) (mid : List ℕ) (f : Filled (λ k. 0) (n * listedAt) (n * seedsAt - n * listedAt) old mid) (inner : List ℕ) (count : ℕ) (i : ListedInside n active P mid inner count) (new : List ℕ) (t : Taken n count inner new) where
+module _ (n active : ℕ) (P : ℕ → Bool) (old : List ℕ) (a : Listed n old (n * activeAt) active) (mid : List ℕ) (f : FlagsCleared n old mid) (inner : List ℕ) (count : ℕ) (i : ListedInside n active P mid inner count) (new : List ℕ) (t : Taken n count inner new) where
   list-same : (j : ℕ) → j < active → getD mid (n * activeAt + j) 0 ≡ getD old (n * activeAt + j) 0
-  list-same j h = f .low (n * activeAt + j) (omega (arith, listed-count a))
+  list-same j h = f .low (n * activeAt + j) (omega arith) (omega (arith, listed-count a))
 
   flag-same : (c : ℕ) → flagOf n new c ≡ flagOf n inner c
   flag-same c = t .high (n * listedAt + c) (omega arith)
@@ -55,8 +55,8 @@ module _ (n active : ℕ) (P : ℕ → Bool) (old : List ℕ) (a : Listed n old 
         listed = t .listed;
         fewer = was;
         inside = λ c h q. stays c h q (bit-cases _ (a .bits c h)) (bit-cases _ (t .listed .bits c h));
-        low = λ k h. t .low k h ∙ (i .low k (omega arith) ∙ f .low k (omega arith));
-        high = λ k h. t .high k (omega arith) ∙ (i .high k h ∙ f .high k (omega arith));
+        low = λ k h. t .low k h ∙ (i .low k (omega arith) ∙ f .low k (omega arith) (omega arith));
+        high = λ k h. t .high k (omega arith) ∙ (i .high k h ∙ f .rest k (omega arith));
       }
 
 add-most : tie.Need-add-most
@@ -74,19 +74,13 @@ add-if1-3 c = search needs
 returns : tie.Need-returns
 returns c = search needs
 
-mul-clear : tie.Need-mul-clear
-mul-clear c = search needs
-
-mul-clear-2 : tie.Need-mul-clear-2
-mul-clear-2 c = search needs
-
-clear-requires : tie.Need-clear-requires
-clear-requires c κs = search needs
+clear-flags-requires : tie.Need-clear-flags-requires
+clear-flags-requires c κs = search needs
 
 list-inside-requires : tie.Need-list-inside-requires
 list-inside-requires c κs =
     let s = c .before .before .before .before .before .before .before .before .before in
-    asks _ _ _ _ _ (s .pre) (c .before .before .before .clear .ensures)
+    asks _ _ _ _ _ (s .pre) (c .before .before .before .clear-flags .ensures)
 
 take-list-requires : tie.Need-take-list-requires
 take-list-requires c κs = search needs
@@ -98,7 +92,7 @@ returns-2 : tie.Need-returns-2
 returns-2 c =
     let inside = c .before .before .before .before .before .before in
     let s = inside .before .before .before .before .before .before .before .before .before .before in
-    dropped _ _ _ _ (s .pre .listed) _ (inside .before .before .before .before .clear .ensures) _ _ (inside .list-inside .ensures) _ (c .before .before .take-list .ensures)
+    dropped _ _ _ _ (s .pre .listed) _ (inside .before .before .before .before .clear-flags .ensures) _ _ (inside .list-inside .ensures) _ (c .before .before .take-list .ensures)
 
 pub drop-outside-spec : {M : Type 1} → statement M
 drop-outside-spec =
@@ -109,9 +103,7 @@ drop-outside-spec =
     add-if1-2
     add-if1-3
     returns
-    mul-clear
-    mul-clear-2
-    clear-requires
+    clear-flags-requires
     list-inside-requires
     take-list-requires
     same-length

@@ -18,25 +18,25 @@ returns c =
     let two = three .before .before in
     let one = two .before .before in
     let a = one .before .before .before .args in
-    simp (is-true (eqb (a .layers .registers) (a .registers)) (eq→eqb _ _ (one .if1 .taken)), le-leb (a .layers .trail .low) (a .steps) (two .if2 .taken), le-leb (a .steps) (a .layers .steps) (three .if3 .taken), c .in-cone .ensures)
+    simp (is-true (eqb (a .layers .weight) (a .weight)) (eq→eqb _ _ (one .if1 .taken)), le-leb (a .layers .trail .low) (a .steps) (two .if2 .taken), le-leb (a .steps) (a .layers .steps) (three .if3 .taken), c .in-cone .ensures)
 
 returns-2 : tie.Need-returns-2
 returns-2 c =
     let two = c .before .before in
     let one = two .before .before in
     let a = one .before .before .before .args in
-    simp (is-true (eqb (a .layers .registers) (a .registers)) (eq→eqb _ _ (one .if1 .taken)), le-leb (a .layers .trail .low) (a .steps) (two .if2 .taken), lt-leb (a .steps) (a .layers .steps) (c .if3 .left))
+    simp (is-true (eqb (a .layers .weight) (a .weight)) (eq→eqb _ _ (one .if1 .taken)), le-leb (a .layers .trail .low) (a .steps) (two .if2 .taken), lt-leb (a .steps) (a .layers .steps) (c .if3 .left))
 
 returns-3 : tie.Need-returns-3
 returns-3 c =
     let one = c .before .before in
     let a = one .before .before .before .args in
-    simp (is-true (eqb (a .layers .registers) (a .registers)) (eq→eqb _ _ (one .if1 .taken)), lt-leb (a .layers .trail .low) (a .steps) (c .if2 .left))
+    simp (is-true (eqb (a .layers .weight) (a .weight)) (eq→eqb _ _ (one .if1 .taken)), lt-leb (a .layers .trail .low) (a .steps) (c .if2 .left))
 
 returns-4 : tie.Need-returns-4
 returns-4 c =
     let a = c .before .before .before .args in
-    simp (is-false (eqb (a .layers .registers) (a .registers)) (ne→neqb _ _ (c .if1 .left)))
+    simp (is-false (eqb (a .layers .weight) (a .weight)) (ne→neqb _ _ (c .if1 .left)))
 
 pub held-by-spec : {M : Type 1} → statement M
 held-by-spec =

@@ -1,88 +1,86 @@
--- `reach::span::first_with`: the labels before `low` have too few registers, those from `high` on have enough; the order ascends.
-use Prim.Native.Nat.{ℕ, _+_, _*_, _/_, _-_, _<_, _≤_}
+-- `reach::span::first_with`: the labels before `low` are too light, those from `high` on have enough weight; the order ascends.
+use Prim.Native.Nat.{ℕ, _+_, _/_, _-_, _<_, _≤_}
 use mathlib.Core.Logic.{inl, inr}
 use mathlib.Core.List.{List}
 use native.Mathlib.Omega.{arith}
-use lib.ListN.{getD}
-use Rattle.budget.specs.Done.{NotAfter}
-use Rattle.layout.specs.Layout.{labelsAt}
-use Rattle.labels.specs.Labels.{registersOf, stepsOf, orderOf, Ordered}
+use Rattle.labels.specs.Labels.{weightWord, orderOf, LabelBy, Ordered}
 use Rattle.labels.proofs.Labels.{known-word, ordered-count}
+use Rattle.reach.specs.Reach.{weightAt, stepsAt}
 use Rattle.reach.proofs.span.first_with.Statement.{statement}
 use Rattle.reach.proofs.span.first_with.Tie as tie
 
--- the order ascends by registers
-more-registers : {n : ℕ} {words : List ℕ} {count : ℕ} → Ordered n words count → (i j : ℕ) → i ≤ j → j < count → registersOf n words (orderOf n words i) ≤ registersOf n words (orderOf n words j)
-more-registers {n} {words} o i j h k = go (o .ascending i j h k)
+-- the order ascends by weight
+heavier : {n set : ℕ} {words : List ℕ} {count : ℕ} → Ordered n set words count → (i j : ℕ) → i ≤ j → j < count → weightAt n set words i ≤ weightAt n set words j
+heavier {n} {set} {words} o i j h k = go (o .ascending i j h k)
   where
-    go : NotAfter (registersOf n words (orderOf n words i)) (stepsOf n words (orderOf n words i)) (registersOf n words (orderOf n words j)) (stepsOf n words (orderOf n words j)) → registersOf n words (orderOf n words i) ≤ registersOf n words (orderOf n words j)
+    go : LabelBy n set words (weightAt n set words j) (stepsAt n set words j) (orderOf n set words i) → weightAt n set words i ≤ weightAt n set words j
     go (inl q) = omega arith
     go (inr q) = omega arith
 
-record Between (n : ℕ) (words : List ℕ) (count registers low high : ℕ) : Type 0 where
+record Between (n set : ℕ) (words : List ℕ) (count weight low high : ℕ) : Type 0 where
   ordered : low ≤ high
   within : high ≤ count
-  fewer : (i : ℕ) → i < low → registersOf n words (orderOf n words i) < registers
-  enough : (i : ℕ) → high ≤ i → i < count → registers ≤ registersOf n words (orderOf n words i)
+  lighter : (i : ℕ) → i < low → weightAt n set words i < weight
+  enough : (i : ℕ) → high ≤ i → i < count → weight ≤ weightAt n set words i
 
 abbrev Inv-loop : tie.InvT-loop
-Inv-loop scratch n count registers low₀ high₀ low high = Between n scratch count registers low high
+Inv-loop scratch n set count weight low₀ high₀ low high = Between n set scratch count weight low high
 
 abbrev μ-loop : tie.MeasureT-loop
-μ-loop scratch n count registers low₀ high₀ low high = high - low
+μ-loop scratch n set count weight low₀ high₀ low high = high - low
 
--- the cell in the middle, and its label's word
+-- the entry; the place in the middle, its cell and its label's word
 
-middle : (c : tie.In-loop Inv-loop μ-loop) → (c .before .loop .low + c .before .loop .high) / 2 < c .before .before .args .count
+abbrev start : tie.In-loop Inv-loop μ-loop → tie.Start Inv-loop μ-loop
+start c = c .before .before .before
+
+abbrev mid : tie.In-loop Inv-loop μ-loop → ℕ
+mid c = (c .before .loop .low + c .before .loop .high) / 2
+
+middle : (c : tie.In-loop Inv-loop μ-loop) → mid c < start c .args .count
 middle c = omega (arith, c .before .loop .inv .ordered, c .before .loop .inv .within, c .loop-test .taken)
 
-small : (c : tie.In-loop Inv-loop μ-loop) → c .before .before .args .count ≤ 1024
-small c = omega (arith, ordered-count (c .before .before .pre .0), c .before .before .pre .1)
+small : (c : tie.In-loop Inv-loop μ-loop) → start c .args .count ≤ start c .args .n
+small c = ordered-count (start c .pre .0)
 
-cell-in : (c : tie.In-loop Inv-loop μ-loop) → let s = c .before .before in orderOf (s .args .n) (s .args .scratch .now) ((c .before .loop .low + c .before .loop .high) / 2) < s .args .n
-cell-in c = c .before .before .pre .0 .cells _ (middle c)
+cell-in : (c : tie.In-loop Inv-loop μ-loop) → let s = start c in orderOf (s .args .n) (s .args .set) (s .args .scratch .now) (mid c) < s .args .n
+cell-in c = start c .pre .0 .cells (mid c) (middle c)
 
-word-some : (c : tie.In-loop Inv-loop μ-loop) → let s = c .before .before in 0 < getD (s .args .scratch .now) (s .args .n * labelsAt + orderOf (s .args .n) (s .args .scratch .now) ((c .before .loop .low + c .before .loop .high) / 2)) 0
-word-some c = known-word _ _ _ (c .before .before .pre .0 .known _ (middle c))
+word-some : (c : tie.In-loop Inv-loop μ-loop) → let s = start c in 0 < weightWord (s .args .n) (s .args .set) (s .args .scratch .now) (orderOf (s .args .n) (s .args .set) (s .args .scratch .now) (mid c))
+word-some c = known-word _ _ _ _ (start c .pre .0 .known (mid c) (middle c))
 
 loop-holds : tie.Need-loop-holds Inv-loop μ-loop
 loop-holds c =
     record {
       ordered = omega arith;
       within = omega arith;
-      fewer = λ i h. absurd (omega arith);
+      lighter = λ i h. absurd (omega arith);
       enough = λ i lo hi. absurd (omega arith);
     }
 
 add-mid : tie.Need-add-mid Inv-loop μ-loop
-add-mid c = omega (arith, c .before .loop .inv .ordered, c .before .loop .inv .within, small c)
+add-mid c = omega (arith, c .before .loop .inv .ordered, c .before .loop .inv .within, small c, start c .pre .1 .small)
 
 mul-cell : tie.Need-mul-cell Inv-loop μ-loop
-mul-cell c = omega (arith, c .before .before .pre .1)
+mul-cell c = omega (arith, start c .pre .1 .small)
 
 add-cell : tie.Need-add-cell Inv-loop μ-loop
-add-cell c = omega (arith, middle c, small c, c .before .before .pre .1)
+add-cell c = omega (arith, start c .pre .1 .small, start c .pre .1 .low)
+
+add-cell-2 : tie.Need-add-cell-2 Inv-loop μ-loop
+add-cell-2 c = omega (arith, middle c, small c, start c .pre .1 .small, start c .pre .1 .low)
 
 mul-cell-2 : tie.Need-mul-cell-2 Inv-loop μ-loop
-mul-cell-2 c = omega (arith, middle c, small c, c .before .before .pre .1)
+mul-cell-2 c = omega (arith, middle c, small c, start c .pre .1 .small, start c .pre .1 .low)
 
 shared-slice-read-cell : tie.Need-shared-slice-read-cell Inv-loop μ-loop
-shared-slice-read-cell c = omega (arith, middle (c .before), ordered-count (c .before .before .before .pre .0), c .before .before .before .pre .1)
+shared-slice-read-cell c = omega (arith, middle (c .before), small (c .before), start (c .before) .pre .1 .room)
 
 cast-cell : tie.Need-cast-cell Inv-loop μ-loop
-cast-cell c = omega (arith, cell-in (c .before), c .before .before .before .pre .1)
+cast-cell c = omega (arith, cell-in (c .before), start (c .before) .pre .1 .small)
 
-mul-if1 : tie.Need-mul-if1 Inv-loop μ-loop
-mul-if1 c = omega (arith, c .before .before .before .pre .1)
-
-add-if1 : tie.Need-add-if1 Inv-loop μ-loop
-add-if1 c = omega (arith, cell-in (c .before), c .before .before .before .pre .1)
-
-mul-if1-2 : tie.Need-mul-if1-2 Inv-loop μ-loop
-mul-if1-2 c = omega (arith, cell-in (c .before), c .before .before .before .pre .1)
-
-shared-slice-read-if1 : tie.Need-shared-slice-read-if1 Inv-loop μ-loop
-shared-slice-read-if1 c = omega (arith, cell-in (c .before .before), c .before .before .before .before .pre .1)
+weight-word-requires : tie.Need-weight-word-requires Inv-loop μ-loop
+weight-word-requires c κs = (start (c .before) .pre .1, cell-in (c .before))
 
 loop-less : tie.Need-loop-less Inv-loop μ-loop
 loop-less c = omega (arith, c .before .before .before .loop-test .taken)
@@ -94,12 +92,12 @@ loop-again c =
     record {
       ordered = omega (arith, w .loop-test .taken);
       within = omega (arith, middle w);
-      fewer = inv .fewer;
-      enough = λ i lo hi. omega (arith, c .if1 .taken, more-registers (w .before .before .pre .0) _ i lo hi);
+      lighter = inv .lighter;
+      enough = λ i lo hi. omega (arith, c .if1 .taken, c .before .weight-word .ensures, heavier (start w .pre .0) _ i lo hi);
     }
 
 add-low : tie.Need-add-low Inv-loop μ-loop
-add-low c = omega (arith, middle (c .before .before .before), small (c .before .before .before))
+add-low c = omega (arith, middle (c .before .before .before), small (c .before .before .before), start (c .before .before .before) .pre .1 .small)
 
 loop-less-2 : tie.Need-loop-less-2 Inv-loop μ-loop
 loop-less-2 c = omega (arith, c .before .before .before .loop-test .taken)
@@ -111,7 +109,7 @@ loop-again-2 c =
     record {
       ordered = omega (arith, w .loop-test .taken);
       within = inv .within;
-      fewer = λ i h. omega (arith, c .if1 .left, word-some w, more-registers (w .before .before .pre .0) i _ (omega arith) (middle w));
+      lighter = λ i h. omega (arith, c .if1 .left, c .before .weight-word .ensures, word-some w, heavier (start w .pre .0) i _ (omega arith) (middle w));
       enough = inv .enough;
     }
 
@@ -120,7 +118,7 @@ returns c =
     let inv = c .before .loop .inv in
     record {
       within = omega (arith, inv .ordered, inv .within);
-      fewer = inv .fewer;
+      lighter = inv .lighter;
       enough = λ i lo hi. inv .enough i (omega (arith, inv .ordered, c .loop-test .left)) hi;
     }
 
@@ -134,13 +132,11 @@ first-with-spec =
     add-mid
     mul-cell
     add-cell
+    add-cell-2
     mul-cell-2
     shared-slice-read-cell
     cast-cell
-    mul-if1
-    add-if1
-    mul-if1-2
-    shared-slice-read-if1
+    weight-word-requires
     loop-less
     loop-again
     add-low

@@ -1,53 +1,85 @@
 -- `reach::span::next_steps`: the lesser of the next label's steps and `steps`.
+use Prim.Native.Nat.{_<_}
 use mathlib.Core.Path.{refl}
 use mathlib.Core.Logic.{inl, inr}
 use native.Mathlib.Omega.{arith}
-use borrow.Author.Needs.{needs}
+use Rattle.labels.specs.Labels.{weightWord, orderOf}
+use Rattle.labels.proofs.Labels.{known-word, ordered-count}
 use Rattle.reach.proofs.span.next_steps.Statement.{statement}
 use Rattle.reach.proofs.span.next_steps.Tie as tie
 
-returns : tie.Need-returns
-returns c = record { within = omega arith; early = λ h. absurd (omega arith); met = inl refl }
+-- there is a label at `at`
 
-mul-steps-of : tie.Need-mul-steps-of
-mul-steps-of c = search needs
+abbrev start : tie.Then1 → tie.Start
+start c = c .before .before
 
-add-steps-of : tie.Need-add-steps-of
-add-steps-of c = search needs
+place-in : (c : tie.Then1) → start c .args .at < start c .args .n
+place-in c = omega (arith, c .if1 .taken, ordered-count (start c .pre .0))
 
-mul-steps-of-2 : tie.Need-mul-steps-of-2
-mul-steps-of-2 c = search needs
+cell-in : (c : tie.Then1) → let s = start c in orderOf (s .args .n) (s .args .set) (s .args .scratch .now) (s .args .at) < s .args .n
+cell-in c = start c .pre .0 .cells (start c .args .at) (c .if1 .taken)
 
-shared-slice-read-steps-of : tie.Need-shared-slice-read-steps-of
-shared-slice-read-steps-of c = search needs
+word-some : (c : tie.Then1) → let s = start c in 0 < weightWord (s .args .n) (s .args .set) (s .args .scratch .now) (orderOf (s .args .n) (s .args .set) (s .args .scratch .now) (s .args .at))
+word-some c = known-word _ _ _ _ (start c .pre .0 .known (start c .args .at) (c .if1 .taken))
 
-cast-steps-of : tie.Need-cast-steps-of
-cast-steps-of c = omega (arith, c .before .before .before .pre .0 (omega arith))
+mul-cell : tie.Need-mul-cell
+mul-cell c = omega (arith, start c .pre .1 .small)
+
+add-cell : tie.Need-add-cell
+add-cell c = omega (arith, start c .pre .1 .small, start c .pre .1 .low)
+
+add-cell-2 : tie.Need-add-cell-2
+add-cell-2 c = omega (arith, place-in c, start c .pre .1 .small, start c .pre .1 .low)
+
+mul-cell-2 : tie.Need-mul-cell-2
+mul-cell-2 c = omega (arith, place-in c, start c .pre .1 .small, start c .pre .1 .low)
+
+shared-slice-read-cell : tie.Need-shared-slice-read-cell
+shared-slice-read-cell c = omega (arith, place-in (c .before), start (c .before) .pre .1 .room)
+
+cast-cell : tie.Need-cast-cell
+cast-cell c = omega (arith, cell-in (c .before), start (c .before) .pre .1 .small)
+
+weight-word-requires : tie.Need-weight-word-requires
+weight-word-requires c κs = (start (c .before) .pre .1, cell-in (c .before))
+
+sub-if2 : tie.Need-sub-if2
+sub-if2 c = omega (arith, c .weight-word .ensures, word-some (c .before .before))
 
 steps-of-requires : tie.Need-steps-of-requires
-steps-of-requires c κs = (c .before .before .before .pre .0 (omega arith), (omega arith, omega arith))
+steps-of-requires c κs = (start (c .before .before .before) .pre .1, cell-in (c .before .before .before))
 
-returns-2 : tie.Need-returns-2
-returns-2 c = record { within = omega arith; early = λ h. omega (arith, c .before .steps-of .ensures); met = inl refl }
-
-returns-3 : tie.Need-returns-3
-returns-3 c =
+returns : tie.Need-returns
+returns c =
     record {
       within = omega arith;
       early = λ h. omega (arith, c .before .steps-of .ensures);
-      met = inr (omega arith, c .before .steps-of .ensures);
+      met = inr ((c .before .before .before .before .before .if1 .taken, omega (arith, c .before .before .if2 .taken, c .before .before .before .weight-word .ensures)), c .before .steps-of .ensures);
     }
+
+returns-2 : tie.Need-returns-2
+returns-2 c = record { within = omega arith; early = λ h. omega (arith, c .if3 .left, c .before .steps-of .ensures); met = inl refl }
+
+returns-3 : tie.Need-returns-3
+returns-3 c = record { within = omega arith; early = λ h. absurd (omega (arith, c .if2 .left, c .before .weight-word .ensures, h .1)); met = inl refl }
+
+returns-4 : tie.Need-returns-4
+returns-4 c = record { within = omega arith; early = λ h. absurd (omega (arith, c .if1 .left, h .0)); met = inl refl }
 
 pub next-steps-spec : {M : Type 1} → statement M
 next-steps-spec =
     tie.close
     (tie.spec
-    returns
-    mul-steps-of
-    add-steps-of
-    mul-steps-of-2
-    shared-slice-read-steps-of
-    cast-steps-of
+    mul-cell
+    add-cell
+    add-cell-2
+    mul-cell-2
+    shared-slice-read-cell
+    cast-cell
+    weight-word-requires
+    sub-if2
     steps-of-requires
+    returns
     returns-2
-    returns-3)
+    returns-3
+    returns-4)

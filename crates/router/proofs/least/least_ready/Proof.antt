@@ -5,6 +5,7 @@ use native.Mathlib.Omega.{arith}
 use borrow.Author.Needs.{needs}
 use Rattle.rules.specs.Rules.{Rules}
 use Rattle.best.specs.Best.{none, best}
+use Rattle.table.specs.Problem.{rulesFor}
 use Rattle.router.specs.Least.{leastOf}
 use Rattle.router.specs.declared.least.Least.{Least}
 use Rattle.router.proofs.BestRoute.{BestIs, best-is, best-is-none}
@@ -26,6 +27,15 @@ search-anew-requires c κs = search needs
 enum-known-reached : tie.Need-enum-known-reached
 enum-known-reached c = search needs
 
+-- the figures, where the sink was reached
+figures : (c : tie.After-reached) → let after = c .before .before .before .before in BestIs (rulesFor (after .before .before .before .before .args .p) (after .before .before .before .before .args .plan .now)) (after .before .before .before .before .args .p .elements .period) (c .reached .given .0 .0) (c .reached .given .0 .1 .0)
+figures c =
+    let after = c .before .before .before .before in
+    best-is _ _ (after .before .before .before .before .pre .0) _ _ _ _ _ (reached-sink (after .search-anew .ensures .done) _ _ _ (c .reached .given .1))
+
+cast-t11 : tie.Need-cast-t11
+cast-t11 c = omega (arith, figures (c .before) .registersFit)
+
 enum-told : tie.Need-enum-told
 enum-told c = search needs
 
@@ -37,7 +47,7 @@ returns c =
     let after = c .before .before .before .before .before in
     let found = after .search-anew .ensures in
     record {
-      least = least-is (best-is _ _ (after .before .before .before .before .pre .0) _ _ _ _ _ (reached-sink (found .done) _ _ _ (c .before .reached .given .1)));
+      least = least-is (figures (c .before));
       same = found .same;
       rest = λ k h. found .rest k (omega arith);
     }
@@ -56,4 +66,4 @@ returns-2 c =
     }
 
 pub least-ready-spec : {M : Type 1} → statement M
-least-ready-spec = tie.close (tie.spec search-anew-requires enum-known-reached enum-told same-length returns same-length-2 returns-2)
+least-ready-spec = tie.close (tie.spec search-anew-requires enum-known-reached cast-t11 enum-told same-length returns same-length-2 returns-2)

@@ -1,4 +1,3 @@
-use mathlib.Core.Path.{sym}
 use borrow.Author.Tests.{le-leb, lt-leb}
 use Rattle.router.proofs.ready.words_for.Statement.{statement}
 use Rattle.router.proofs.ready.words_for.Tie as tie

@@ -3,7 +3,7 @@ use Prim.Native.Nat.{ℕ, _+_, _*_, _≤_, _<_}
 use mathlib.Core.Bool.{Bool, true, false, cond}
 use mathlib.Core.List.{List, [], _∷_, _++_}
 use mathlib.Core.Logic.{_⊎_, inl, inr}
-use mathlib.Core.Path.{_≡_, refl, sym, ap, _∙_}
+use mathlib.Core.Path.{_≡_, refl, sym, _∙_}
 use native.Mathlib.Omega.{arith}
 use borrow.Author.Needs.{needs}
 use borrow.Author.Tests.{leb-true, leb-false}
@@ -22,7 +22,7 @@ use Rattle.router.proofs.ready.write_route.Statement.{statement}
 use Rattle.router.proofs.ready.write_route.Tie as tie
 
 -- the best route, by what holds at the entry
-best-at : (s : tie.Start) → BestIs (rulesFor (s .args .p) (s .args .plan .now)) (s .args .p .elements .period) (s .args .registers) (s .args .steps)
+best-at : (s : tie.Start) → BestIs (rulesFor (s .args .p) (s .args .plan .now)) (s .args .p .elements .period) (s .args .weight) (s .args .steps)
 best-at s = best-is _ _ (s .pre .0) _ _ _ _ _ (s .pre .1 .1 .0)
 
 -- the words lent to the route: all of its own, or none
@@ -115,6 +115,11 @@ clear-requires c κs =
     let s = emit .before .before .before .before .before .before .before .before .before in
     (omega arith, omega (arith, s .pre .1 .0, emit .emit .ensures .same))
 
+cast-t28 : tie.Need-cast-t28
+cast-t28 c =
+    let emit = c .before .before .before .before .before .before .before .before in
+    omega (arith, best-at (emit .before .before .before .before .before .before .before .before .before) .registersFit)
+
 same-length : tie.Need-same-length
 same-length c = c .before .before .before .clear .ensures .same ∙ c .before .before .before .before .before .before .before .before .before .emit .ensures .same
 
@@ -167,6 +172,7 @@ write-route-spec =
     emit-requires
     mul-clear
     clear-requires
+    cast-t28
     same-length
     same-length-2
     returns

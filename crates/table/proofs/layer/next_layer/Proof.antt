@@ -12,7 +12,7 @@ use Rattle.table.proofs.layer.next_layer.Tie as tie
 clear-flags-requires : tie.Need-clear-flags-requires
 clear-flags-requires c κs =
     let s = c .before .before .before in
-    (few-cells _ _ (s .pre .0), (s .pre .1 .0, s .pre .1 .1 .0))
+    (few-cells _ _ (s .pre .0), (omega (arith, s .pre .1 .0), s .pre .1 .1 .0))
 
 spread-all-requires : tie.Need-spread-all-requires
 spread-all-requires c κs =

@@ -30,7 +30,7 @@ returns-2 c =
     let e = m .before .before .before in
     let s = e .before in
     rw (e .if1 .left)
-    (λ P from to a k. gate-own-heavy P (s .args .elements) from to mathlib.Core.Bool.false a (s .args .at .cell) (rw (k .load) at (le-leb _ _ (s .pre .light))) (own m ∙ not-true _ (c .if2 .taken)))
+    (λ P from to a none k. gate-own-heavy P (s .args .elements) from to mathlib.Core.Bool.false a (s .args .at .cell) (rw (k .load) at (le-leb _ _ (s .pre .light))) (own m ∙ not-true _ (c .if2 .taken)))
 
 closed-requires-2 : tie.Need-closed-requires-2
 closed-requires-2 c κs = c .before .before .before .before .before .pre

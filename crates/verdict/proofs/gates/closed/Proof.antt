@@ -21,7 +21,7 @@ slack-requires c κs = (c .pre .valid, (omega (arith, c .pre .light, c .pre .val
 returns : tie.Need-returns
 returns c =
     let s = c .before .before in
-    λ last own P from to a k.
+    λ last own P from to a none k.
     rw (close (c .before))
     (gate-late P (s .args .elements) from to last a (s .args .at .cell) (rw (k .load) at (le-leb _ _ (s .pre .light))) own (s .args .at) (s .pre .valid) k (rw (close (c .before)) at (c .if1 .taken)))
 
@@ -41,8 +41,8 @@ returns-2 c =
     let s = e .before .before in
     let own = toZ-ofZ {w = w32} {z = s .args .at .slack} (record { sfits = c .before .struct-told .given .1 .1 .1 .0 .1 }) in
     let made = toZ-ofZ {w = w32} {z = c .smaller-slack .result} (record { sfits = c .smaller-slack .ok }) in
-    λ last owns P from to a k.
-    closed-step P (s .args .elements) from to last a (s .args .at .cell) (rw (k .load) at (le-leb _ _ (s .pre .light))) owns (s .args .at) (s .pre .valid) k (rw (close (e .before)) at (e .if1 .left)) _ refl (d .before .load .ensures) (d .start-delay .ensures) (made ∙ (c .smaller-slack .ensures ∙ ap₂ smaller own (close (e .before))))
+    λ last owns P from to a none k.
+    closed-step P (s .args .elements) from to last a (s .args .at .cell) (rw (k .load) at (le-leb _ _ (s .pre .light))) owns (s .args .at) (s .pre .valid) k (rw (close (e .before)) at (e .if1 .left)) none _ refl (d .before .load .ensures) (d .start-delay .ensures) (made ∙ (c .smaller-slack .ensures ∙ ap₂ smaller own (close (e .before))))
 
 pub closed-spec : {M : Type 1} → statement M
 closed-spec =

@@ -44,8 +44,8 @@ returns : tie.Need-returns
 returns c =
     let m = c .before in
     let s = start m in
-    λ P from to a k.
-    buffer-heavy P (s .args .t1) from to a (s .args .at .cell) (s .args .code) (λ z. omega (arith, s .pre .1 .0)) (λ z. omega (arith, s .pre .1 .1, s .pre .0 .valid .count)) (rw (k .load) at (le-leb _ _ (s .pre .0 .light))) (own m ∙ not-true _ (c .if1 .taken))
+    λ P from to a none k.
+    buffer-heavy P (s .args .t1) from to a (s .args .at .cell) (s .args .code) (λ z. omega (arith, s .pre .1 .0)) (s .pre .0 .valid) (s .pre .1 .1) (rw (k .load) at (le-leb _ _ (s .pre .0 .light))) (own m ∙ not-true _ (c .if1 .taken))
 
 driver-requires : tie.Need-driver-requires
 driver-requires c κs = search needs
@@ -73,8 +73,8 @@ returns-2 c =
     let delay : g .capped .result .0 ≡ min (s .args .at .delay .0 + gateDelay (bufferDriver b) (s .args .at .load .0)) delayCap = rw after at (g .capped .ensures) in
     let listed = own m ∙ not-false _ (g .before .before .before .if1 .left) in
     let kept = toZ-ofZ {w = w32} {z = s .args .at .slack} (record { sfits = c .struct-told .given .1 .1 .1 .0 .1 }) in
-    λ P from to a k.
-    buffer-step P (s .args .t1) from to a (s .args .at .cell) (s .args .code) (λ z. omega (arith, s .pre .1 .0)) (λ z. omega (arith, s .pre .1 .1, s .pre .0 .valid .count)) (rw (k .load) at (le-leb _ _ (s .pre .0 .light))) listed (s .args .at) _ k refl load delay kept
+    λ P from to a none k.
+    buffer-step P (s .args .t1) from to a (s .args .at .cell) (s .args .code) (λ z. omega (arith, s .pre .1 .0)) (s .pre .0 .valid) (s .pre .1 .1) (rw (k .load) at (le-leb _ _ (s .pre .0 .light))) listed none (s .args .at) _ k refl load delay kept
 
 pub drive-spec : {M : Type 1} → statement M
 drive-spec =

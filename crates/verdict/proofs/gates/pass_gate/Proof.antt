@@ -13,7 +13,7 @@ at-most-requires c κs = search needs
 returns : tie.Need-returns
 returns c =
     let s = c .before .before in
-    λ P from to a k.
+    λ P from to a none k.
     gate-heavy P (s .args .elements) from to (s .args .last) a (s .args .at .cell) (s .args .code) (rw (k .load) at (sym (c .before .at-most .ensures) ∙ not-true _ (c .if1 .taken)))
 
 returns-2 : tie.Need-returns-2
@@ -22,7 +22,7 @@ returns-2 c =
     let s = m .before in
     let light = sym (m .at-most .ensures) ∙ not-false _ (c .before .if1 .left) in
     rw (c .if2 .taken)
-    (λ P from to a k. plain-step P (s .args .elements) from to (s .args .last) a (s .args .at .cell) (rw (k .load) at light) (s .args .at) k refl)
+    (λ P from to a none k. plain-step P (s .args .elements) from to (s .args .last) a (s .args .at .cell) (rw (k .load) at light) none (s .args .at) k refl)
 
 close-span-requires : tie.Need-close-span-requires
 close-span-requires c κs =

@@ -1,5 +1,5 @@
 -- The cell's tests, by cases.
-use mathlib.Core.Path.{sym, _∙_}
+use mathlib.Core.Path.{sym}
 use borrow.Author.Needs.{needs}
 use Rattle.verdict.proofs.Places.{cell-outside, cell-last, cell-between}
 use Rattle.verdict.proofs.visits.cell_right.Statement.{statement}

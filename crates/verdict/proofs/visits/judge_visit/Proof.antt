@@ -57,7 +57,7 @@ returns-2 : tie.Need-returns-2
 returns-2 c =
     let w = c .before .before in
     let s = start (w .before) in
-    λ a k. wire-wrong (rulesFor (s .args .p) (s .args .plan .now)) a (s .args .last) (here s) (cell-is (w .before)) (s .args .from .cell) (k .cell) (rw (c .enum-told .given .1) at (w .wire-between .ensures))
+    λ a k. wire-wrong (rulesFor (s .args .p) (s .args .plan .now)) a (s .args .last) (here s) (cell-is (w .before)) (s .args .from) k (rw (c .enum-told .given .1) at (w .wire-between .ensures))
 
 code-right-requires : tie.Need-code-right-requires
 code-right-requires c κs =
@@ -70,7 +70,7 @@ returns-3 c =
     let w = c .before .before in
     let e = w .before .before .before .before in
     let s = start e in
-    λ a k. site-wrong (rulesFor (s .args .p) (s .args .plan .now)) a (s .args .last) (here s) (cell-is e) (s .args .from .cell) (k .cell) (link-is w .0) (sym (c .before .code-right .ensures) ∙ not-true _ (c .if2 .taken))
+    λ a k. site-wrong (rulesFor (s .args .p) (s .args .plan .now)) a (s .args .last) (here s) (cell-is e) (s .args .from) k (link-is w .0) (sym (c .before .code-right .ensures) ∙ not-true _ (c .if2 .taken))
 
 -- the wire of the step
 fits : (c : tie.After-known-told) → WireInRange (c .before .link .given .0 .0)
@@ -103,7 +103,7 @@ capped-requires : tie.Need-capped-requires
 capped-requires c κs = search needs
 
 -- the code is right
-code-is : (c : tie.Else2) → let s = start (c .before .before .before .before .before .before) in codeRight (rulesFor (s .args .p) (s .args .plan .now)) (s .args .last) (here s) ≡ true
+code-is : (c : tie.Else2) → let s = start (c .before .before .before .before .before .before) in codeRight (rulesFor (s .args .p) (s .args .plan .now)) 0 (s .args .last) (here s) ≡ true
 code-is c = sym (c .before .code-right .ensures) ∙ not-false _ (c .if2 .left)
 
 pass-gate-requires : tie.Need-pass-gate-requires
@@ -132,8 +132,8 @@ returns-4 c =
     let delay : d .capped .result .0 ≡ min (s .args .from .delay .0 + wireDelay wire (s .args .from .load .0)) delayCap = rw sum at (d .capped .ensures) in
     let kept = toZ-ofZ {w = w32} {z = s .args .from .slack} (record { sfits = c .before .struct-told .given .1 .1 .1 .0 .1 }) in
     λ a k.
-    rw (← kept, gate-next R a (s .args .last) (here s) (cell-is first) (s .args .from .cell) (k .cell) (link-is w .0) (code-is e))
-    (c .pass-gate .ensures (planFor (s .args .p) (s .args .plan .now)) (s .args .p .source) (s .args .p .sink) a (arrived R a (s .args .cell) wire (s .args .from) _ k (link-is w .1) load delay))
+    rw (← kept, gate-next R a (s .args .last) (here s) (cell-is first) (s .args .from) k (link-is w .0) (code-is e))
+    (c .pass-gate .ensures (planFor (s .args .p) (s .args .plan .now)) (s .args .p .source) (s .args .p .sink) a (k .fifos) (arrived R a (s .args .cell) wire (s .args .from) _ k (link-is w .1) load delay))
 
 pub judge-visit-spec : {M : Type 1} → statement M
 judge-visit-spec =

@@ -1,4 +1,4 @@
-// The search alone: the least registers and steps from the sink, or that there is no route.
+// The search alone: the least weight and steps from the sink, or that there is no route.
 ghost use lib.ListN.{length};
 ghost use Rattle.costs.specs.Costs.{CostsOf};
 ghost use Rattle.table.specs.Problem.{Ready, Room, rulesFor};
@@ -8,12 +8,13 @@ use crate::turns::Turn;
 use crate::turns::take_turn;
 use costs::COSTS;
 use labels::arrive;
-use labels::plant;
+use labels::label;
+use layout::LABELS;
 use problem::Problem;
 
 pub enum Reached {
-    // The least registers and steps from the sink; the count of labels.
-    Sink(u16, u32, usize),
+    // The least weight after the first span, and steps, from the sink; the count of labels.
+    Sink(u32, u32, usize),
     Nothing,
 }
 
@@ -23,32 +24,32 @@ pub fn search(plan: &[u8], scratch: &mut [u16], p: Problem, costs: &[u16; COSTS]
     ensures { λ r. ⌜ SearchEffect (rulesFor p (now (plan .entry))) (length (now (plan .entry))) (now (scratch .entry)) (now (scratch .exit)) r ⌝ }
 {
     let n = plan.len();
-    let active = plant(scratch, n, p.source, 0);
+    let set = n * LABELS;
+    label(scratch, n, set, p.source, 0, 0, 0);
+    let a = arrive(scratch, n, set, 0, 1, 0, 0, 0);
     let mut f = Progress {
-        registers: 0,
+        weight: 0,
         steps: 0,
-        active: active,
-        at: 0,
-        end: 0,
-        count: 0,
+        active: a.active,
+        at: a.at,
+        count: 1,
     };
     loop {
         let t = take_turn(plan, scratch, p, costs, f);
         match t {
-            Turn::Sink(registers, steps, count) => {
-                return Reached::Sink(registers, steps, count);
+            Turn::Sink(weight, steps, count) => {
+                return Reached::Sink(weight, steps, count);
             }
             Turn::Nothing => {
                 return Reached::Nothing;
             }
             Turn::On(g) => {
-                let a = arrive(scratch, n, g.at, g.end, g.steps, g.active);
+                let b = arrive(scratch, n, set, g.at, g.count, g.weight, g.steps, g.active);
                 f = Progress {
-                    registers: g.registers,
+                    weight: g.weight,
                     steps: g.steps,
-                    active: a.active,
-                    at: a.at,
-                    end: g.end,
+                    active: b.active,
+                    at: b.at,
                     count: g.count,
                 };
             }

@@ -8,10 +8,9 @@ use native.Mathlib.Omega.{arith}
 use lib.Dec.{T}
 use Rattle.rules.specs.Rules.{Rules}
 use Rattle.plan.proofs.Truth.{split}
-use Rattle.budget.specs.Table.{Table}
+use Rattle.budget.specs.Table.{Table, budgetSum}
 use Rattle.lists.specs.Lists.{sumBelow}
 use Rattle.lists.proofs.Sums.{sum-bound, sum-least, sum-grows}
-use Rattle.best.specs.Rows.{budgetSum}
 
 -- how many numbers below n pass a test
 
@@ -51,7 +50,7 @@ module _ (n : ℕ) (test more : ℕ → Bool) (stay : (c : ℕ) → T (test c) �
 -- a table's sum
 
 module _ (R : Rules) (A B : Table) (above : (c l : ℕ) → A c l ≤ B c l) where
-  total-grows : (c l : ℕ) → c < R .cellCount → l ≤ R .limit → A c l < B c l → budgetSum R A < budgetSum R B
+  pub total-grows : (c l : ℕ) → c < R .cellCount → l ≤ R .limit → A c l < B c l → budgetSum R A < budgetSum R B
   unfolding budgetSum
   total-grows c l h k less =
       sum-grows (R .cellCount) _ _ c (λ c i. sum-least (suc (R .limit)) _ _ (λ l j. above c l)) h
