@@ -63,9 +63,6 @@ not-both (inr h) (inr g) = omega arith
 pub done-more : {R : Rules} {f w s c l d : ℕ} (p q : ℕ) → NotAfter w s p q → Done R f w s c l d → Done R f p q c l d
 done-more p q h x = record { route = x .route; ending = x .ending; within = not-after-trans (x .within) h }
 
-pub done-own : {R : Rules} {f w s c l d : ℕ} (x : Done R f w s c l d) → Done R f (weigh R f (x .route)) (length (x .route)) c l d
-done-own x = record { route = x .route; ending = x .ending; within = not-after-refl _ _ }
-
 pub after-more : {R : Rules} {f code w s n : ℕ} (p q : ℕ) → NotAfter w s p q → After R f code w s n → After R f code p q n
 after-more p q h (After.atSource a b c) = After.atSource a b c
 after-more p q h (After.atGate shut may x) = After.atGate shut may (done-more p q h x)

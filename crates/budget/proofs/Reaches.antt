@@ -179,13 +179,6 @@ module _ (R : Rules) (m : ℕ → Labels) (f k : ℕ) where
       go (Step.drives n i six link may fits after y) never = never _ _ _ y
       go (Step.closes n code shut link s fits y) never = let x = exact-view m k u code n s in omega (arith, x .early, first code n (x .known) (x .same))
 
-  pub reaches-first : {A : Table} (t : ℕ) → ((code n : ℕ) → T (m code .known n) → m code .weight n ≡ k → t ≤ m code .steps n) → ((c l : ℕ) → A c l ≡ 0) → Represents A (Reaches R m f k t)
-  reaches-first t first zeros =
-      record {
-        sound = λ c l d h. absurd (omega (arith, zeros c l));
-        complete = λ c l d x. absurd (reaches-empty t first t c l d (omega arith) x);
-      }
-
   -- The rows of a shrinking set of cells
   module _ (law : Lawful R) {P : ℕ → ℕ → Bool} (shrinks : Shrinking R P) where
     row-in : (seed : Seeds) (u : ℕ) {A B : Table} → RepresentsIn (P u) A (Reaches R m f k u) → (c : ℕ) → T (P (suc u) c) → ((l : ℕ) → B c l ≡ layer R seed (R .bound 0 f) A c l) → RepresentsRow B (Step R seed (R .bound 0 f) (Reaches R m f k u)) c

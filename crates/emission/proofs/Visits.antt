@@ -101,9 +101,6 @@ module _ (R : Rules) (law : Lawful R) (n k s count : ℕ) (words₀ visits₀ : 
       }
 
   module _ (words visits : List ℕ) (at : State) (layers : Layers) (place : ℕ) (e : Emitting R n k s count words₀ words visits₀ visits at layers place) (more : 0 < at .steps) (new : List ℕ) (next : Layers) (loaded : Loaded R n count (at .cell) (at .weight) (at .steps - 1) words new next) where
-    u : ℕ
-    u = at .steps - 1
-
     again : at .steps ≡ suc (at .steps - 1)
     again = omega arith
 
@@ -165,12 +162,6 @@ module _ (R : Rules) (law : Lawful R) (n k s count : ℕ) (words₀ visits₀ : 
           go (inr c) z = to-next (λ q. absurd (T-not (isClosing code) c q))
 
       -- the words of one visit more
-      old-words : ℕ → ℕ
-      old-words i = getD (written (first ∷ e .made)) i 0
-
-      new-words : ℕ → ℕ
-      new-words i = getD (written (first ∷ (e .made ++ (visit (to .cell) code ∷ [])))) i 0
-
       split-words : written (first ∷ (e .made ++ (visit (to .cell) code ∷ []))) ≡ written (first ∷ e .made) ++ (to .cell ∷ code ∷ [])
       unfolding written
       split-words = written-append (first ∷ e .made) (visit (to .cell) code ∷ []) ∙ last-words

@@ -90,10 +90,6 @@ module _ (n set : ℕ) (old new : List ℕ) (kept : (k : ℕ) → set ≤ k → 
 
 -- the labels by code
 
-pub labels-register : (n : ℕ) (words : List ℕ) → labelsFor n words registerCode ≡ labelsOf n (n * labelsAt) words
-unfolding labelsFor
-labels-register n words = refl
-
 pub labels-none-else : (n : ℕ) (words : List ℕ) (code : ℕ) → (code ≡ registerCode → ⊥) → labelsFor n words code ≡ noLabels
 unfolding labelsFor
 labels-none-else n words code f = simp (ne-eqb code registerCode f)
@@ -134,14 +130,6 @@ module _ {n set : ℕ} {words : List ℕ} {count : ℕ} (o : Ordered n set words
   pub ordered-room : (c : ℕ) → c < n → knownOf n set words c ≡ false → count < n
   ordered-room c h e =
       omega (arith, sum-short n (λ c. one (knownOf n set words c)) c (λ c h. one-bit (knownOf n set words c)) h (ap one e))
-
-  -- labels of the same weight ascend by steps
-  pub steps-ascend : (i j : ℕ) → i ≤ j → j < count → weightOf n set words (orderOf n set words i) ≡ weightOf n set words (orderOf n set words j) → stepsOf n set words (orderOf n set words i) ≤ stepsOf n set words (orderOf n set words j)
-  steps-ascend i j h k e = go (o .ascending i j h k)
-    where
-      go : LabelBy n set words (weightOf n set words (orderOf n set words j)) (stepsOf n set words (orderOf n set words j)) (orderOf n set words i) → stepsOf n set words (orderOf n set words i) ≤ stepsOf n set words (orderOf n set words j)
-      go (inl q) = absurd (omega arith)
-      go (inr q) = q .1
 
 pub ordered-none : (n set : ℕ) (words : List ℕ) → ((c : ℕ) → c < n → weightWord n set words c ≡ 0) → Ordered n set words 0
 ordered-none n set words z =
@@ -235,12 +223,3 @@ module _ {n set cell weight steps count : ℕ} {old new : List ℕ} (a : LabelAd
 
   pub added-known : (c : ℕ) → T (knownOf n set new c) → (c ≡ cell → ⊥) → T (knownOf n set old c)
   added-known c t e = rw (a .others c (known-below n set new c t) e .known) at t
-
-  pub added-last : ((c : ℕ) → T (knownOf n set old c) → LabelBy n set old weight steps c) → (c : ℕ) → T (knownOf n set new c) → LabelBy n set new weight steps c
-  added-last l c t = go (equal c cell)
-    where
-      go : (c ≡ cell) ⊎ (c ≡ cell → ⊥) → LabelBy n set new weight steps c
-      go (inl e) = rw (e, a .weightSet, a .stepsSet) (inr (refl, omega arith))
-      go (inr e) =
-          let s : SameLabel n set old new c = a .others c (known-below n set new c t) e in
-          rw (s .weight, s .steps) (l c (added-known c t e))

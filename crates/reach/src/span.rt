@@ -6,6 +6,7 @@ ghost use Rattle.table.specs.Problem.{rulesFor};
 ghost use Rattle.labels.specs.Labels.{SetIn, Ordered};
 ghost use Rattle.reach.specs.Reach.{FirstWith, NextSteps, Past, TableCleared, Cleared, Started, SpanAsks};
 use crate::layers::Layers;
+use labels::Arrivals;
 use labels::arrive;
 use labels::steps_of;
 use labels::weight_word;
@@ -84,13 +85,7 @@ fn clear_span(scratch: &mut [u16], n: usize, layers: Layers)
     clear(scratch, n * LISTED, n * TRAIL);
 }
 
-// The labels of the order that wait, from `at` on, and the count of the active list.
-pub struct Span {
-    pub at: usize,
-    pub active: usize,
-}
-
-// The table of no steps, and the seeds that need none after the close.
+// The table of no steps, and the seeds that need none after the close: where the labels wait that come later, and the count of the active list.
 pub fn start_span(
     plan: &[u8],
     scratch: &mut [u16],
@@ -98,16 +93,12 @@ pub fn start_span(
     count: usize,
     weight: u32,
     layers: Layers,
-) -> Span
+) -> Arrivals
     requires { ⌜ SpanAsks p (now plan) count (now scratch) layers ⌝ }
     ensures { λ r. ⌜ Started (rulesFor p (now (plan .entry))) (length (now (plan .entry))) weight (now (scratch .entry)) (now (scratch .exit)) (r .active) (r .at) count ⌝ }
 {
     let n = plan.len();
     clear_span(scratch, n, layers);
     let from = first_with(scratch, n, n * LABELS, count, weight);
-    let next = arrive(scratch, n, n * LABELS, from, count, weight, 0, 0);
-    Span {
-        at: next.at,
-        active: next.active,
-    }
+    arrive(scratch, n, n * LABELS, from, count, weight, 0, 0)
 }

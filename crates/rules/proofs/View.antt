@@ -131,12 +131,6 @@ pub record FirstVisit (R : Rules) (v : Visit) : Type 0 where
 pub data LegalRoute (R : Rules) : Route → Type 0 where
   starts : {v : Visit} {vs : Route} → FirstVisit R v → Ending R (R .sink) 0 0 (R .start) vs → LegalRoute R (v ∷ vs)
 
-pub same-first : {R : Rules} {v w : Visit} → FirstVisit R v → FirstVisit R w → v ≡ w
-same-first {R} {v} {w} h k =
-    let same : v .cell ≡ w .cell = cc in
-    let alike : v .code ≡ w .code = cc in
-    λ i. record { cell = same i; code = alike i }
-
 -- Any visit in between, in the words of the test
 record Between (R : Rules) (from span fifos : ℕ) (s : Stage) (v : Visit) : Type 0 where
   pub reached : Reached R from s (v .cell)
