@@ -16,7 +16,7 @@ use Rattle.rules.proofs.View.{ending-view, closing-codes, register-closing, sid
 use Rattle.budget.specs.Table.{Table, States, Seeds, Represents, RepresentsRow, Step, layer}
 use Rattle.budget.specs.Done.{stage, NotAfter, Done, Open, After, Labels, Labelled, Lawful}
 use Rattle.budget.specs.Cone.{RepresentsIn, Shrinking}
-use Rattle.budget.specs.Emission.{exactSeed, Reaches, reachTable, afterLoad, afterDelay, visit}
+use Rattle.budget.specs.Emission.{exactSeed, Reaches, afterLoad, afterDelay, visit}
 use Rattle.budget.proofs.Layer.{layer-represents, layer-row, step-near, same-row}
 use Rattle.budget.proofs.Codes.{open-buffer}
 use Rattle.budget.proofs.Done.{after-more, light, step-done}
@@ -162,22 +162,6 @@ module _ (R : Rules) (m : ℕ → Labels) (f k : ℕ) where
   pub reaches-layer : Lawful R → (u : ℕ) {A B : Table} → Represents A (Reaches R m f k u) → ((c l : ℕ) → B c l ≡ layer R (exactSeed m k u) (R .bound 0 f) A c l) → Represents B (Reaches R m f k (suc u))
   reaches-layer law u {A} rep next =
       same-table (Reaches R m f k (suc u)) next (layer-represents R (exactSeed m k u) (R .bound 0 f) A (Reaches R m f k u) (law .inPlan) rep)
-
-  pub table-reaches : Lawful R → (u : ℕ) → Represents (reachTable R m f k u) (Reaches R m f k u)
-  unfolding reachTable
-  table-reaches law zero = reaches-start (λ c l. refl)
-  table-reaches law (suc u) = reaches-layer law u (table-reaches law u) (λ c l. refl)
-
-  -- before the first label comes in nothing reaches a seed
-  pub reaches-empty : (t : ℕ) → ((code n : ℕ) → T (m code .known n) → m code .weight n ≡ k → t ≤ m code .steps n) → (u c l d : ℕ) → u ≤ t → Reaches R m f k u c l d → ⊥
-  reaches-empty t first zero c l d h x = x
-  reaches-empty t first (suc u) c l d h x = go x (λ c l d. reaches-empty t first u c l d (omega arith))
-    where
-      go : {c l d : ℕ} → Step R (exactSeed m k u) (R .bound 0 f) (Reaches R m f k u) c l d → ((c l d : ℕ) → Reaches R m f k u c l d → ⊥) → ⊥
-      go (Step.stays y) never = never _ _ _ y
-      go (Step.passes n link may fits y) never = never _ _ _ y
-      go (Step.drives n i six link may fits after y) never = never _ _ _ y
-      go (Step.closes n code shut link s fits y) never = let x = exact-view m k u code n s in omega (arith, x .early, first code n (x .known) (x .same))
 
   -- The rows of a shrinking set of cells
   module _ (law : Lawful R) {P : ℕ → ℕ → Bool} (shrinks : Shrinking R P) where
