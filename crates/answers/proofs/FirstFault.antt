@@ -21,7 +21,7 @@ use Rattle.answers.specs.declared.tables.ElementFault.{ElementFault}
 use Rattle.answers.specs.declared.tables.ElementFault.the-variants.{Nothing, At}
 use Rattle.answers.specs.declared.tables.BuffersRead.{BuffersRead}
 use Rattle.answers.specs.Lists.{noBuffer}
-use Rattle.answers.specs.Tables.{require, periodInRange, wireOk, registerOk, bufferOk, bufferFault, buffersFault, tablesFault, wireFrom, registerFrom, bufferFrom, listedBuffer, sixPlaces, elementsOf, listFault, placesFor, checkedList, refusedTables, tablesAnswer, checkedTables}
+use Rattle.answers.specs.Tables.{require, periodInRange, wireOk, registerOk, bufferOk, bufferFault, buffersFault, elementsFault, tablesFault, wireFrom, registerFrom, bufferFrom, listedBuffer, sixPlaces, elementsOf, listFault, placesFor, checkedList, refusedTables, tablesAnswer, checkedTables}
 use Rattle.answers.proofs.Scan.{six-at, six-length}
 
 -- the first buffer out of range among `left` from index i on
@@ -29,12 +29,9 @@ pub data FirstBuffer (items : List BufferRecord) (i left : ℕ) : ElementFault �
   clean : ((k : ℕ) → i ≤ k → k < i + left → bufferOk (getD items k noBuffer) ≡ true) → FirstBuffer items i left Nothing
   bad : (k : ℕ) → i ≤ k → k < i + left → ((j : ℕ) → i ≤ j → j < k → bufferOk (getD items j noBuffer) ≡ true) → bufferOk (getD items k noBuffer) ≡ false → FirstBuffer items i left (At (Fault.Buffer (k + 1)))
 
--- the tests that pass before each place of the order
-abbrev pub UpToPeriod : Tables → Type 0
-UpToPeriod t = periodInRange (t .period) ≡ true
-
+-- the tests that pass before each place of the order from L on
 abbrev pub UpToLimit : Tables → Type 0
-UpToLimit t = UpToPeriod t × (leb (t .limit) loadMax ≡ true)
+UpToLimit t = leb (t .limit) loadMax ≡ true
 
 abbrev pub UpToHorizontal : Tables → Type 0
 UpToHorizontal t = UpToLimit t × (wireOk (t .horizontal) ≡ true)
@@ -45,18 +42,26 @@ UpToVertical t = UpToHorizontal t × (wireOk (t .vertical) ≡ true)
 abbrev pub UpToRegister : Tables → Type 0
 UpToRegister t = UpToVertical t × (registerOk (t .register) ≡ true)
 
-abbrev pub UpToCount : Tables → BufferList → Type 0
-UpToCount t list = UpToRegister t × (leb (list .n) buffersMax ≡ true)
+abbrev pub UpToFifo : Bool → Tables → Type 0
+UpToFifo fifoOk t = UpToRegister t × (fifoOk ≡ true)
 
--- the first fault, by cases in document 01's order
+abbrev pub UpToCount : Bool → Tables → BufferList → Type 0
+UpToCount fifoOk t list = UpToFifo fifoOk t × (leb (list .n) buffersMax ≡ true)
+
+-- the first fault from L on, by cases in their order
+pub data FirstElement (fifoOk : Bool) (t : Tables) (list : BufferList) : ElementFault → Type 0 where
+  limit : leb (t .limit) loadMax ≡ false → FirstElement fifoOk t list (At Fault.Limit)
+  horizontal : UpToLimit t → wireOk (t .horizontal) ≡ false → FirstElement fifoOk t list (At Fault.Horizontal)
+  vertical : UpToHorizontal t → wireOk (t .vertical) ≡ false → FirstElement fifoOk t list (At Fault.Vertical)
+  register : UpToVertical t → registerOk (t .register) ≡ false → FirstElement fifoOk t list (At Fault.Register)
+  fifo : UpToRegister t → fifoOk ≡ false → FirstElement fifoOk t list (At Fault.Fifo)
+  count : UpToFifo fifoOk t → leb (list .n) buffersMax ≡ false → FirstElement fifoOk t list (At Fault.Count)
+  buffers : {f : ElementFault} → UpToCount fifoOk t list → FirstBuffer (list .items) 0 (list .n) f → FirstElement fifoOk t list f
+
+-- the first fault with one clock: T, then L and what follows it
 pub data FirstFault (t : Tables) (list : BufferList) : ElementFault → Type 0 where
   period : periodInRange (t .period) ≡ false → FirstFault t list (At Fault.Period)
-  limit : UpToPeriod t → leb (t .limit) loadMax ≡ false → FirstFault t list (At Fault.Limit)
-  horizontal : UpToLimit t → wireOk (t .horizontal) ≡ false → FirstFault t list (At Fault.Horizontal)
-  vertical : UpToHorizontal t → wireOk (t .vertical) ≡ false → FirstFault t list (At Fault.Vertical)
-  register : UpToVertical t → registerOk (t .register) ≡ false → FirstFault t list (At Fault.Register)
-  count : UpToRegister t → leb (list .n) buffersMax ≡ false → FirstFault t list (At Fault.Count)
-  buffers : {f : ElementFault} → UpToCount t list → FirstBuffer (list .items) 0 (list .n) f → FirstFault t list f
+  elements : {f : ElementFault} → periodInRange (t .period) ≡ true → FirstElement true t list f → FirstFault t list f
 
 from-next : (items : List BufferRecord) (i stop : ℕ) → bufferOk (getD items i noBuffer) ≡ true → ((k : ℕ) → i + 1 ≤ k → k < stop → bufferOk (getD items k noBuffer) ≡ true) → (k : ℕ) → i ≤ k → k < stop → bufferOk (getD items k noBuffer) ≡ true
 from-next items i stop ok all k g h = ⊎-elim (λ (e : i ≡ k). rw (← e) ok) (λ (l : i < k). all k (omega arith) h) (eq-or-lt-of-le g)
@@ -83,28 +88,41 @@ buffer-is items i (suc left) (clean all) =
 buffer-is items i (suc left) (bad k g h all out) =
     ⊎-elim (λ (e : i ≡ k). rw (e, out)) (λ (l : i < k). simp (all i (omega arith) l) (buffer-is items (i + 1) left (bad k (omega arith) (omega arith) (λ j u v. all j (omega arith) v) out))) (eq-or-lt-of-le g)
 
+-- The fault from L on is the first one, and the only one.
+pub first-element : (fifoOk : Bool) (t : Tables) (list : BufferList) → FirstElement fifoOk t list (elementsFault fifoOk t list)
+unfolding listFault buffersFault
+first-element fifoOk t list = go _ _ _ _ _ _ refl refl refl refl refl refl where
+  go : (l h v r x n : Bool) → leb (t .limit) loadMax ≡ l → wireOk (t .horizontal) ≡ h → wireOk (t .vertical) ≡ v → registerOk (t .register) ≡ r → fifoOk ≡ x → leb (list .n) buffersMax ≡ n → FirstElement fifoOk t list (require l Fault.Limit (require h Fault.Horizontal (require v Fault.Vertical (require r Fault.Register (require x Fault.Fifo (require n Fault.Count (bufferFault (list .items) 0 (list .n))))))))
+  go false h v r x n l' h' v' r' x' n' = limit l'
+  go true false v r x n l' h' v' r' x' n' = horizontal l' h'
+  go true true false r x n l' h' v' r' x' n' = vertical (l', h') v'
+  go true true true false x n l' h' v' r' x' n' = register ((l', h'), v') r'
+  go true true true true false n l' h' v' r' x' n' = fifo (((l', h'), v'), r') x'
+  go true true true true true false l' h' v' r' x' n' = count ((((l', h'), v'), r'), x') n'
+  go true true true true true true l' h' v' r' x' n' = buffers (((((l', h'), v'), r'), x'), n') (first-buffer (list .items) 0 (list .n))
+
+pub element-is : (fifoOk : Bool) (t : Tables) (list : BufferList) {f : ElementFault} → FirstElement fifoOk t list f → elementsFault fifoOk t list ≡ f
+unfolding listFault buffersFault
+element-is fifoOk t list (limit l) = simp l
+element-is fifoOk t list (horizontal l h) = simp (l, h)
+element-is fifoOk t list (vertical (l, h) v) = simp (l, h, v)
+element-is fifoOk t list (register ((l, h), v) r) = simp (l, h, v, r)
+element-is fifoOk t list (fifo (((l, h), v), r) x) = simp (l, h, v, r, x)
+element-is fifoOk t list (count ((((l, h), v), r), x) n) = simp (l, h, v, r, x, n)
+element-is fifoOk t list (buffers (((((l, h), v), r), x), n) f) = simp (l, h, v, r, x, n) (buffer-is (list .items) 0 (list .n) f)
+
 -- The answer is the first fault, and the only one.
 pub first-fault : (t : Tables) (list : BufferList) → FirstFault t list (tablesFault t list)
-unfolding tablesFault listFault buffersFault
-first-fault t list = go _ _ _ _ _ _ refl refl refl refl refl refl where
-  go : (p l h v r n : Bool) → periodInRange (t .period) ≡ p → leb (t .limit) loadMax ≡ l → wireOk (t .horizontal) ≡ h → wireOk (t .vertical) ≡ v → registerOk (t .register) ≡ r → leb (list .n) buffersMax ≡ n → FirstFault t list (require p Fault.Period (require l Fault.Limit (require h Fault.Horizontal (require v Fault.Vertical (require r Fault.Register (require n Fault.Count (bufferFault (list .items) 0 (list .n))))))))
-  go false l h v r n p' l' h' v' r' n' = period p'
-  go true false h v r n p' l' h' v' r' n' = limit p' l'
-  go true true false v r n p' l' h' v' r' n' = horizontal (p', l') h'
-  go true true true false r n p' l' h' v' r' n' = vertical ((p', l'), h') v'
-  go true true true true false n p' l' h' v' r' n' = register (((p', l'), h'), v') r'
-  go true true true true true false p' l' h' v' r' n' = count ((((p', l'), h'), v'), r') n'
-  go true true true true true true p' l' h' v' r' n' = buffers (((((p', l'), h'), v'), r'), n') (first-buffer (list .items) 0 (list .n))
+unfolding tablesFault
+first-fault t list = go (periodInRange (t .period)) refl where
+  go : (p : Bool) → periodInRange (t .period) ≡ p → FirstFault t list (require p Fault.Period (elementsFault true t list))
+  go false e = period e
+  go true e = elements e (first-element true t list)
 
 pub fault-is : (t : Tables) (list : BufferList) {f : ElementFault} → FirstFault t list f → tablesFault t list ≡ f
-unfolding tablesFault listFault buffersFault
+unfolding tablesFault
 fault-is t list (period p) = simp p
-fault-is t list (limit p l) = simp (p, l)
-fault-is t list (horizontal (p, l) h) = simp (p, l, h)
-fault-is t list (vertical ((p, l), h) v) = simp (p, l, h, v)
-fault-is t list (register (((p, l), h), v) r) = simp (p, l, h, v, r)
-fault-is t list (count ((((p, l), h), v), r) n) = simp (p, l, h, v, r, n)
-fault-is t list (buffers (((((p, l), h), v), r), n) f) = simp (p, l, h, v, r, n) (buffer-is (list .items) 0 (list .n) f)
+fault-is t list (elements p e) = rw p (element-is true t list e)
 
 both : (a b : Bool) → (a && b) ≡ true → (a ≡ true) × (b ≡ true)
 both true b h = (refl, h)
@@ -127,43 +145,74 @@ at-in list k h = go (ltb k (list .n)) refl where
   go false e = zero-in
 
 -- nothing is at fault: every test passes
-all-pass : (t : Tables) (list : BufferList) → FirstFault t list Nothing → UpToCount t list × ((k : ℕ) → k < list .n → bufferOk (getD (list .items) k noBuffer) ≡ true)
-all-pass t list (buffers pass (clean all)) = (pass, λ k h. all k (omega arith) (omega arith))
+all-pass : (fifoOk : Bool) (t : Tables) (list : BufferList) → FirstElement fifoOk t list Nothing → UpToCount fifoOk t list × ((k : ℕ) → k < list .n → bufferOk (getD (list .items) k noBuffer) ≡ true)
+all-pass fifoOk t list (buffers pass (clean all)) = (pass, λ k h. all k (omega arith) (omega arith))
+
+-- a test that is passed, and what follows it
+pub require-passed : (ok : Bool) (f : Fault) (rest : ElementFault) → require ok f rest ≡ Nothing → (ok ≡ true) × (rest ≡ Nothing)
+require-passed true f rest e = (refl, e)
+require-passed false f rest e = let z : _≡_ {A = ℕ} 0 1 = cc in absurd (omega arith)
+
+pub period-in : (p : ℕ) → periodInRange p ≡ true → (periodMin ≤ p) × (p ≤ periodMax)
+unfolding periodInRange
+period-in p e = let h = both (leb periodMin p) (leb p periodMax) e in (leb-true _ _ (h .0), leb-true _ _ (h .1))
+
+pub in-period : (p : ℕ) → periodMin ≤ p → p ≤ periodMax → periodInRange p ≡ true
+unfolding periodInRange
+in-period p l m = simp (le-leb _ _ l, le-leb _ _ m)
+
+-- No fault from L on exactly where, with a period in range, the elements are valid and the FIFO is in range.
+pub elements-valid : (fifoOk : Bool) (t : Tables) (list : BufferList) → periodInRange (t .period) ≡ true → elementsFault fifoOk t list ≡ Nothing → Valid (elementsOf t list) × (fifoOk ≡ true)
+unfolding elementsOf wireOk registerOk bufferOk wireFrom registerFrom bufferFrom
+elements-valid fifoOk t list p e =
+    let a = all-pass fifoOk t list (rw e at (first-element fifoOk t list)) in
+    let m : list .n ≤ buffersMax = leb-true _ _ (a .0 .1) in (
+      record {
+        least = period-in _ p .0;
+        most = period-in _ p .1;
+        limit = leb-true _ _ (a .0 .0 .0 .0 .0 .0);
+        horizontal = wire-in _ _ (a .0 .0 .0 .0 .0 .1);
+        vertical = wire-in _ _ (a .0 .0 .0 .0 .1);
+        register = register-in _ _ _ _ (a .0 .0 .0 .1);
+        count = m;
+        places = six-length (listedBuffer list);
+        buffers = λ k h.
+            rw (six-at (listedBuffer list) k h) (at-in list k (λ g. buffer-in _ _ _ (a .1 k g)));
+      },
+      a .0 .0 .1,
+    )
+
+pub valid-elements : (fifoOk : Bool) (t : Tables) (list : BufferList) → Valid (elementsOf t list) → fifoOk ≡ true → elementsFault fifoOk t list ≡ Nothing
+unfolding elementsOf wireOk registerOk bufferOk wireFrom registerFrom bufferFrom
+valid-elements fifoOk t list v x =
+    element-is fifoOk t list
+    (buffers
+    (((((le-leb _ _ (v .limit), in-wire _ _ (v .horizontal)), in-wire _ _ (v .vertical)), in-register _ _ _ _ (v .register)), x), le-leb _ _ (v .count))
+    (clean (λ k g h.
+    in-buffer _ _ _ (rw (buffer-at list k (omega arith)) at (rw (six-at (listedBuffer list) k (omega (arith, v .count))) at (v .buffers k (omega (arith, v .count))))))))
+
+-- the elements' period is the tables'
+pub valid-period : (t : Tables) (list : BufferList) → Valid (elementsOf t list) → periodInRange (t .period) ≡ true
+unfolding elementsOf
+valid-period t list v = in-period _ (v .least) (v .most)
 
 -- No fault exactly where the elements are valid.
 pub tables-valid : (t : Tables) (list : BufferList) → tablesFault t list ≡ Nothing → Valid (elementsOf t list)
-unfolding elementsOf periodInRange wireOk registerOk bufferOk wireFrom registerFrom bufferFrom
+unfolding tablesFault
 tables-valid t list e =
-    let a = all-pass t list (rw e at (first-fault t list)) in
-    let m : list .n ≤ buffersMax = leb-true _ _ (a .0 .1) in
-    record {
-      least = leb-true _ _ (both (leb periodMin (t .period)) (leb (t .period) periodMax) (a .0 .0 .0 .0 .0 .0) .0);
-      most = leb-true _ _ (both (leb periodMin (t .period)) (leb (t .period) periodMax) (a .0 .0 .0 .0 .0 .0) .1);
-      limit = leb-true _ _ (a .0 .0 .0 .0 .0 .1);
-      horizontal = wire-in _ _ (a .0 .0 .0 .0 .1);
-      vertical = wire-in _ _ (a .0 .0 .0 .1);
-      register = register-in _ _ _ _ (a .0 .0 .1);
-      count = m;
-      places = six-length (listedBuffer list);
-      buffers = λ k h.
-          rw (six-at (listedBuffer list) k h) (at-in list k (λ g. buffer-in _ _ _ (a .1 k g)));
-    }
+    let p = require-passed (periodInRange (t .period)) Fault.Period (elementsFault true t list) e in
+    elements-valid true t list (p .0) (p .1) .0
 
 pub valid-tables : (t : Tables) (list : BufferList) → Valid (elementsOf t list) → tablesFault t list ≡ Nothing
-unfolding elementsOf periodInRange wireOk registerOk bufferOk wireFrom registerFrom bufferFrom
-valid-tables t list v =
-    fault-is t list
-    (buffers
-    ((((((simp (le-leb _ _ (v .least), le-leb _ _ (v .most))), le-leb _ _ (v .limit)), in-wire _ _ (v .horizontal)), in-wire _ _ (v .vertical)), in-register _ _ _ _ (v .register)), le-leb _ _ (v .count))
-    (clean (λ k g h.
-    in-buffer _ _ _ (rw (buffer-at list k (omega arith)) at (rw (six-at (listedBuffer list) k (omega (arith, v .count))) at (v .buffers k (omega (arith, v .count))))))))
+valid-tables t list v = fault-is t list (elements (valid-period t list v) (rw (valid-elements true t list v refl) at (first-element true t list)))
 
 -- What the checks answer, by the first fault.
 
 -- the list's own fault, where the tests before it pass
-pub list-first : (t : Tables) (list : BufferList) (f : ElementFault) → UpToRegister t → listFault list ≡ f → FirstFault t list f
-unfolding tablesFault
-list-first t list f ((((p, l), h), v), r) e = rw e at (simp (p, l, h, v, r) at (first-fault t list))
+pub list-first : (fifoOk : Bool) (t : Tables) (list : BufferList) (f : ElementFault) → UpToFifo fifoOk t → listFault list ≡ f → FirstElement fifoOk t list f
+list-first fifoOk t list f ((((l, h), v), r), x) e =
+    let is : elementsFault fifoOk t list ≡ f = simp (l, h, v, r, x) e in
+    rw is at (first-element fifoOk t list)
 
 pub read-clean : (list : BufferList) → listFault list ≡ Nothing → checkedList list .buffers ≡ sixPlaces (listedBuffer list)
 unfolding checkedList placesFor
@@ -174,9 +223,9 @@ pub read-own : (read : BuffersRead) (list : BufferList) → read ≡ checkedList
 unfolding checkedList
 read-own read list e = e ∙ ap checkedList (ap (λ (r : BuffersRead). r .list) (sym e))
 
-pub tables-refused : (t : Tables) (list : BufferList) (f : Fault) → FirstFault t list (At f) → refusedTables f ≡ checkedTables t list
+pub period-refused : (t : Tables) (list : BufferList) → periodInRange (t .period) ≡ false → refusedTables Fault.Period ≡ checkedTables t list
 unfolding checkedTables tablesAnswer
-tables-refused t list f w = simp (fault-is t list w)
+period-refused t list p = simp (fault-is t list (period p))
 
 pub tables-clean : (t : Tables) (list : BufferList) → tablesFault t list ≡ Nothing → checkedTables t list ≡ record { fault = Nothing; elements = elementsOf t list }
 unfolding checkedTables tablesAnswer

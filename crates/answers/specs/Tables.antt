@@ -1,7 +1,8 @@
 -- Refusal 4 of document 01: a number outside its range, or over 6 buffers. It carries the first fault in this order:
 -- T, L, horizontal wire, vertical wire, register, buffer count, the place of a buffer from 1.
+-- A net between two clocks (document 02, C-15) has its two periods in T's place, and the FIFO after the register: Crossing.antt.
 use Prim.Native.Nat.{ℕ, zero, suc, _+_}
-use mathlib.Core.Bool.{Bool, _&&_, cond}
+use mathlib.Core.Bool.{Bool, true, _&&_, cond}
 use mathlib.Core.List.{List, [], _∷_}
 use lib.Dec.{leb, ltb}
 use lib.ListN.{getD}
@@ -51,14 +52,18 @@ buffersFault list = bufferFault (list .items) 0 (list .n)
 unfoldable pub listFault : BufferList → ElementFault
 listFault list = require (leb (list .n) buffersMax) Fault.Count (buffersFault list)
 
-unfoldable pub tablesFault : Tables → BufferList → ElementFault
-tablesFault t list =
-    require (periodInRange (t .period)) Fault.Period
-    (require (leb (t .limit) loadMax) Fault.Limit
+-- The order from L on, for every call. `fifoOk` says whether the FIFO's numbers are in range; without a FIFO nothing can fail there.
+abbrev pub elementsFault : Bool → Tables → BufferList → ElementFault
+elementsFault fifoOk t list =
+    require (leb (t .limit) loadMax) Fault.Limit
     (require (wireOk (t .horizontal)) Fault.Horizontal
     (require (wireOk (t .vertical)) Fault.Vertical
     (require (registerOk (t .register)) Fault.Register
+    (require fifoOk Fault.Fifo
     (listFault list)))))
+
+unfoldable pub tablesFault : Tables → BufferList → ElementFault
+tablesFault t list = require (periodInRange (t .period)) Fault.Period (elementsFault true t list)
 
 -- the elements of given records
 unfoldable pub wireFrom : WireRecord → Wire

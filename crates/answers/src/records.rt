@@ -28,6 +28,12 @@ pub struct Tables {
     pub limit: u16,
 }
 
+// What a net between two clocks has beside its tables, whose period is the sink's: the source's period and the FIFO. Document 02, C-15.
+pub struct Crossing {
+    pub period: u16,
+    pub fifo: RegisterRecord,
+}
+
 // A lent list of buffers: its length, and its first six records, with the record of zeros past its end.
 pub struct BufferList {
     pub n: usize,

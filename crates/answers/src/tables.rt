@@ -1,12 +1,16 @@
 // Refusal 4. Each element is made by its own checking constructor; nothing tests its numbers again.
 ghost use mathlib.Core.Path.{_≡_};
 ghost use Rattle.answers.specs.declared.tables.ElementFault.{ElementFault};
-ghost use Rattle.answers.specs.Tables.{checkedList, noBuffers, checkedTables, refusedTables, noElements};
+ghost use Rattle.answers.specs.Tables.{periodInRange, checkedList, noBuffers, checkedTables, refusedTables, noElements};
+ghost use Rattle.answers.specs.Crossing.{checkedElements, checkedCrossing, refusedCrossing};
 use crate::answer::Fault;
 use crate::records::BufferList;
+use crate::records::Crossing;
+use crate::records::RegisterRecord;
 use crate::records::Tables;
 use timing::Buffer;
 use timing::BufferCheck;
+use timing::Clocks;
 use timing::Elements;
 use timing::Load;
 use timing::Register;
@@ -33,26 +37,74 @@ pub struct BuffersRead {
     pub buffers: [Buffer; Elements::BUFFERS_MAX],
 }
 
+// Where there is a fault, the elements are all zero, and so are the clocks.
+pub struct CrossingCheck {
+    pub fault: ElementFault,
+    pub elements: Elements,
+    pub clocks: Clocks,
+}
+
 // The first fault of the tables and of a list of buffers as it was read, or their elements.
 pub fn check_tables(t: Tables, read: BuffersRead) -> TablesCheck
     requires { ⌜ read ≡ checkedList (read .list) ⌝ }
     ensures { λ r. ⌜ r ≡ checkedTables t (read .list) ⌝ }
 {
-    if t.period < Elements::PERIOD_MIN {
+    if !period_in_range(t.period) {
         return refused(Fault::Period);
     }
-    if Elements::PERIOD_MAX < t.period {
-        return refused(Fault::Period);
+    let none = RegisterRecord {
+        resistance: 0,
+        delay: 0,
+        load: 0,
+        setup: 0,
+    };
+    let x = Crossing {
+        period: 0,
+        fifo: none,
+    };
+    let checked = check_elements(t, x, read);
+    let fault = checked.fault;
+    let elements = checked.elements;
+    TablesCheck {
+        fault: fault,
+        elements: elements,
     }
+}
+
+// The same between two clocks, in their order; the tables' period is the sink's. Without a fault, the elements and the clocks.
+pub fn check_crossing(t: Tables, x: Crossing, read: BuffersRead) -> CrossingCheck
+    requires { ⌜ read ≡ checkedList (read .list) ⌝ }
+    ensures { λ r. ⌜ r ≡ checkedCrossing t x (read .list) ⌝ }
+{
+    if !period_in_range(x.period) {
+        return refused_crossing(Fault::SourcePeriod);
+    }
+    if !period_in_range(t.period) {
+        return refused_crossing(Fault::SinkPeriod);
+    }
+    check_elements(t, x, read)
+}
+
+fn period_in_range(period: u16) -> bool
+    ensures { λ r. ⌜ r ≡ periodInRange period ⌝ }
+{
+    Elements::PERIOD_MIN <= period && period <= Elements::PERIOD_MAX
+}
+
+// All but the periods. With one clock the FIFO's record is of zeros, which are in range.
+fn check_elements(t: Tables, x: Crossing, read: BuffersRead) -> CrossingCheck
+    requires { ⌜ read ≡ checkedList (read .list) ⌝ }
+    ensures { λ r. ⌜ r ≡ checkedElements t x (read .list) ⌝ }
+{
     if Elements::LIMIT_MAX < t.limit {
-        return refused(Fault::Limit);
+        return refused_crossing(Fault::Limit);
     }
     let WireCheck::Valid(horizontal) = Wire::checked(t.horizontal.resistance, t.horizontal.load)
     else {
-        return refused(Fault::Horizontal);
+        return refused_crossing(Fault::Horizontal);
     };
     let WireCheck::Valid(vertical) = Wire::checked(t.vertical.resistance, t.vertical.load) else {
-        return refused(Fault::Vertical);
+        return refused_crossing(Fault::Vertical);
     };
     let RegisterCheck::Valid(register) = Register::checked(
         t.register.resistance,
@@ -60,14 +112,22 @@ pub fn check_tables(t: Tables, read: BuffersRead) -> TablesCheck
         t.register.load,
         t.register.setup,
     ) else {
-        return refused(Fault::Register);
+        return refused_crossing(Fault::Register);
+    };
+    let RegisterCheck::Valid(fifo) = Register::checked(
+        x.fifo.resistance,
+        x.fifo.delay,
+        x.fifo.load,
+        x.fifo.setup,
+    ) else {
+        return refused_crossing(Fault::Fifo);
     };
     let fault = read.fault;
     if let ElementFault::At(f) = fault {
-        return refused(f);
+        return refused_crossing(f);
     }
     let buffers = read.buffers;
-    TablesCheck {
+    CrossingCheck {
         fault: ElementFault::Nothing,
         elements: Elements {
             period: t.period,
@@ -77,6 +137,11 @@ pub fn check_tables(t: Tables, read: BuffersRead) -> TablesCheck
             register: register,
             count: read.list.n,
             buffers: buffers,
+        },
+        clocks: Clocks {
+            fifos: 1,
+            period: x.period,
+            fifo: fifo,
         },
     }
 }
@@ -123,6 +188,16 @@ fn refused(fault: Fault) -> TablesCheck
     TablesCheck {
         fault: ElementFault::At(fault),
         elements: no_elements(),
+    }
+}
+
+fn refused_crossing(fault: Fault) -> CrossingCheck
+    ensures { λ r. ⌜ r ≡ refusedCrossing fault ⌝ }
+{
+    CrossingCheck {
+        fault: ElementFault::At(fault),
+        elements: no_elements(),
+        clocks: Clocks::one(0),
     }
 }
 

@@ -15,7 +15,7 @@ use Rattle.bench_entry.specs.Words.{refusalFault}
 abbrev pub answerFault : Answer → ℕ
 answerFault (Found f) = 0
 answerFault (NoRoom f) = 0
-answerFault (Refused r) = refusalFault r
+answerFault (Refused r) = refusalFault 1 r
 
 -- registers, steps, latency, fault, spare half-ticks
 unfoldable pub figureWords : Answer → List ℕ

@@ -33,7 +33,7 @@ periodTold TooShort = 0
 -- what is told
 abbrev pub whyOf : Explained → Why
 whyOf (Because reason) = record { reason = reasonPlace reason; period = periodTold reason; element = 0 }
-whyOf (Refused r) = record { reason = 0; period = 0; element = refusalFault r }
+whyOf (Refused r) = record { reason = 0; period = 0; element = refusalFault 1 r }
 
 unfoldable pub whyWords : Why → List ℕ
 whyWords w = w .reason ∷ w .period ∷ w .element ∷ 0 ∷ 0 ∷ []

@@ -35,7 +35,7 @@ missOf (Period z) = magnitude z
 abbrev pub foundOf : Verdict → Found
 foundOf (Accepted z) = record { accepted = 1; visit = 0; fault = 0; element = 0; slack = magnitude z }
 foundOf (AtFault i f) = record { accepted = 0; visit = i; fault = visitFaultPlace f; element = 0; slack = missOf f }
-foundOf (Refused r) = record { accepted = 0; visit = 0; fault = 0; element = refusalFault r; slack = 0 }
+foundOf (Refused r) = record { accepted = 0; visit = 0; fault = 0; element = refusalFault 1 r; slack = 0 }
 
 unfoldable pub foundWords : Found → List ℕ
 foundWords f = f .accepted ∷ f .visit ∷ f .fault ∷ f .element ∷ f .slack ∷ []

@@ -1,12 +1,12 @@
 -- What the entries share: the lengths, the question that numbers and words make, and the place of refusal 4. The tables' words are in the job's order.
-use Prim.Native.Nat.{ℕ, _+_, _/_, _%_}
+use Prim.Native.Nat.{ℕ, _+_, _*_, _/_, _%_}
 use mathlib.Core.Bool.{Bool, _&&_}
 use mathlib.Core.List.{List}
 use lib.Dec.{eqb}
 use lib.ListN.{length}
 use Rattle.answers.specs.declared.records.BufferList.{BufferList}
 use Rattle.answers.specs.declared.answer.Fault.{Fault}
-use Rattle.answers.specs.declared.answer.Fault.the-variants.{Period, Limit, Horizontal, Vertical, Register, Count, Buffer}
+use Rattle.answers.specs.declared.answer.Fault.the-variants.{Period, SourcePeriod, SinkPeriod, Limit, Horizontal, Vertical, Register, Fifo, Count, Buffer}
 use Rattle.answers.specs.declared.answer.Refusal.{Refusal}
 use Rattle.answers.specs.declared.answer.Refusal.the-variants.{Grid, Length, Mark, Element, Ends, Scratch, NoRoute, RouteList, NoneLegal, RouteExists}
 use Rattle.job.specs.Fields.{tablesOf, tableNumbers, bufferListOf}
@@ -26,25 +26,29 @@ buffersIn ws = bufferListOf (length ws / 3) ws
 unfoldable pub benchQuestion : List ℕ → ℕ → ℕ → List ℕ → List ℕ → ℕ → ℕ → Question
 benchQuestion marks w h tables buffers a b = questionOf marks w h (tablesOf tables) (buffersIn buffers) a b
 
--- Refusal 4: the place of what is at fault in document 01's order, from 1; a buffer's is 6 and its place. 0 for every other answer.
+-- Refusal 4: the place of what is at fault in the order of a call with so many clocks, from 1; a buffer's is the count's and its own. 0 for every other answer.
+-- Each clock has a period before L, and each clock but one a FIFO before the count. With one clock that is document 01's order, 1 to 6 and the buffers.
 
-abbrev pub faultPlace : Fault → ℕ
-faultPlace Period = 1
-faultPlace Limit = 2
-faultPlace Horizontal = 3
-faultPlace Vertical = 4
-faultPlace Register = 5
-faultPlace Count = 6
-faultPlace (Buffer place) = 6 + place
+abbrev pub faultPlace : ℕ → Fault → ℕ
+faultPlace clocks Period = 1
+faultPlace clocks SourcePeriod = 1
+faultPlace clocks SinkPeriod = 2
+faultPlace clocks Limit = clocks + 1
+faultPlace clocks Horizontal = clocks + 2
+faultPlace clocks Vertical = clocks + 3
+faultPlace clocks Register = clocks + 4
+faultPlace clocks Fifo = clocks + 5
+faultPlace clocks Count = 2 * clocks + 4
+faultPlace clocks (Buffer place) = 2 * clocks + 4 + place
 
-abbrev pub refusalFault : Refusal → ℕ
-refusalFault Grid = 0
-refusalFault Length = 0
-refusalFault Mark = 0
-refusalFault (Element f) = faultPlace f
-refusalFault Ends = 0
-refusalFault Scratch = 0
-refusalFault NoRoute = 0
-refusalFault RouteList = 0
-refusalFault NoneLegal = 0
-refusalFault RouteExists = 0
+abbrev pub refusalFault : ℕ → Refusal → ℕ
+refusalFault clocks Grid = 0
+refusalFault clocks Length = 0
+refusalFault clocks Mark = 0
+refusalFault clocks (Element f) = faultPlace clocks f
+refusalFault clocks Ends = 0
+refusalFault clocks Scratch = 0
+refusalFault clocks NoRoute = 0
+refusalFault clocks RouteList = 0
+refusalFault clocks NoneLegal = 0
+refusalFault clocks RouteExists = 0

@@ -13,7 +13,7 @@ fn answer_fault(answer: Answer) -> u32
     match answer {
         Answer::Found(_) => 0,
         Answer::NoRoom(_) => 0,
-        Answer::Refused(r) => refusal_fault(r),
+        Answer::Refused(r) => refusal_fault(r, 1),
     }
 }
 

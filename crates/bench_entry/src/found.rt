@@ -68,7 +68,7 @@ pub fn found_of(verdict: Verdict) -> Found
             accepted: 0,
             visit: 0,
             fault: 0,
-            element: refusal_fault(r) as u64,
+            element: refusal_fault(r, 1) as u64,
             slack: 0,
         },
     }

@@ -51,7 +51,7 @@ pub fn why_of(explained: Explained) -> Why
         Explained::Refused(r) => Why {
             reason: 0,
             period: 0,
-            element: refusal_fault(r),
+            element: refusal_fault(r, 1),
         },
     }
 }

@@ -7,7 +7,8 @@ use native.Mathlib.Omega.{arith}
 use borrow.Author.Tests.{lt-leb}
 use lib.Dec.{T, leb}
 use Rattle.timing.specs.Formulas.{wireDelay}
-use Rattle.rules.specs.Rules.{Rules, noGate, registerCode, fifoCode}
+use Rattle.rules.specs.Rules.{Rules, noGate, registerCode, fifoCode, isClosing}
+use Rattle.rules.proofs.View.{register-closing, fifo-closing}
 use Rattle.rules.specs.Legal.{mayStand}
 use Rattle.plan.proofs.Truth.{split}
 use Rattle.budget.specs.Table.{Table, Seeds, only, maxBelow, loadAt, loadOf, bufferCost, closeCost, viaBuffer, viaClose, arrival, given, layer}
@@ -59,10 +60,11 @@ module _ (R : Rules) (seed : Seeds) (bound : ℕ) (A : Table) where
       let q : maxBelow (R .cellCount) (λ n. given R (arrival R seed bound A) n c l) ≤ x = max-most (R .cellCount) (λ n. given R (arrival R seed bound A) n c l) x (λ n h. given-linked x n c l (all n h)) in
       omega arith
 
--- An arrival row depends on the cell's own row and seed alone.
-pub arrival-row : (R : Rules) (seed seed′ : Seeds) (bound : ℕ) (A B : Table) (n : ℕ) → ((l : ℕ) → B n l ≡ A n l) → ((code : ℕ) → seed′ code n ≡ seed code n) → (l : ℕ) → arrival R seed′ bound B n l ≡ arrival R seed bound A n l
+-- An arrival row depends on the cell's own row and seeds alone.
+pub arrival-row : (R : Rules) (seed seed′ : Seeds) (bound : ℕ) (A B : Table) (n : ℕ) → ((l : ℕ) → B n l ≡ A n l) → ((code : ℕ) → T (isClosing code) → seed′ code n ≡ seed code n) → (l : ℕ) → arrival R seed′ bound B n l ≡ arrival R seed bound A n l
 unfolding arrival viaBuffer viaClose
-arrival-row R seed seed′ bound A B n row s l = simp (row, s)
+arrival-row R seed seed′ bound A B n row s l =
+    simp (row, s registerCode (register-closing registerCode refl), s fifoCode (fifo-closing fifoCode refl))
 
 -- past the limit it is 0
 pub arrival-past : (R : Rules) (seed : Seeds) (bound : ℕ) (A : Table) (n l : ℕ) → R .limit < l → arrival R seed bound A n l ≡ 0
@@ -70,16 +72,16 @@ unfolding arrival only
 arrival-past R seed bound A n l h = rw (lt-leb l (R .limit) h)
 
 -- a row of zeros without a seed gives nothing
-pub arrival-none : (R : Rules) (seed : Seeds) (bound : ℕ) (A : Table) (n : ℕ) → ((l : ℕ) → A n l ≡ 0) → ((code : ℕ) → seed code n ≡ false) → (l : ℕ) → arrival R seed bound A n l ≡ 0
+pub arrival-none : (R : Rules) (seed : Seeds) (bound : ℕ) (A : Table) (n : ℕ) → ((l : ℕ) → A n l ≡ 0) → ((code : ℕ) → T (isClosing code) → seed code n ≡ false) → (l : ℕ) → arrival R seed bound A n l ≡ 0
 unfolding arrival viaBuffer viaClose
 arrival-none R seed bound A n row e l =
     let x : ℕ = maxBelow 6 (λ i. viaBuffer R A n l (suc i)) in
     let a : only (mayStand R n noGate) (A n l) ≤ 0 = omega (arith, only-most (mayStand R n noGate) (A n l), row l) in
     let b : x ≤ 0 = max-most 6 (λ i. viaBuffer R A n l (suc i)) 0 (λ i h. only-bound (mayStand R n (suc i) && leb (loadOf R (suc i)) (R .limit)) (A n (loadOf R (suc i)) - bufferCost R (suc i) l) 0 (λ t. omega (arith, row (loadOf R (suc i))))) in
-    let c : (code : ℕ) → only (seed code n) (bound - closeCost R n code l) ≡ 0 = λ code. only-false (seed code n) (bound - closeCost R n code l) (λ t. rw (e code) at t) in
+    let c : (code : ℕ) → T (isClosing code) → only (seed code n) (bound - closeCost R n code l) ≡ 0 = λ code z. only-false (seed code n) (bound - closeCost R n code l) (λ t. rw (e code z) at t) in
     let r : ℕ = only (seed registerCode n) (bound - closeCost R n registerCode l) in
     let f : ℕ = only (seed fifoCode n) (bound - closeCost R n fifoCode l) in
-    let q : only (leb l (R .limit)) (max (only (mayStand R n noGate) (A n l)) (max x (max r f))) ≤ 0 = only-bound (leb l (R .limit)) (max (only (mayStand R n noGate) (A n l)) (max x (max r f))) 0 (λ t. omega (arith, c registerCode, c fifoCode)) in
+    let q : only (leb l (R .limit)) (max (only (mayStand R n noGate) (A n l)) (max x (max r f))) ≤ 0 = only-bound (leb l (R .limit)) (max (only (mayStand R n noGate) (A n l)) (max x (max r f))) 0 (λ t. omega (arith, c registerCode (register-closing registerCode refl), c fifoCode (fifo-closing fifoCode refl))) in
     omega arith
 
 -- what a cell gives depends on its arrival row alone

@@ -6,9 +6,11 @@ use lib.ListN.{length}
 use Rattle.plan.specs.Plan.{Plan}
 use Rattle.plan.proofs.Joined.{diagonal, joined-odd}
 use Rattle.timing.specs.declared.elements.Elements.{Elements}
-use Rattle.rules.specs.Rules.{Stage, Rules, rulesOf}
+use Rattle.timing.specs.declared.clocks.Clocks.{Clocks}
+use Rattle.rules.specs.Rules.{Stage, Rules}
 use Rattle.rules.specs.Legal.{Route}
-use Rattle.rules.proofs.Document01.{rules-linked}
+use Rattle.rules.specs.Crossing.{rulesBetween}
+use Rattle.rules.proofs.Clocks.{between-linked}
 use Rattle.rules.proofs.View.{Ending, ending-view}
 use Rattle.budget.specs.Done.{stage, NotAfter, Least, After, Labels, Labelled, Lawful}
 use mathlib.Core.Path.{_≡_}
@@ -17,12 +19,12 @@ use Rattle.budget.specs.Colours.{Colouring, InStep, LabelsInStep}
 use Rattle.budget.proofs.Emission.{least-exact}
 use Rattle.budget.proofs.Search.{label-enough, label-least}
 
--- Document 01's rules have the chessboard's colouring.
-pub rules-colouring : (p : Plan) (e : Elements) (from to : ℕ) → Colouring (rulesOf p e from to)
-rules-colouring p e from to =
+-- The rules have the chessboard's colouring, with any clocks.
+pub rules-colouring : (p : Plan) (e : Elements) (x : Clocks) (from to : ℕ) → Colouring (rulesBetween p e x from to)
+rules-colouring p e x from to =
     record {
       colour = diagonal p;
-      differs = λ c d h. joined-odd p c d (rw (rules-linked p e from to c d) at h);
+      differs = λ c d h. joined-odd p c d (rw (between-linked p e x from to c d) at h);
     }
 
 module _ {R : Rules} where

@@ -52,6 +52,14 @@ module _ (R : Rules) (m : ℕ → Labels) (f k u : ℕ) (A : Table) (c l d n cod
           through p (record { arrives = arrives; stands = search parts; inTime = λ e. absurd (T-not (isClosing code) p e) })
           (rw (a .0) (leb→le _ _ (search parts))) (rw (a .0, a .1) (ltb→lt _ _ (search parts)))
 
+  -- a visit that closes the span is labelled
+  pub closes-known : T (isClosing code) → T (goesOn R m f k u A c l d n code) → T (m code .known n)
+  closes-known shut t = go (goes-on-view t)
+    where
+      go : GoesOn R m f k u A c l d n code → T (m code .known n)
+      go (through p x fits early) = absurd (T-not (isClosing code) p shut)
+      go (closes q arrives seed time) = exact-view m k u code n seed .known
+
   goes-on-test : GoesOn R m f k u A c l d n code → T (goesOn R m f k u A c l d n code)
   unfolding goesOn
   goes-on-test x = go x (gate code)

@@ -317,7 +317,11 @@ module _ (R : Rules) (law : Lawful R) (from : (c n : ℕ) → T (R .linked c n) 
                   record { steps = omega (arith, z .steps); weight = omega (arith, z .weight) }
 
   -- from the sink
-  pub least-short : (k s c l d : ℕ) → Least R 0 (R .weight 0 + k) s c l d → (s ≤ mostSteps R (R .fifos)) × (R .weight 0 + k ≤ mostWeight R 0 (R .fifos))
-  least-short k s c l d least =
-      let z = side-short (suc s) s 0 (R .fifos) k c l d (omega arith) (omega arith) (λ c. false) (λ n u. absurd u) least in
+  -- on a side with `more` sides after it
+  pub side-least-short : (f more : ℕ) → f + more ≡ R .fifos → (k s c l d : ℕ) → Least R f (R .weight f + k) s c l d → (s ≤ mostSteps R more) × (R .weight f + k ≤ mostWeight R f more)
+  side-least-short f more sides k s c l d least =
+      let z = side-short (suc s) s f more k c l d (omega arith) sides (λ c. false) (λ n u. absurd u) least in
       (omega (arith, z .steps), omega (arith, z .weight))
+
+  pub least-short : (k s c l d : ℕ) → Least R 0 (R .weight 0 + k) s c l d → (s ≤ mostSteps R (R .fifos)) × (R .weight 0 + k ≤ mostWeight R 0 (R .fifos))
+  least-short = side-least-short 0 (R .fifos) (omega arith)

@@ -2,7 +2,7 @@
 use Prim.Native.Nat.{ℕ, _≤_, _<_}
 use mathlib.Core.Path.{_≡_, refl}
 use mathlib.Core.List.{List}
-use mathlib.Core.Logic.{inl, inr}
+use mathlib.Core.Logic.{_⊎_, inl, inr}
 use native.Mathlib.Omega.{arith}
 use lib.Dec.{T}
 use lib.ListN.{length}
@@ -13,13 +13,16 @@ use Rattle.plan.proofs.Sides.{Ascending, IsNeighbour}
 use Rattle.timing.specs.declared.elements.Wire.{Wire}
 use Rattle.timing.specs.declared.elements.Elements.{Elements}
 use Rattle.timing.specs.Elements.{WireInRange}
-use Rattle.rules.specs.Rules.{Rules, fifoCode}
+use Rattle.rules.specs.Rules.{Rules, fifoCode, rulesOf}
 use Rattle.budget.specs.Table.{Table}
 use Rattle.budget.specs.Done.{Labels}
 use Rattle.budget.specs.Emission.{Before}
 use Rattle.labels.specs.Labels.{labelsFor}
+use Rattle.rules.specs.Crossing.{rulesBetween}
 use Rattle.problem.specs.declared.Problem.{Problem}
-use Rattle.table.specs.Problem.{planFor, rulesFor, budgetOf}
+use Rattle.problem.specs.declared.net.Net.{Net}
+use Rattle.problem.specs.Problem.{rulesFor}
+use Rattle.table.specs.Problem.{planFor, netRules, budgetOf}
 use Rattle.problem.proofs.Sizes.{cells-are}
 use Rattle.problem.proofs.Wires.{in-order, sides, linked, across, along}
 use Rattle.choice.specs.declared.State.{State}
@@ -28,7 +31,10 @@ use Rattle.choice.specs.Choice.{ChooseAsks, Goes, FirstVisit, ChosenAmon
 use Rattle.choice.specs.Codes.{TryAsks}
 use Rattle.choice.proofs.Visits.{goes-linked}
 
-module _ (p : Problem) (marks words : List ℕ) (from : State) (asks : ChooseAsks p marks words from) where
+module _ (net : Net) (marks : List ℕ) (exits : ℕ) (words : List ℕ) (from : State) (asks : ChooseAsks net marks exits words from) where
+  abbrev p : Problem
+  p = net .problem
+
   abbrev P : Plan
   P = planFor p marks
 
@@ -36,10 +42,10 @@ module _ (p : Problem) (marks words : List ℕ) (from : State) (asks : ChooseAsk
   n = length marks
 
   abbrev R : Rules
-  R = rulesFor p marks
+  R = netRules net marks
 
   abbrev m : ℕ → Labels
-  m = labelsFor n words
+  m = labelsFor n exits words
 
   abbrev A : Table
   A = budgetOf n words
@@ -54,23 +60,41 @@ module _ (p : Problem) (marks words : List ℕ) (from : State) (asks : ChooseAsk
   inPlan = asks .inRange .inPlan
 
   order : Ascending (cells P) (from .cell) near
-  order = in-order p marks (asks .ready) (from .cell) inPlan
+  order = in-order p marks (asks .ready .ready) (from .cell) inPlan
 
-  side-asks : (c : ℕ) (wire : Wire) → IsNeighbour P (from .cell) c → c ≤ cells P → WireInRange wire → (c < n → R .wire (from .cell) c ≡ wire) → TryAsks p marks words from c wire
+  -- the wires are those of the problem
+
+  joins : (c : ℕ) → IsNeighbour P (from .cell) c → c < n → T (R .linked (from .cell) c)
+  unfolding netRules rulesBetween rulesFor rulesOf
+  joins c s h = linked p marks (asks .ready .ready) (from .cell) inPlan c s h
+
+  joined-side : (c : ℕ) → T (R .linked (from .cell) c) → IsNeighbour P (from .cell) c
+  unfolding netRules rulesBetween rulesFor rulesOf
+  joined-side c t = sides p marks (asks .ready .ready) (from .cell) inPlan c t
+
+  wire-across : (c : ℕ) → (c ≡ near .left) ⊎ (c ≡ near .right) → c < n → R .wire (from .cell) c ≡ e .horizontal
+  unfolding netRules rulesBetween rulesFor rulesOf
+  wire-across c s h = across p marks (asks .ready .ready) (from .cell) inPlan c s h
+
+  wire-along : (c : ℕ) → (c ≡ near .up) ⊎ (c ≡ near .down) → c < n → R .wire (from .cell) c ≡ e .vertical
+  unfolding netRules rulesBetween rulesFor rulesOf
+  wire-along c s h = along p marks (asks .ready .ready) (from .cell) inPlan c s h
+
+  side-asks : (c : ℕ) (wire : Wire) → IsNeighbour P (from .cell) c → c ≤ cells P → WireInRange wire → (c < n → R .wire (from .cell) c ≡ wire) → TryAsks net marks exits words from c wire
   side-asks c wire s h w q =
-      record { asks = asks; within = omega (arith, cells-are p marks (asks .ready)); joined = linked p marks (asks .ready) (from .cell) inPlan c s; same = q; wireFits = w }
+      record { asks = asks; within = omega (arith, cells-are p marks (asks .ready .ready)); joined = joins c s; same = q; wireFits = w }
 
-  pub up-asks : TryAsks p marks words from (near .up) (e .vertical)
-  up-asks = side-asks (near .up) (e .vertical) (inl refl) (order .up-most) (asks .ready .valid .vertical) (along p marks (asks .ready) (from .cell) inPlan (near .up) (inl refl))
+  pub up-asks : TryAsks net marks exits words from (near .up) (e .vertical)
+  up-asks = side-asks (near .up) (e .vertical) (inl refl) (order .up-most) (asks .ready .ready .valid .vertical) (wire-along (near .up) (inl refl))
 
-  pub left-asks : TryAsks p marks words from (near .left) (e .horizontal)
-  left-asks = side-asks (near .left) (e .horizontal) (inr (inl refl)) (order .left-most) (asks .ready .valid .horizontal) (across p marks (asks .ready) (from .cell) inPlan (near .left) (inl refl))
+  pub left-asks : TryAsks net marks exits words from (near .left) (e .horizontal)
+  left-asks = side-asks (near .left) (e .horizontal) (inr (inl refl)) (order .left-most) (asks .ready .ready .valid .horizontal) (wire-across (near .left) (inl refl))
 
-  pub right-asks : TryAsks p marks words from (near .right) (e .horizontal)
-  right-asks = side-asks (near .right) (e .horizontal) (inr (inr (inl refl))) (order .right-most) (asks .ready .valid .horizontal) (across p marks (asks .ready) (from .cell) inPlan (near .right) (inr refl))
+  pub right-asks : TryAsks net marks exits words from (near .right) (e .horizontal)
+  right-asks = side-asks (near .right) (e .horizontal) (inr (inr (inl refl))) (order .right-most) (asks .ready .ready .valid .horizontal) (wire-across (near .right) (inr refl))
 
-  pub down-asks : TryAsks p marks words from (near .down) (e .vertical)
-  down-asks = side-asks (near .down) (e .vertical) (inr (inr (inr refl))) (order .down-most) (asks .ready .valid .vertical) (along p marks (asks .ready) (from .cell) inPlan (near .down) (inr refl))
+  pub down-asks : TryAsks net marks exits words from (near .down) (e .vertical)
+  down-asks = side-asks (near .down) (e .vertical) (inr (inr (inr refl))) (order .down-most) (asks .ready .ready .valid .vertical) (wire-along (near .down) (inr refl))
 
   -- one side
 
@@ -101,11 +125,12 @@ module _ (p : Problem) (marks words : List ℕ) (from : State) (asks : ChooseAsk
         weight = x .weight;
         steps = x .steps;
         slack = x .slack;
+        side = x .side;
         inRange = x .inRange;
       })
     where
       first : (c a : ℕ) → T (R .linked (from .cell) c) → a ≤ fifoCode → Before c a (to .cell) code → Goes R m A from c a → ⊥
-      first c a l h (inl b) t = none (omega (arith, x .among, x .inRange .inPlan, cells-are p marks (asks .ready))) c (omega (arith, x .among)) (sides p marks (asks .ready) (from .cell) inPlan c l) a h t
+      first c a l h (inl b) t = none (omega (arith, x .among, x .inRange .inPlan, cells-are p marks (asks .ready .ready))) c (omega (arith, x .among)) (joined-side c l) a h t
       first c a l h (inr b) t = x .isFirst c a (omega (arith, x .among)) h (inr b) t
 
   -- the sides in their order
@@ -147,7 +172,7 @@ module _ (p : Problem) (marks words : List ℕ) (from : State) (asks : ChooseAsk
           none h c k (inr (inl q)) = rw q left
           none h c k (inr (inr (inl q))) = rw q right
           none h c k (inr (inr (inr q))) = absurd (omega arith)
-      down-last right Choice.Nothing (ChosenAmong.nothing f) = ChosenAmong.nothing (λ c a l. none c (sides p marks (asks .ready) (from .cell) inPlan c l) a)
+      down-last right Choice.Nothing (ChosenAmong.nothing f) = ChosenAmong.nothing (λ c a l. none c (joined-side c l) a)
         where
           none : (c : ℕ) → IsNeighbour P (from .cell) c → Empty c
           none c (inl q) = rw q up

@@ -7,24 +7,27 @@ use lib.Dec.{T, eqb, leb, ltb}
 use lib.IntN.{ℤ}
 use lib.ListN.{length}
 use Rattle.timing.specs.declared.elements.Wire.{Wire}
+use Rattle.timing.specs.declared.elements.Register.{Register}
 use Rattle.timing.specs.declared.elements.Elements.{Elements}
-use Rattle.timing.specs.Ranges.{loadMax}
+use Rattle.timing.specs.Ranges.{loadMax, periodMax}
 use Rattle.timing.specs.Formulas.{gateDelay, bufferDriver, bufferLoad, registerDriver, registerLoad, setupDelay}
 use Rattle.timing.specs.Slack.{slackOf, smaller}
-use Rattle.timing.specs.Elements.{WireInRange}
+use Rattle.timing.specs.Elements.{WireInRange, RegisterInRange}
 use Rattle.timing.specs.Valid.{Valid}
-use Rattle.rules.specs.Rules.{Rules, noGate, fifoCode, isClosing}
+use Rattle.rules.specs.Rules.{Rules, noGate, registerCode, fifoCode, isClosing, sideAfter}
 use Rattle.rules.specs.Legal.{mayStand}
+use Rattle.rules.specs.Crossing.{gateFor, periodOn}
 use Rattle.budget.specs.Table.{Table, bufferCost, loadOf, closeCost}
 use Rattle.budget.specs.Done.{Labels}
 use Rattle.budget.specs.Emission.{exactSeed}
-use Rattle.costs.specs.Costs.{rowWords}
+use Rattle.costs.specs.Costs.{rowWords, bufferAt}
+use Rattle.layout.specs.Layout.{asideAt}
 use Rattle.rows.specs.Rows.{viewOf}
-use Rattle.problem.specs.declared.Problem.{Problem}
-use Rattle.table.specs.Problem.{rulesFor, Ready, Room}
-use Rattle.costs.specs.Costs.{bufferAt}
+use Rattle.problem.specs.declared.net.Net.{Net}
+use Rattle.problem.specs.Net.{weightOn}
+use Rattle.table.specs.Problem.{netRules, NetReady, Room}
 use Rattle.choice.specs.declared.State.{State}
-use Rattle.choice.specs.Choice.{delayMost, ChooseAsks}
+use Rattle.choice.specs.Choice.{delayMost, sidesMost, ChooseAsks}
 
 -- the largest delay on arrival: one step of wire more, 255 · (2 · 63 + 63) half-ticks
 abbrev pub arrivalMost : ℕ
@@ -37,27 +40,39 @@ pub record RowAsks (e : Elements) (words : List ℕ) (at : State) : Type 0 where
   pub light : at .load .0 ≤ loadMax
   pub early : at .delay .0 ≤ arrivalMost
 
-pub record CodeAsks (p : Problem) (marks words : List ℕ) (at : State) : Type 0 where
-  pub ready : Ready p marks
+-- a cell of the plan, and the words have room for the sets of labels: of registers, and of so many FIFOs
+pub record SeedAsks (n exits : ℕ) (words : List ℕ) (at : State) : Type 0 where
+  pub small : n ≤ 1024
+  pub room : Room n words
+  pub exitsIn : 0 < exits → n * asideAt ≤ length words
+  pub inPlan : at .cell < n
+
+pub record CodeAsks (net : Net) (marks : List ℕ) (exits : ℕ) (words : List ℕ) (at : State) : Type 0 where
+  pub ready : NetReady net marks
   pub room : Room (length marks) words
+  pub exitsIn : 0 < exits → length marks * asideAt ≤ length words
   pub inPlan : at .cell < length marks
   pub light : at .load .0 ≤ loadMax
   pub early : at .delay .0 ≤ arrivalMost
 
 -- the neighbour's number, which is the number of cells where there is none, and the wire to it
-pub record TryAsks (p : Problem) (marks words : List ℕ) (from : State) (cell : ℕ) (wire : Wire) : Type 0 where
-  pub asks : ChooseAsks p marks words from
+pub record TryAsks (net : Net) (marks : List ℕ) (exits : ℕ) (words : List ℕ) (from : State) (cell : ℕ) (wire : Wire) : Type 0 where
+  pub asks : ChooseAsks net marks exits words from
   pub within : cell ≤ length marks
-  pub joined : cell < length marks → T (rulesFor p marks .linked (from .cell) cell)
-  pub same : cell < length marks → rulesFor p marks .wire (from .cell) cell ≡ wire
+  pub joined : cell < length marks → T (netRules net marks .linked (from .cell) cell)
+  pub same : cell < length marks → netRules net marks .wire (from .cell) cell ≡ wire
   pub wireFits : WireInRange wire
+
+-- these labels, of gates of one code, have one at the cell with the weight to go and no more than the steps to go
+abbrev pub seedIn : Labels → State → Bool
+seedIn m at = exactSeed (λ code. m) (at .weight) (at .steps) registerCode (at .cell)
 
 -- what `goesOn` asks of the code, once the wire is passed
 unfoldable pub goesAt : Rules → (ℕ → Labels) → Table → State → ℕ → Bool
 goesAt R m A at code =
     cond (eqb code noGate) (mayStand R (at .cell) noGate && ltb (at .delay .0) (A (at .cell) (at .load .0)))
     (cond (isClosing code)
-    (exactSeed m (at .weight) (at .steps) code (at .cell) && ltb (at .delay .0 + closeCost R (at .cell) code (at .load .0)) (R .bound 0 0))
+    (exactSeed m (at .weight) (at .steps) code (at .cell) && ltb (at .delay .0 + closeCost R (at .cell) code (at .load .0)) (R .bound 0 (at .side)))
     (mayStand R (at .cell) code
     && leb (loadOf R code) (R .limit)
     && ltb (at .delay .0 + bufferCost R code (at .load .0)) (A (at .cell) (loadOf R code))))
@@ -81,30 +96,56 @@ pub record FirstBuffer (words : List ℕ) (e : Elements) (at : State) (r : ℕ) 
   pub found : r < e .count → T (drives words e at r)
   pub isFirst : (i : ℕ) → i < r → T (drives words e at i) → ⊥
 
+-- what closes a span with this code, and the period of the current span
+
+abbrev pub gateAt : Net → ℕ → Register
+gateAt net code = gateFor (net .problem .elements) (net .clocks) code
+
+abbrev pub periodAt : Net → State → ℕ
+periodAt net at = periodOn (net .problem .elements) (net .clocks) (at .side)
+
+-- before a gate: checked tables, and a state on arrival in range
+pub record LeaveAsks (net : Net) (at : State) (code : ℕ) : Type 0 where
+  pub valid : Valid (net .problem .elements)
+  pub gate : RegisterInRange (gateAt net code)
+  pub period : periodAt net at ≤ periodMax
+  pub light : at .load .0 ≤ loadMax
+  pub early : at .delay .0 ≤ arrivalMost
+  pub few : at .side ≤ sidesMost
+  pub small : code ≤ fifoCode
+
+-- the spare figure of a span that closes here with this code
+abbrev pub slackWith : Net → State → ℕ → ℤ
+slackWith net at code =
+    slackOf (2 * periodAt net at) (at .delay .0 + gateDelay (registerDriver (gateAt net code)) (at .load .0))
+
 -- the load and the delay after the gate with this code
-unfoldable pub leftLoad : Elements → State → ℕ → ℕ
-leftLoad e at code =
-    cond (eqb code noGate) (at .load .0) (cond (isClosing code) (registerLoad (e .register)) (bufferLoad (bufferAt e (code - 1))))
+unfoldable pub leftLoad : Net → State → ℕ → ℕ
+leftLoad net at code =
+    cond (eqb code noGate) (at .load .0)
+    (cond (isClosing code) (registerLoad (gateAt net code)) (bufferLoad (bufferAt (net .problem .elements) (code - 1))))
 
-unfoldable pub leftDelay : Elements → State → ℕ → ℕ
-leftDelay e at code =
+unfoldable pub leftDelay : Net → State → ℕ → ℕ
+leftDelay net at code =
     cond (eqb code noGate) (at .delay .0)
-    (cond (isClosing code) (setupDelay (e .register)) (at .delay .0 + gateDelay (bufferDriver (bufferAt e (code - 1))) (at .load .0)))
+    (cond (isClosing code) (setupDelay (gateAt net code))
+    (at .delay .0 + gateDelay (bufferDriver (bufferAt (net .problem .elements) (code - 1))) (at .load .0)))
 
--- the weight to go after it: with one clock every span weighs 1
-unfoldable pub leftWeight : State → ℕ → ℕ
-leftWeight at code = cond (isClosing code) (at .weight - 1) (at .weight)
+-- the weight to go after it: after a close the next span is the current one
+unfoldable pub leftWeight : Net → State → ℕ → ℕ
+leftWeight net at code =
+    cond (isClosing code) (at .weight - weightOn (net .problem .elements) (net .clocks) (sideAfter (at .side) code)) (at .weight)
 
 -- the smallest spare figure after it
-unfoldable pub leftSlack : Elements → State → ℕ → ℤ
-leftSlack e at code =
-    cond (isClosing code) (smaller (at .slack) (slackOf (2 * e .period) (at .delay .0 + gateDelay (registerDriver (e .register)) (at .load .0)))) (at .slack)
+unfoldable pub leftSlack : Net → State → ℕ → ℤ
+leftSlack net at code = cond (isClosing code) (smaller (at .slack) (slackWith net at code)) (at .slack)
 
 -- `to` is the state after the gate
-pub record Left (e : Elements) (at : State) (code : ℕ) (to : State) : Type 0 where
+pub record Left (net : Net) (at : State) (code : ℕ) (to : State) : Type 0 where
   pub cell : to .cell ≡ at .cell
-  pub load : to .load .0 ≡ leftLoad e at code
-  pub delay : to .delay .0 ≡ leftDelay e at code
-  pub weight : to .weight ≡ leftWeight at code
+  pub load : to .load .0 ≡ leftLoad net at code
+  pub delay : to .delay .0 ≡ leftDelay net at code
+  pub weight : to .weight ≡ leftWeight net at code
   pub steps : to .steps ≡ at .steps
-  pub slack : to .slack ≡ leftSlack e at code
+  pub slack : to .slack ≡ leftSlack net at code
+  pub side : to .side ≡ sideAfter (at .side) code

@@ -9,15 +9,16 @@ use Rattle.timing.specs.declared.elements.Wire.{Wire}
 use Rattle.timing.specs.declared.elements.Driver.{Driver}
 use Rattle.timing.specs.declared.elements.Buffer.{Buffer}
 use Rattle.timing.specs.declared.elements.Elements.{Elements}
+use Rattle.timing.specs.declared.elements.Register.{Register}
 use Rattle.timing.specs.Elements.{bufferOf}
 use Rattle.timing.specs.Formulas.{wireDelay, wireLoad, gateDelay, bufferDriver, registerDriver}
 
 abbrev pub rowWords : ℕ
 rowWords = 64
 
--- ten rows
+-- eleven rows
 abbrev pub costWords : ℕ
-costWords = 640
+costWords = 704
 
 -- no word is above it
 abbrev pub wordMost : ℕ
@@ -66,6 +67,9 @@ verticalAt = 192
 abbrev pub buffersAt : ℕ → ℕ
 buffersAt i = 256 + i * 64
 
+abbrev pub fifoAt : ℕ
+fifoAt = 640
+
 -- the rows of the first n buffers
 abbrev pub BufferRows : Elements → ℕ → List ℕ → Type 0
 BufferRows e n rows = (i : ℕ) → i < n → RowAt (gateCost (bufferDriver (bufferAt e i)) (e .limit .0)) (buffersAt i) rows
@@ -76,10 +80,11 @@ pub record BuffersPut (e : Elements) (n : ℕ) (old new : List ℕ) : Type 0 whe
   pub done : BufferRows e n new
   pub low : (k : ℕ) → k < buffersAt 0 → getD new k 0 ≡ getD old k 0
 
--- the rows of all elements
-pub record CostsOf (e : Elements) (rows : List ℕ) : Type 0 where
+-- the rows of all elements, and of the FIFO
+pub record CostsOf (e : Elements) (gate : Register) (rows : List ℕ) : Type 0 where
   pub none : RowAt (limitCost (e .limit .0)) noneAt rows
   pub register : RowAt (gateCost (registerDriver (e .register)) (e .limit .0)) registerAt rows
   pub horizontal : RowAt (stepCost (e .horizontal) (e .limit .0)) horizontalAt rows
   pub vertical : RowAt (stepCost (e .vertical) (e .limit .0)) verticalAt rows
   pub buffers : BufferRows e (e .count) rows
+  pub fifo : RowAt (gateCost (registerDriver gate) (e .limit .0)) fifoAt rows

@@ -3,21 +3,22 @@
 ghost use Prim.Native.Nat.{_+_, _≤_};
 ghost use mathlib.Core.Path.{_≡_};
 ghost use lib.ListN.{length};
-ghost use Rattle.timing.specs.Elements.{WireInRange, DriverInRange};
+ghost use Rattle.timing.specs.Elements.{WireInRange, DriverInRange, RegisterInRange};
 ghost use Rattle.timing.specs.Valid.{Valid};
 ghost use Rattle.costs.specs.Costs.{rowWords, costWords, limitCost, gateCost, stepCost, Row, RowStored, BuffersPut, CostsOf};
 use timing::Driver;
 use timing::Elements;
 use timing::Load;
+use timing::Register;
 use timing::Wire;
 
 // Words of a row.
 pub const ROW: usize = 64;
 
-// Words of the ten rows.
-pub const COSTS: usize = 640;
+// Words of the eleven rows.
+pub const COSTS: usize = 704;
 
-// Where the rows start: no gate, a register, a step of each wire, the listed buffers.
+// Where the rows start: no gate, a register, a step of each wire, the listed buffers, the FIFO between two clocks.
 pub const NONE: usize = 0;
 
 pub const REGISTER: usize = 64;
@@ -27,6 +28,8 @@ pub const HORIZONTAL: usize = 128;
 pub const VERTICAL: usize = 192;
 
 pub const BUFFERS: usize = 256;
+
+pub const FIFO: usize = 640;
 
 // No word is above it.
 const ALL: u16 = 65535;
@@ -108,15 +111,16 @@ fn put_buffers(rows: [u16; COSTS], e: Elements) -> [u16; COSTS]
     all
 }
 
-// The rows of all elements.
-pub fn costs_of(e: Elements) -> [u16; COSTS]
-    requires { ⌜ Valid e ⌝ }
-    ensures { λ r. ⌜ CostsOf e r ⌝ }
+// The rows of all elements, and of the FIFO; with one clock the register stands in its place.
+pub fn costs_of(e: Elements, fifo: Register) -> [u16; COSTS]
+    requires { ⌜ Valid e × RegisterInRange fifo ⌝ }
+    ensures { λ r. ⌜ CostsOf e fifo r ⌝ }
 {
     let limit = e.limit.0 as usize;
     let none = put_row([0u16; COSTS], NONE, limit_row(limit));
     let register = put_row(none, REGISTER, gate_row(e.register.driver(), limit));
     let horizontal = put_row(register, HORIZONTAL, step_row(e.horizontal, limit));
     let vertical = put_row(horizontal, VERTICAL, step_row(e.vertical, limit));
-    put_buffers(vertical, e)
+    let buffers = put_buffers(vertical, e);
+    put_row(buffers, FIFO, gate_row(fifo.driver(), limit))
 }

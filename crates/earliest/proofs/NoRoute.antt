@@ -23,7 +23,7 @@ use Rattle.costs.specs.Costs.{rowWords}
 use Rattle.rows.specs.Rows.{viewOf}
 use Rattle.problem.specs.declared.Problem.{Problem}
 use Rattle.problem.proofs.Sizes.{cells-are}
-use Rattle.table.specs.Problem.{planFor, rulesFor}
+use Rattle.problem.specs.Problem.{planFor, rulesFor}
 use Rattle.queue.specs.Queue.{placeOf, Waits}
 use Rattle.delays.specs.Delays.{never, latest, closesOf, Idle, NextClose, NoneBefore}
 use Rattle.spans.specs.Opens.{MayClose, rulesAt}

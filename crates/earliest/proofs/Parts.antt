@@ -20,7 +20,8 @@ use Rattle.rows.specs.Words.{Filled, KeptFrom}
 use Rattle.rows.specs.Rows.{viewOf}
 use Rattle.problem.specs.declared.Problem.{Problem}
 use Rattle.problem.proofs.Sizes.{few-cells}
-use Rattle.table.specs.Problem.{rulesFor, Ready, Room}
+use Rattle.problem.specs.Problem.{rulesFor, Ready}
+use Rattle.table.specs.Problem.{Room}
 use Rattle.queue.specs.Queue.{Space, Left}
 use Rattle.delays.proofs.Waiting.{queue-kept, waits-kept}
 use Rattle.delays.specs.Delays.{never, latest, closesOf, ClosesAt, Eased, Lines}

@@ -14,7 +14,8 @@ use Rattle.costs.specs.Costs.{rowWords}
 use Rattle.layout.specs.Layout.{closesAt}
 use Rattle.rows.specs.Rows.{viewOf}
 use Rattle.problem.specs.declared.Problem.{Problem}
-use Rattle.table.specs.Problem.{rulesFor, Ready, Room}
+use Rattle.problem.specs.Problem.{rulesFor, Ready}
+use Rattle.table.specs.Problem.{Room}
 use Rattle.plan.proofs.Joined.{joined-in}
 use Rattle.problem.proofs.Sizes.{cells-are}
 use Rattle.rules.specs.Rules.{rulesOf}
@@ -25,7 +26,7 @@ use Rattle.spans.specs.Eases.{WaitsBelow, StartedAt, Eases}
 use Rattle.spans.specs.Spread.{Spread, SpreadOut}
 use Rattle.spans.proofs.Opens.{shuts-later}
 use Rattle.spans.proofs.Eases.{spread-kept}
-use Rattle.table.proofs.Views.{limit-named}
+use Rattle.spans.proofs.Named.{limit-named}
 use lib.Dec.{T}
 use Rattle.earliest.specs.Earliest.{Handled, Going, Closed, Passing}
 

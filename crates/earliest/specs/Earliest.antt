@@ -11,7 +11,7 @@ use Rattle.layout.specs.Layout.{closesAt, cellWords}
 use Rattle.rows.specs.Words.{KeptFrom}
 use Rattle.rows.specs.Rows.{viewOf}
 use Rattle.problem.specs.declared.Problem.{Problem}
-use Rattle.table.specs.Problem.{rulesFor}
+use Rattle.problem.specs.Problem.{rulesFor}
 use Rattle.queue.specs.Queue.{Waits}
 use Rattle.delays.specs.Delays.{never, latest, closesOf, NextClose, NoneBefore}
 use Rattle.spans.specs.Opens.{rulesAt, Opens, Shuts}

@@ -26,16 +26,16 @@ leave-after R c n l d code = go (eqb code noGate) (isClosing code)
     go false true = refl
     go false false = refl
 
--- every span has the bound of the first
+-- every span of a side has the bound of the first
 steady-after : (R : Rules) → Lawful R → (span : ℕ) (at : State) (least : ℤ) (v : Visit) → slackAfter R (placeAt at) least v ≡ slackAfter R (placeIn span at) least v
 unfolding slackAfter slackAt
-steady-after R law span at least v = rw (law .steady span 0)
+steady-after R law span at least v = rw (law .steady span (at .side))
 
-module _ (R : Rules) (law : Lawful R) (at to : State) (code span : ℕ) (load : to .load .0 ≡ afterLoad R (at .cell) (to .cell) (at .load .0) code) (side : sideAfter 0 code ≡ 0) (delay : to .delay .0 ≡ afterDelay R (at .cell) (to .cell) (at .load .0) (at .delay .0) code) (slack : to .slack ≡ slackAfter R (placeAt at) (at .slack) (visit (to .cell) code)) where
+module _ (R : Rules) (law : Lawful R) (at to : State) (code span : ℕ) (load : to .load .0 ≡ afterLoad R (at .cell) (to .cell) (at .load .0) code) (side : to .side ≡ sideAfter (at .side) code) (delay : to .delay .0 ≡ afterDelay R (at .cell) (to .cell) (at .load .0) (at .delay .0) code) (slack : to .slack ≡ slackAfter R (placeAt at) (at .slack) (visit (to .cell) code)) where
   place-next : nextPlace R (placeIn span at) (visit (to .cell) code) ≡ placeIn (spanAfter span (visit (to .cell) code)) to
   unfolding nextPlace
   place-next =
-      ap₂ (λ (f : ℕ) (s : Stage). record { cell = to .cell; span = spanAfter span (visit (to .cell) code); fifos = f; stage = s }) side (leave-after R (at .cell) (to .cell) (at .load .0) (at .delay .0) code ∙ sym same)
+      ap₂ (λ (f : ℕ) (s : Stage). record { cell = to .cell; span = spanAfter span (visit (to .cell) code); fifos = f; stage = s }) (sym side) (leave-after R (at .cell) (to .cell) (at .load .0) (at .delay .0) code ∙ sym same)
     where
       same : stage (to .load .0) (to .delay .0) ≡ stage (afterLoad R (at .cell) (to .cell) (at .load .0) code) (afterDelay R (at .cell) (to .cell) (at .load .0) (at .delay .0) code)
       same = λ i. record { load = load i; delay = delay i }

@@ -7,10 +7,9 @@ use mathlib.Core.List.{List}
 use native.Mathlib.Omega.{arith}
 use lib.Dec.{T, T-not}
 use lib.ListN.{getD}
-use Rattle.rules.specs.Rules.{Rules, registerCode, sideAfter}
+use Rattle.rules.specs.Rules.{Rules, registerCode, isClosing, sideAfter}
 use Rattle.rules.specs.Legal.{mayStand}
 use Rattle.plan.proofs.Truth.{split, equal, decided}
-use Rattle.rules.proofs.View.{register-closing, side-same}
 use Rattle.budget.specs.Done.{Open, After}
 use Rattle.budget.specs.Table.{Represents}
 use Rattle.budget.specs.Search.{Relabelled}
@@ -36,9 +35,9 @@ module _ {n set cell weight steps count : ℕ} {old new : List ℕ} (unlabelled 
       go (inl e) = e
       go (inr e) = absurd (f (added-known a c t e))
 
-module _ {R : Rules} {n set weight steps : ℕ} where
+module _ {R : Rules} {n code set weight steps : ℕ} where
   -- no label, where each tried cell has one or may have none
-  pub labels-none : (tried : ℕ → Type 0) (words : List ℕ) (count : ℕ) → Ordered n set words count → ((c : ℕ) → tried c → T (mayStand R c registerCode) → R .fresh registerCode .delay < budgetOf n words c (R .fresh registerCode .load) → T (knownOf n set words c)) → LabelsAddedAmong R n set tried weight steps words words count count
+  pub labels-none : (tried : ℕ → Type 0) (words : List ℕ) (count : ℕ) → Ordered n set words count → ((c : ℕ) → tried c → T (mayStand R c code) → R .fresh code .delay < budgetOf n words c (R .fresh code .load) → T (knownOf n set words c)) → LabelsAddedAmong R n code set tried weight steps words words count count
   labels-none tried words count o every =
       record {
         same = refl;
@@ -54,7 +53,7 @@ module _ {R : Rules} {n set weight steps : ℕ} where
       }
 
   -- one label
-  pub labels-one : {cell count : ℕ} {old new : List ℕ} → knownOf n set old cell ≡ false → T (mayStand R cell registerCode) → R .fresh registerCode .delay < budgetOf n old cell (R .fresh registerCode .load) → LabelAdded n set cell weight steps count old new → LabelsAddedAmong R n set (λ c. c ≡ cell) weight steps old new count (count + 1)
+  pub labels-one : {cell count : ℕ} {old new : List ℕ} → knownOf n set old cell ≡ false → T (mayStand R cell code) → R .fresh code .delay < budgetOf n old cell (R .fresh code .load) → LabelAdded n set cell weight steps count old new → LabelsAddedAmong R n code set (λ c. c ≡ cell) weight steps old new count (count + 1)
   labels-one {cell} {count} {old} {new} u stands inTable a =
       record {
         same = a .same;
@@ -74,18 +73,18 @@ module _ {R : Rules} {n set weight steps : ℕ} where
       }
 
   -- more labels after labels
-  module _ {A B : ℕ → Type 0} {old mid new : List ℕ} {count middle next : ℕ} (a : LabelsAddedAmong R n set A weight steps old mid count middle) (b : LabelsAddedAmong R n set B weight steps mid new middle next) (past : n * rowWords ≤ set) where
+  module _ {A B : ℕ → Type 0} {old mid new : List ℕ} {count middle next : ℕ} (a : LabelsAddedAmong R n code set A weight steps old mid count middle) (b : LabelsAddedAmong R n code set B weight steps mid new middle next) (past : n * rowWords ≤ set) where
     same-budget : (c l : ℕ) → budgetOf n mid c l ≡ budgetOf n old c l
     same-budget = budget-kept n old mid (λ k h j. a .low k (omega arith))
 
-    both-added : (c : ℕ) → T (knownOf n set new c) → (T (knownOf n set old c) → ⊥) → T (knownOf n set mid c) ⊎ T (not (knownOf n set mid c)) → T (mayStand R c registerCode) × ((R .fresh registerCode .delay < budgetOf n old c (R .fresh registerCode .load)) × ((weightOf n set new c ≡ weight) × (stepsOf n set new c ≡ steps)))
+    both-added : (c : ℕ) → T (knownOf n set new c) → (T (knownOf n set old c) → ⊥) → T (knownOf n set mid c) ⊎ T (not (knownOf n set mid c)) → T (mayStand R c code) × ((R .fresh code .delay < budgetOf n old c (R .fresh code .load)) × ((weightOf n set new c ≡ weight) × (stepsOf n set new c ≡ steps)))
     both-added c t f (inl k) =
         let d = a .added c k f in
         let e = b .kept c k in
         (d .0, (d .1 .0, (e .1 .0 ∙ d .1 .1 .0, e .1 .1 ∙ d .1 .1 .1)))
     both-added c t f (inr k) =
         let d = b .added c t (T-not (knownOf n set mid c) k) in
-        (d .0, (omega (arith, same-budget c (R .fresh registerCode .load), d .1 .0), d .1 .1))
+        (d .0, (omega (arith, same-budget c (R .fresh code .load), d .1 .0), d .1 .1))
 
     both-fresh : (i : ℕ) → count ≤ i → i < next → (middle ≤ i) ⊎ (i < middle) → (weightOf n set new (orderOf n set new i) ≡ weight) × (stepsOf n set new (orderOf n set new i) ≡ steps)
     both-fresh i h k (inl q) = b .fresh i q k
@@ -94,7 +93,7 @@ module _ {R : Rules} {n set weight steps : ℕ} where
         let e = b .kept (orderOf n set mid i) (a .ordered .known i q) in
         rw (b .earlier i q) (e .1 .0 ∙ d .0, e .1 .1 ∙ d .1)
 
-    pub labels-join : (C : ℕ → Type 0) → ((c : ℕ) → C c → A c ⊎ B c) → LabelsAddedAmong R n set C weight steps old new count next
+    pub labels-join : (C : ℕ → Type 0) → ((c : ℕ) → C c → A c ⊎ B c) → LabelsAddedAmong R n code set C weight steps old new count next
     labels-join C cases =
         record {
           same = b .same ∙ a .same;
@@ -113,12 +112,12 @@ module _ {R : Rules} {n set weight steps : ℕ} where
           every = λ c h t s f. some c h s f (cases c t);
         }
       where
-        some : (c : ℕ) → c < n → T (mayStand R c registerCode) → R .fresh registerCode .delay < budgetOf n old c (R .fresh registerCode .load) → A c ⊎ B c → T (knownOf n set new c)
+        some : (c : ℕ) → c < n → T (mayStand R c code) → R .fresh code .delay < budgetOf n old c (R .fresh code .load) → A c ⊎ B c → T (knownOf n set new c)
         some c h s f (inl t) = b .kept c (a .every c h t s f) .0
-        some c h s f (inr t) = b .every c h t s (omega (arith, same-budget c (R .fresh registerCode .load)))
+        some c h s f (inr t) = b .every c h t s (omega (arith, same-budget c (R .fresh code .load)))
 
-  module _ {A : ℕ → Type 0} {old new : List ℕ} {count next : ℕ} (a : LabelsAddedAmong R n set A weight steps old new count next) where
-    pub labels-among : (B : ℕ → Type 0) → ((c : ℕ) → c < n → B c → A c) → LabelsAddedAmong R n set B weight steps old new count next
+  module _ {A : ℕ → Type 0} {old new : List ℕ} {count next : ℕ} (a : LabelsAddedAmong R n code set A weight steps old new count next) where
+    pub labels-among : (B : ℕ → Type 0) → ((c : ℕ) → c < n → B c → A c) → LabelsAddedAmong R n code set B weight steps old new count next
     labels-among B f =
         record {
           same = a .same;
@@ -142,42 +141,38 @@ module _ {R : Rules} {n set weight steps : ℕ} where
         go (inr k) = let d = a .added c t (T-not (knownOf n set old c) k) in rw (d .1 .1 .0, d .1 .1 .1) (inr (refl, omega arith))
 
 -- the loop: after the first i cells of the list, one more
-module _ {R : Rules} {n set weight steps : ℕ} {old mid new : List ℕ} {i count middle next cell : ℕ} where
-  pub labels-more : n * rowWords ≤ set → getD mid (n * activeAt + i) 0 ≡ getD old (n * activeAt + i) 0 → LabelsAddedAmong R n set (ListedAt n old (n * activeAt) i) weight steps old mid count middle → getD mid (n * activeAt + i) 0 ≡ cell → LabelsAddedAmong R n set (λ c. c ≡ cell) weight steps mid new middle next → LabelsAddedAmong R n set (ListedAt n old (n * activeAt) (i + 1)) weight steps old new count next
+module _ {R : Rules} {n code set weight steps : ℕ} {old mid new : List ℕ} {i count middle next cell : ℕ} where
+  pub labels-more : n * rowWords ≤ set → getD mid (n * activeAt + i) 0 ≡ getD old (n * activeAt + i) 0 → LabelsAddedAmong R n code set (ListedAt n old (n * activeAt) i) weight steps old mid count middle → getD mid (n * activeAt + i) 0 ≡ cell → LabelsAddedAmong R n code set (λ c. c ≡ cell) weight steps mid new middle next → LabelsAddedAmong R n code set (ListedAt n old (n * activeAt) (i + 1)) weight steps old new count next
   labels-more past same a e b = labels-join a b past (ListedAt n old (n * activeAt) (i + 1)) (λ c p. go c p (equal (p .at) i))
     where
       go : (c : ℕ) → (p : ListedAt n old (n * activeAt) (i + 1) c) → (p .at ≡ i) ⊎ (p .at ≡ i → ⊥) → ListedAt n old (n * activeAt) i c ⊎ (c ≡ cell)
       go c p (inl q) = inr (sym (p .holds) ∙ ap (λ (j : ℕ). getD old (n * activeAt + j) 0) q ∙ sym same ∙ e)
       go c p (inr q) = inl (record { at = p .at; below = omega (arith, p .below); holds = p .holds })
 
--- The search's view, where a cell that is not listed has its label already: the table has what is done within weight k after the span and these steps.
-module _ {R : Rules} (f k : ℕ) {n set steps active : ℕ} {old new : List ℕ} {count next : ℕ} (list : Listed n old (n * activeAt) active) (a : LabelsAdded R n set (R .weight f + k) steps old new count next) (table : Represents (budgetOf n old) (Open R f k steps)) where
+-- The search's view, where a cell that is not listed has its label already: the table has what is done on side f within weight k after the span and these steps. The gates of this code that lead to that side come from side g: registers from the same, FIFOs from the one before.
+module _ {R : Rules} (f g k : ℕ) {n code set steps active : ℕ} {old new : List ℕ} {count next : ℕ} (closes : T (isClosing code)) (leads : sideAfter g code ≡ f) (list : Listed n old (n * activeAt) active) (a : LabelsAdded R n code set (R .weight f + k) steps old new count next) (table : Represents (budgetOf n old) (Open R f k steps)) where
   abbrev freshIn : ℕ → Type 0
-  freshIn c = R .fresh registerCode .delay < budgetOf n old c (R .fresh registerCode .load)
+  freshIn c = R .fresh code .delay < budgetOf n old c (R .fresh code .load)
 
-  -- a register leaves the side as it is
-  same-side : sideAfter f registerCode ≡ f
-  same-side = side-same f registerCode (λ z. omega arith)
-
-  pub labels-relabelled : ((c : ℕ) → c < n → flagOf n old c ≡ 0 → T (mayStand R c registerCode) → freshIn c → T (knownOf n set old c)) → (f ≡ R .fifos → T (knownOf n set old (R .source))) → Relabelled (After R f registerCode) (R .weight f + k) steps (labelsOf n set old) (labelsOf n set new)
+  pub labels-relabelled : ((c : ℕ) → c < n → flagOf n old c ≡ 0 → T (mayStand R c code) → freshIn c → T (knownOf n set old c)) → (code ≡ registerCode → g ≡ R .fifos → T (knownOf n set old (R .source))) → Relabelled (After R g code) (R .weight f + k) steps (labelsOf n set old) (labelsOf n set new)
   labels-relabelled quiet source =
       record {
         kept = a .kept;
         added =
             λ c t u.
             let d = a .added c t u in
-            (After.atGate (register-closing registerCode refl) (d .0) (rw same-side (table .sound c _ _ (d .1 .0))), d .1 .1);
+            (After.atGate closes (d .0) (rw leads (table .sound c _ _ (d .1 .0))), d .1 .1);
         every = λ c q. go c q;
       }
     where
-      listed : (c : ℕ) → c < n → T (mayStand R c registerCode) → freshIn c → (flagOf n old c ≡ 0) ⊎ (flagOf n old c ≡ 1) → T (knownOf n set new c)
+      listed : (c : ℕ) → c < n → T (mayStand R c code) → freshIn c → (flagOf n old c ≡ 0) ⊎ (flagOf n old c ≡ 1) → T (knownOf n set new c)
       listed c h s t (inl z) = a .kept c (quiet c h z s t) .0
       listed c h s t (inr o) = a .every c h o s t
 
-      inPlan : (c : ℕ) → T (mayStand R c registerCode) → freshIn c → ((c < n) × (R .fresh registerCode .load < rowWords)) ⊎ (c < n → R .fresh registerCode .load < rowWords → ⊥) → T (knownOf n set new c)
+      inPlan : (c : ℕ) → T (mayStand R c code) → freshIn c → ((c < n) × (R .fresh code .load < rowWords)) ⊎ (c < n → R .fresh code .load < rowWords → ⊥) → T (knownOf n set new c)
       inPlan c s t (inl h) = listed c (h .0) s t (bit-cases (flagOf n old c) (list .bits c (h .0)))
-      inPlan c s t (inr h) = absurd (omega (arith, budget-outside n old c (R .fresh registerCode .load) h))
+      inPlan c s t (inr h) = absurd (omega (arith, budget-outside n old c (R .fresh code .load) h))
 
-      go : (c : ℕ) → After R f registerCode (R .weight f + k) steps c → T (knownOf n set new c)
-      go c (After.atSource q r z) = rw z (a .kept (R .source) (source r) .0)
-      go c (After.atGate shut may x) = inPlan c may (table .complete c _ _ (rw same-side at x)) (inside n c (R .fresh registerCode .load))
+      go : (c : ℕ) → After R g code (R .weight f + k) steps c → T (knownOf n set new c)
+      go c (After.atSource q r z) = rw z (a .kept (R .source) (source q r) .0)
+      go c (After.atGate shut may x) = inPlan c may (table .complete c _ _ (rw leads at x)) (inside n c (R .fresh code .load))

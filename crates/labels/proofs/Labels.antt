@@ -1,18 +1,18 @@
 -- Laws of the labels in the scratch words and of their order.
 use Prim.Native.Nat.{ℕ, _+_, _*_, _≤_, _<_}
 use mathlib.Core.Path.{_≡_, refl, sym, ap, _∙_}
-use mathlib.Core.Bool.{Bool, true, false, not, cond}
+use mathlib.Core.Bool.{Bool, true, false, _&&_, not, cond}
 use mathlib.Core.Logic.{_⊎_, inl, inr}
 use mathlib.Core.List.{List}
 use native.Mathlib.Omega.{arith}
-use borrow.Author.Tests.{ne-eqb}
+use borrow.Author.Tests.{eq-eqb, ne-eqb, lt-ltb, le-ltb}
 use lib.Dec.{T, eqb, ltb, not-T}
 use lib.ListN.{length, getD}
-use Rattle.rules.specs.Rules.{Rules, registerCode}
+use Rattle.rules.specs.Rules.{Rules, registerCode, fifoCode}
 use Rattle.plan.proofs.Truth.{both, fst, snd, tests, split, equal, decided, is-true, is-false}
 use Rattle.budget.specs.Done.{NotAfter, Labels, Covers, After, Labelled}
 use Rattle.budget.specs.Search.{renewed}
-use Rattle.layout.specs.Layout.{labelsAt, weightHigh, stepsLow, stepsHigh, orderIn, labelWords, trailAt}
+use Rattle.layout.specs.Layout.{labelsAt, exitsAt, asideAt, weightHigh, stepsLow, stepsHigh, orderIn, labelWords, trailAt}
 use Rattle.lists.specs.Lists.{ListedAt}
 use Rattle.lists.proofs.Sums.{sum-same, sum-bound, sum-none, sum-more, sum-short}
 use Rattle.labels.specs.Labels.{knownOf, weightWord, weightOf, stepsOf, labelsOf, noLabels, labelsFor, orderOf, LabelBy, SetIn, Apart, one, Ordered, SameLabel, LabelAdded}
@@ -52,6 +52,42 @@ pub same-label : (n set : ℕ) (old new : List ℕ) (c : ℕ) → weightWord n s
 unfolding knownOf
 same-label n set old new c w s = record { known = rw w; weight = rw w; steps = s }
 
+-- the words of the labels have moved from one set to another
+module _ (n set set′ : ℕ) (old new : List ℕ) (moved : (i : ℕ) → i < n * orderIn → getD new (set′ + i) 0 ≡ getD old (set + i) 0) where
+  moved-at : (a b i : ℕ) → a ≡ set′ + i → b ≡ set + i → i < n * orderIn → getD new a 0 ≡ getD old b 0
+  moved-at a b i e d h = rw (e, d) (moved i h)
+
+  word-moved : (c : ℕ) → c < n → weightWord n set′ new c ≡ weightWord n set old c
+  word-moved c h =
+      rw (moved-at (set′ + c) (set + c) c (omega arith) (omega arith) (omega arith), moved-at (set′ + n * weightHigh + c) (set + n * weightHigh + c) (n * weightHigh + c) (omega arith) (omega arith) (omega arith))
+
+  steps-moved : (c : ℕ) → c < n → stepsOf n set′ new c ≡ stepsOf n set old c
+  steps-moved c h =
+      rw (moved-at (set′ + n * stepsLow + c) (set + n * stepsLow + c) (n * stepsLow + c) (omega arith) (omega arith) (omega arith), moved-at (set′ + n * stepsHigh + c) (set + n * stepsHigh + c) (n * stepsHigh + c) (omega arith) (omega arith) (omega arith))
+
+  known-moved : (c : ℕ) → knownOf n set′ new c ≡ knownOf n set old c
+  unfolding knownOf
+  known-moved c = go (split n c)
+    where
+      out : (set : ℕ) (words : List ℕ) → n ≤ c → T (not (knownOf n set words c))
+      out set words h = not-T (knownOf n set words c) (λ t. omega (arith, known-below n set words c t))
+
+      go : (n ≤ c) ⊎ (c < n) → knownOf n set′ new c ≡ knownOf n set old c
+      go (inl h) = is-false (knownOf n set′ new c) (out set′ new h) ∙ sym (is-false (knownOf n set old c) (out set old h))
+      go (inr h) = rw (word-moved c h)
+
+  -- what the labels cover stays covered
+  pub covers-moved : (Q : ℕ → ℕ → ℕ → Type 0) (w s : ℕ) → Covers Q w s (labelsOf n set old) → Covers Q w s (labelsOf n set′ new)
+  covers-moved Q w s l =
+      record {
+        enough = λ c t. let h : c < n = known-below n set′ new c t in rw (word-moved c h, steps-moved c h) (l .enough c (was c t));
+        least = λ c t. let h : c < n = known-below n set′ new c t in rw (word-moved c h, steps-moved c h) (l .least c (was c t));
+        complete = λ c q. rw (known-moved c) (l .complete c q);
+      }
+    where
+      was : (c : ℕ) → T (knownOf n set′ new c) → T (knownOf n set old c)
+      was c t = rw (known-moved c) at t
+
 -- the words of the labels are as they were
 module _ (n set : ℕ) (old new : List ℕ) (kept : (k : ℕ) → set ≤ k → k < set + n * orderIn → getD new k 0 ≡ getD old k 0) where
   pub label-kept : (c : ℕ) → c < n → SameLabel n set old new c
@@ -70,17 +106,8 @@ module _ (n set : ℕ) (old new : List ℕ) (kept : (k : ℕ) → set ≤ k → 
       go (inl h) = is-false (knownOf n set new c) (out new h) ∙ sym (is-false (knownOf n set old c) (out old h))
       go (inr h) = label-kept c h .known
 
-  -- what the labels cover stays covered
   pub covers-kept : (Q : ℕ → ℕ → ℕ → Type 0) (w s : ℕ) → Covers Q w s (labelsOf n set old) → Covers Q w s (labelsOf n set new)
-  covers-kept Q w s l =
-      record {
-        enough = λ c t. let e : SameLabel n set old new c = label-kept c (known-below n set new c t) in rw (e .weight, e .steps) (l .enough c (was c t));
-        least = λ c t. let e : SameLabel n set old new c = label-kept c (known-below n set new c t) in rw (e .weight, e .steps) (l .least c (was c t));
-        complete = λ c q. rw (known-kept c) (l .complete c q);
-      }
-    where
-      was : (c : ℕ) → T (knownOf n set new c) → T (knownOf n set old c)
-      was c t = rw (known-kept c) at t
+  covers-kept = covers-moved n set set old new (λ i h. kept (set + i) (omega arith) (omega arith))
 
   -- no label becomes later
   pub by-kept : (k s : ℕ) → ((c : ℕ) → T (knownOf n set old c) → LabelBy n set old k s c) → (c : ℕ) → T (knownOf n set new c) → LabelBy n set new k s c
@@ -90,23 +117,61 @@ module _ (n set : ℕ) (old new : List ℕ) (kept : (k : ℕ) → set ≤ k → 
 
 -- the labels by code
 
-pub labels-none-else : (n : ℕ) (words : List ℕ) (code : ℕ) → (code ≡ registerCode → ⊥) → labelsFor n words code ≡ noLabels
-unfolding labelsFor
-labels-none-else n words code f = simp (ne-eqb code registerCode f)
+module _ (n exits : ℕ) (words : List ℕ) where
+  pub labels-register : labelsFor n exits words registerCode ≡ labelsOf n (n * labelsAt) words
+  unfolding labelsFor
+  labels-register = refl
 
-pub labelled-kept : (n : ℕ) (old new : List ℕ) → ((k : ℕ) → n * labelsAt ≤ k → k < n * labelsAt + n * orderIn → getD new k 0 ≡ getD old k 0) → (R : Rules) (f k s : ℕ) → Labelled R f k s (labelsFor n old) → Labelled R f k s (labelsFor n new)
-unfolding labelsFor
-labelled-kept n old new kept R f k s l =
-    record { registers = covers-kept n (n * labelsAt) old new kept (After R f registerCode) (R .weight f + k) s (l .registers); fifos = l .fifos }
+  pub labels-fifo : 0 < exits → labelsFor n exits words fifoCode ≡ labelsOf n (n * exitsAt) words
+  unfolding labelsFor
+  labels-fifo h = simp (lt-ltb 0 exits h)
 
--- new labels of registers
-pub labels-renewed : (n : ℕ) (old new : List ℕ) → renewed (labelsFor n old) (labelsOf n (n * labelsAt) new) ≡ labelsFor n new
-unfolding renewed labelsFor
-labels-renewed n old new = λ i code. go code (eqb code registerCode) i
+  pub labels-no-fifo : exits ≡ 0 → labelsFor n exits words fifoCode ≡ noLabels
+  unfolding labelsFor
+  labels-no-fifo h = simp (le-ltb 0 exits (omega arith))
+
+  -- only gates that close a span have labels
+  pub label-code : (code c : ℕ) → T (labelsFor n exits words code .known c) → (code ≡ registerCode) ⊎ ((code ≡ fifoCode) × (0 < exits))
+  unfolding labelsFor
+  label-code code c t = go (equal code registerCode) (equal code fifoCode) (split 1 exits)
+    where
+      go : (code ≡ registerCode) ⊎ (code ≡ registerCode → ⊥) → (code ≡ fifoCode) ⊎ (code ≡ fifoCode → ⊥) → (1 ≤ exits) ⊎ (exits < 1) → (code ≡ registerCode) ⊎ ((code ≡ fifoCode) × (0 < exits))
+      go (inl e) b d = inl e
+      go (inr f) (inl e) (inl h) = inr (e, omega arith)
+      go (inr f) (inl e) (inr h) = absurd (simp (ne-eqb code registerCode f, eq-eqb code fifoCode e, le-ltb 0 exits (omega arith)) at t)
+      go (inr f) (inr g) d = absurd (simp (ne-eqb code registerCode f, ne-eqb code fifoCode g) at t)
+
+-- the words of both sets, but for the orders, are as they were
+pub record LabelsKept (n exits : ℕ) (old new : List ℕ) : Type 0 where
+  pub registers : (k : ℕ) → n * labelsAt ≤ k → k < n * labelsAt + n * orderIn → getD new k 0 ≡ getD old k 0
+  pub fifos : 0 < exits → (k : ℕ) → n * exitsAt ≤ k → k < n * exitsAt + n * orderIn → getD new k 0 ≡ getD old k 0
+
+pub fifos-kept : (n exits : ℕ) (old new : List ℕ) → (0 < exits → (k : ℕ) → n * exitsAt ≤ k → k < n * exitsAt + n * orderIn → getD new k 0 ≡ getD old k 0) → (Q : ℕ → ℕ → ℕ → Type 0) (w t : ℕ) → Covers Q w t (labelsFor n exits old fifoCode) → Covers Q w t (labelsFor n exits new fifoCode)
+fifos-kept n exits old new kept Q w t l = go (split 1 exits)
   where
-    go : (code : ℕ) (b : Bool) → cond {A = Labels} b (labelsOf n (n * labelsAt) new) (cond {A = Labels} b (labelsOf n (n * labelsAt) old) noLabels) ≡ cond {A = Labels} b (labelsOf n (n * labelsAt) new) noLabels
-    go code true = refl
-    go code false = refl
+    go : (1 ≤ exits) ⊎ (exits < 1) → Covers Q w t (labelsFor n exits new fifoCode)
+    go (inl h) = rw (labels-fifo n exits new h) (covers-kept n (n * exitsAt) old new (kept h) Q w t (rw (labels-fifo n exits old h) at l))
+    go (inr h) = rw (labels-no-fifo n exits new (omega arith)) (rw (labels-no-fifo n exits old (omega arith)) at l)
+
+pub labelled-kept : (n exits : ℕ) (old new : List ℕ) → LabelsKept n exits old new → (R : Rules) (f k s : ℕ) → Labelled R f k s (labelsFor n exits old) → Labelled R f k s (labelsFor n exits new)
+labelled-kept n exits old new kept R f k s l =
+    record {
+      registers =
+          rw (labels-register n exits new)
+          (covers-kept n (n * labelsAt) old new (kept .registers) (After R f registerCode) (R .weight f + k) s (rw (labels-register n exits old) at (l .registers)));
+      fifos = λ w t. fifos-kept n exits old new (kept .fifos) (After R f fifoCode) w t (l .fifos w t);
+    }
+
+-- new labels of registers, where those of FIFOs stay
+pub labels-renewed : (n exits : ℕ) (old new : List ℕ) → (0 < exits → labelsOf n (n * exitsAt) new ≡ labelsOf n (n * exitsAt) old) → renewed (labelsFor n exits old) (labelsOf n (n * labelsAt) new) ≡ labelsFor n exits new
+unfolding renewed labelsFor
+labels-renewed n exits old new same = λ i code. go code (eqb code registerCode) (eqb code fifoCode) (split 1 exits) i
+  where
+    go : (code : ℕ) (b d : Bool) → (1 ≤ exits) ⊎ (exits < 1) → cond {A = Labels} b (labelsOf n (n * labelsAt) new) (cond {A = Labels} b (labelsOf n (n * labelsAt) old) (cond {A = Labels} (d && ltb 0 exits) (labelsOf n (n * exitsAt) old) noLabels)) ≡ cond {A = Labels} b (labelsOf n (n * labelsAt) new) (cond {A = Labels} (d && ltb 0 exits) (labelsOf n (n * exitsAt) new) noLabels)
+    go code true d h = refl
+    go code false true (inl h) = simp (lt-ltb 0 exits h) (sym (same h))
+    go code false true (inr h) = simp (le-ltb 0 exits (omega arith))
+    go code false false h = refl
 
 later-same : {n set : ℕ} {old new : List ℕ} {a b : ℕ} → SameLabel n set old new a → SameLabel n set old new b → NotAfter (weightOf n set old a) (stepsOf n set old a) (weightOf n set old b) (stepsOf n set old b) → NotAfter (weightOf n set new a) (stepsOf n set new a) (weightOf n set new b) (stepsOf n set new b)
 later-same p q (inl h) = inl (omega arith)
@@ -119,6 +184,14 @@ set-in n words few room = record { small = few; low = omega arith; room = omega 
 
 pub set-apart : (n : ℕ) → Apart n (n * labelsAt)
 set-apart n = record { past = omega arith; beside = inl (omega arith) }
+
+-- and so the FIFOs'
+
+pub exits-in : (n : ℕ) (words : List ℕ) → n ≤ 1024 → n * asideAt ≤ length words → SetIn n (n * exitsAt) words
+exits-in n words few room = record { small = few; low = omega arith; room = omega arith }
+
+pub exits-apart : (n : ℕ) → Apart n (n * exitsAt)
+exits-apart n = record { past = omega arith; beside = inr (omega arith) }
 
 -- the order
 
@@ -141,27 +214,40 @@ ordered-none n set words z =
       ascending = λ i j h k. absurd (omega arith);
     }
 
-pub ordered-kept : {n set : ℕ} {old : List ℕ} {count : ℕ} → Ordered n set old count → (new : List ℕ) → ((k : ℕ) → set ≤ k → k < set + n * labelWords → getD new k 0 ≡ getD old k 0) → Ordered n set new count
-ordered-kept {n} {set} {old} {count} o new w =
+-- the whole set moves, with its order
+pub ordered-moved : {n set : ℕ} {old : List ℕ} {count : ℕ} → Ordered n set old count → (set′ : ℕ) (new : List ℕ) → ((i : ℕ) → i < n * labelWords → getD new (set′ + i) 0 ≡ getD old (set + i) 0) → Ordered n set′ new count
+ordered-moved {n} {set} {old} {count} o set′ new moved =
     record {
       cells = λ i h. omega (arith, place i h, o .cells i h);
-      known = λ i h. rw (place i h, known-kept n set old new labels) (o .known i h);
-      covered = λ c t. at c (o .covered c (rw (known-kept n set old new labels c) at t));
-      counted = o .counted ∙ sum-same n (λ c. one (knownOf n set old c)) (λ c. one (knownOf n set new c)) (λ c h. ap one (sym (known-kept n set old new labels c)));
-      ascending = λ i j h k. rw (place i (omega arith), place j k) (later-same (label i (omega arith)) (label j k) (o .ascending i j h k));
+      known = λ i h. rw (place i h, known _) (o .known i h);
+      covered = λ c t. at c (o .covered c (rw (known c) at t));
+      counted = o .counted ∙ sum-same n (λ c. one (knownOf n set old c)) (λ c. one (knownOf n set′ new c)) (λ c h. ap one (sym (known c)));
+      ascending = λ i j h k. rw (place i (omega arith), place j k, word i (omega arith), word j k, steps i (omega arith), steps j k) (o .ascending i j h k);
     }
   where
-    labels : (k : ℕ) → set ≤ k → k < set + n * orderIn → getD new k 0 ≡ getD old k 0
-    labels k h j = w k h (omega arith)
+    labels : (i : ℕ) → i < n * orderIn → getD new (set′ + i) 0 ≡ getD old (set + i) 0
+    labels i h = moved i (omega arith)
 
-    place : (i : ℕ) → i < count → orderOf n set new i ≡ orderOf n set old i
-    place i h = w _ (omega arith) (omega (arith, ordered-count o))
+    known : (c : ℕ) → knownOf n set′ new c ≡ knownOf n set old c
+    known = known-moved n set set′ old new labels
 
-    label : (i : ℕ) → i < count → SameLabel n set old new (orderOf n set old i)
-    label i h = label-kept n set old new labels (orderOf n set old i) (o .cells i h)
+    place : (i : ℕ) → i < count → orderOf n set′ new i ≡ orderOf n set old i
+    place i h =
+        let a : set′ + n * orderIn + i ≡ set′ + (n * orderIn + i) = omega arith in
+        let b : set + n * orderIn + i ≡ set + (n * orderIn + i) = omega arith in
+        rw (a, b) (moved (n * orderIn + i) (omega (arith, ordered-count o)))
 
-    at : (c : ℕ) → ListedAt n old (set + n * orderIn) count c → ListedAt n new (set + n * orderIn) count c
+    word : (i : ℕ) → i < count → weightWord n set′ new (orderOf n set old i) ≡ weightWord n set old (orderOf n set old i)
+    word i h = word-moved n set set′ old new labels (orderOf n set old i) (o .cells i h)
+
+    steps : (i : ℕ) → i < count → stepsOf n set′ new (orderOf n set old i) ≡ stepsOf n set old (orderOf n set old i)
+    steps i h = steps-moved n set set′ old new labels (orderOf n set old i) (o .cells i h)
+
+    at : (c : ℕ) → ListedAt n old (set + n * orderIn) count c → ListedAt n new (set′ + n * orderIn) count c
     at c p = record { at = p .at; below = p .below; holds = place (p .at) (p .below) ∙ p .holds }
+
+pub ordered-kept : {n set : ℕ} {old : List ℕ} {count : ℕ} → Ordered n set old count → (new : List ℕ) → ((k : ℕ) → set ≤ k → k < set + n * labelWords → getD new k 0 ≡ getD old k 0) → Ordered n set new count
+ordered-kept {n} {set} o new w = ordered-moved o set new (λ i h. w (set + i) (omega arith) (omega arith))
 
 -- one label more, not before the others
 module _ {n set : ℕ} {old : List ℕ} {count : ℕ} (o : Ordered n set old count) (new : List ℕ) (cell : ℕ) (h : cell < n) (unlabelled : knownOf n set old cell ≡ false) (known : T (knownOf n set new cell))

@@ -7,11 +7,11 @@ use mathlib.Core.List.{List}
 use lib.Dec.{T, eqb, ltb}
 use lib.ListN.{length, getD}
 use Rattle.budget.specs.Done.{Labels, NotAfter}
-use Rattle.rules.specs.Rules.{registerCode}
-use Rattle.layout.specs.Layout.{labelsAt, weightHigh, stepsLow, stepsHigh, orderIn, labelWords, activeAt, nextAt, listedAt, trailAt}
+use Rattle.rules.specs.Rules.{registerCode, fifoCode, isClosing}
+use Rattle.layout.specs.Layout.{labelsAt, exitsAt, weightHigh, stepsLow, stepsHigh, orderIn, labelWords, activeAt, nextAt, listedAt, trailAt}
 use Rattle.costs.specs.Costs.{rowWords}
 use Rattle.lists.specs.Lists.{sumBelow, flagOf, ListedAt, Listed}
-use Rattle.table.specs.Problem.{seedWord}
+use Rattle.table.specs.Problem.{marksSeed, seedOf}
 
 -- a number in two words, its low and its high 16 bits
 abbrev pub pairOf : List ℕ → ℕ → ℕ → ℕ
@@ -53,9 +53,11 @@ pub record Compared (n set : ℕ) (words : List ℕ) (k s c : ℕ) (r : Bool) : 
 abbrev pub noLabels : Labels
 noLabels = record { known = λ c. false; weight = λ c. 0; steps = λ c. 0 }
 
--- the labels by code: those of registers, with the source's; with one clock there are no others
-unfoldable pub labelsFor : ℕ → List ℕ → ℕ → Labels
-labelsFor n words code = cond {A = Labels} (eqb code registerCode) (labelsOf n (n * labelsAt) words) noLabels
+-- the labels by code: those of registers, with the source's, and those of so many FIFOs; with one clock there are none of these
+unfoldable pub labelsFor : ℕ → ℕ → List ℕ → ℕ → Labels
+labelsFor n exits words code =
+    cond {A = Labels} (eqb code registerCode) (labelsOf n (n * labelsAt) words)
+    (cond {A = Labels} (eqb code fifoCode && ltb 0 exits) (labelsOf n (n * exitsAt) words) noLabels)
 
 -- the set lies in the words
 pub record SetIn (n set : ℕ) (words : List ℕ) : Type 0 where
@@ -68,6 +70,12 @@ pub record SetIn (n set : ℕ) (words : List ℕ) : Type 0 where
 pub record Apart (n set : ℕ) : Type 0 where
   pub past : n * rowWords ≤ set
   pub beside : (set + n * labelWords ≤ n * activeAt) ⊎ (n * trailAt ≤ set)
+
+-- two sets in the words that share none of them
+pub record CopyAsks (n from to : ℕ) (words : List ℕ) : Type 0 where
+  pub source : SetIn n from words
+  pub target : SetIn n to words
+  pub apart : (from + n * labelWords ≤ to) ⊎ (to + n * labelWords ≤ from)
 
 -- After `put_pair`: the two words hold the number, and the others stay.
 pub record PairSet (low high number : ℕ) (old new : List ℕ) : Type 0 where
@@ -117,20 +125,26 @@ pub record LabelAdded (n set cell weight steps count : ℕ) (old new : List ℕ)
   pub low : (k : ℕ) → k < set → getD new k 0 ≡ getD old k 0
   pub high : (k : ℕ) → set + n * labelWords ≤ k → getD new k 0 ≡ getD old k 0
 
--- After `plant`: the cell is a seed and listed; the flags of other cells, and all words but those of the active list and the flags, stay.
-pub record Planted (n cell : ℕ) (old new : List ℕ) (active : ℕ) : Type 0 where
+-- the word marks a seed for gates of this code, and for the other code as before
+pub record MarkedWith (word code r : ℕ) : Type 0 where
+  pub has : T (marksSeed r code)
+  pub others : (a : ℕ) → T (isClosing a) → (a ≡ code → ⊥) → marksSeed r a ≡ marksSeed word a
+
+-- After `plant`: the cell is a seed for gates of this code, and listed; the flags of other cells, and all words but those of the active list and the flags, stay.
+pub record Planted (n cell code : ℕ) (old new : List ℕ) (active : ℕ) : Type 0 where
   pub same : length new ≡ length old
   pub listed : Listed n new (n * activeAt) active
   pub nowFlagged : flagOf n new cell ≡ 1
-  pub nowSeed : seedWord n new cell ≡ 1
+  pub nowSeed : T (seedOf n new code cell)
   pub others : (c : ℕ) → c < n → (c ≡ cell → ⊥) → flagOf n new c ≡ flagOf n old c
-  pub otherSeeds : (c : ℕ) → c < n → (c ≡ cell → ⊥) → seedWord n new c ≡ seedWord n old c
+  pub otherSeeds : (c : ℕ) → c < n → (c ≡ cell → ⊥) → (a : ℕ) → seedOf n new a c ≡ seedOf n old a c
+  pub otherCodes : (a : ℕ) → T (isClosing a) → (a ≡ code → ⊥) → (c : ℕ) → c < n → seedOf n new a c ≡ seedOf n old a c
   pub low : (k : ℕ) → k < n * activeAt → getD new k 0 ≡ getD old k 0
   pub middle : (k : ℕ) → n * nextAt ≤ k → k < n * listedAt → getD new k 0 ≡ getD old k 0
   pub high : (k : ℕ) → n * trailAt ≤ k → getD new k 0 ≡ getD old k 0
 
 -- Before `arrive`: the places of the order from `at` up to `count` have labelled cells; the set holds none of the lists and flags.
-pub record ArriveAsks (n set at count active : ℕ) (words : List ℕ) : Type 0 where
+pub record ArriveAsks (n set code at count active : ℕ) (words : List ℕ) : Type 0 where
   pub listed : Listed n words (n * activeAt) active
   pub start : at ≤ count
   pub short : count ≤ n
@@ -138,17 +152,19 @@ pub record ArriveAsks (n set at count active : ℕ) (words : List ℕ) : Type 0 
   pub setIn : SetIn n set words
   pub room : n * trailAt ≤ length words
   pub apart : Apart n set
+  pub closes : T (isClosing code)
 
 -- The labels of the order from `from` up to `to`, none after weight k and s steps, have become seeds; `active` cells are listed.
-pub record Arrived (n set from to k s : ℕ) (old new : List ℕ) (active : ℕ) : Type 0 where
+pub record Arrived (n set code from to k s : ℕ) (old new : List ℕ) (active : ℕ) : Type 0 where
   pub same : length new ≡ length old
   pub forth : from ≤ to
   pub inTime : (i : ℕ) → from ≤ i → i < to → LabelBy n set old k s (orderOf n set old i)
   pub listed : Listed n new (n * activeAt) active
   pub someListed : from < to → 0 < active
-  pub seeds : (i : ℕ) → from ≤ i → i < to → seedWord n new (orderOf n set old i) ≡ 1
-  pub seedsStay : (c : ℕ) → c < n → seedWord n old c ≡ 1 → seedWord n new c ≡ 1
-  pub otherSeeds : (c : ℕ) → c < n → ((i : ℕ) → from ≤ i → i < to → orderOf n set old i ≡ c → ⊥) → seedWord n new c ≡ seedWord n old c
+  pub seeds : (i : ℕ) → from ≤ i → i < to → T (seedOf n new code (orderOf n set old i))
+  pub seedsStay : (c : ℕ) → c < n → T (seedOf n old code c) → T (seedOf n new code c)
+  pub otherSeeds : (c : ℕ) → c < n → ((i : ℕ) → from ≤ i → i < to → orderOf n set old i ≡ c → ⊥) → seedOf n new code c ≡ seedOf n old code c
+  pub otherCodes : (a : ℕ) → T (isClosing a) → (a ≡ code → ⊥) → (c : ℕ) → c < n → seedOf n new a c ≡ seedOf n old a c
   pub flags : (i : ℕ) → from ≤ i → i < to → flagOf n new (orderOf n set old i) ≡ 1
   pub flagsStay : (c : ℕ) → c < n → flagOf n old c ≡ 1 → flagOf n new c ≡ 1
   pub otherFlags : (c : ℕ) → c < n → ((i : ℕ) → from ≤ i → i < to → orderOf n set old i ≡ c → ⊥) → flagOf n new c ≡ flagOf n old c
@@ -157,7 +173,7 @@ pub record Arrived (n set from to k s : ℕ) (old new : List ℕ) (active : ℕ)
   pub high : (k : ℕ) → n * trailAt ≤ k → getD new k 0 ≡ getD old k 0
 
 -- After `arrive`: it went up to `to`, the end of the order or the first label that is after them.
-pub record ArrivedAll (n set from count k s : ℕ) (old new : List ℕ) (to active : ℕ) : Type 0 where
+pub record ArrivedAll (n set code from count k s : ℕ) (old new : List ℕ) (to active : ℕ) : Type 0 where
   pub within : to ≤ count
   pub late : to < count → LabelAfter n set old k s (orderOf n set old to)
-  pub arrived : Arrived n set from to k s old new active
+  pub arrived : Arrived n set code from to k s old new active

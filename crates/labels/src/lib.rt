@@ -1,6 +1,11 @@
 // Labels: for a cell where a span may close, the least weight and steps to go after the close. A label's word is weight plus one, 0 for none.
+mod both;
+mod sets;
 mod sites;
 
+pub use both::BothArrivals;
+pub use both::arrive_both;
+pub use sets::copy_set;
 pub use sites::fresh_in;
 pub use sites::label_active;
 pub use sites::may_register;
@@ -9,8 +14,9 @@ ghost use Prim.Native.Nat.{_+_, _*_, _≤_, _<_};
 ghost use lib.ListN.{length};
 ghost use lib.Dec.{T};
 ghost use Rattle.layout.specs.Layout.{activeAt, trailAt};
+ghost use Rattle.rules.specs.Rules.{isClosing};
 ghost use Rattle.lists.specs.Lists.{Listed};
-ghost use Rattle.labels.specs.Labels.{pairOf, weightWord, weightOf, stepsOf, knownOf, Compared, SetIn, PairSet, Labelable, LabelAdded, Planted, ArriveAsks, ArrivedAll};
+ghost use Rattle.labels.specs.Labels.{pairOf, weightWord, weightOf, stepsOf, knownOf, Compared, SetIn, PairSet, Labelable, LabelAdded, MarkedWith, Planted, ArriveAsks, ArrivedAll};
 use layout::ACTIVE;
 use layout::ORDER;
 use layout::SEEDS;
@@ -18,6 +24,7 @@ use layout::STEPS_HIGH;
 use layout::STEPS_LOW;
 use layout::WEIGHT_HIGH;
 use lists::enlist;
+use table::marks_seed;
 
 // The number in two words.
 fn pair(scratch: &[u16], low: usize, high: usize) -> u32
@@ -99,12 +106,27 @@ pub fn label(
     scratch[set + n * ORDER + count] = cell as u16;
 }
 
-// The cell becomes a seed and joins the active list. The list's new count.
-fn plant(scratch: &mut [u16], n: usize, cell: usize, active: usize) -> usize
-    requires { ⌜ Listed n (now scratch) (n * activeAt) active × ((cell < n) × ((n ≤ 1024) × (n * trailAt ≤ length (now scratch)))) ⌝ }
-    ensures { λ r. ⌜ Planted n cell (now (scratch .entry)) (now (scratch .exit)) r ⌝ }
+// The seed mark with this code too. 15 is the sum of the two codes that close a span.
+fn marked(mark: u16, code: u16) -> u16
+    requires { ⌜ T (isClosing code) ⌝ }
+    ensures { λ r. ⌜ MarkedWith mark code r ⌝ }
 {
-    scratch[n * SEEDS + cell] = 1;
+    if marks_seed(mark, code) {
+        return mark;
+    }
+    if marks_seed(mark, 15 - code) {
+        return 15;
+    }
+    code
+}
+
+// The cell becomes a seed for gates of this code and joins the active list. The list's new count.
+fn plant(scratch: &mut [u16], n: usize, cell: usize, code: u16, active: usize) -> usize
+    requires { ⌜ T (isClosing code) × (Listed n (now scratch) (n * activeAt) active × ((cell < n) × ((n ≤ 1024) × (n * trailAt ≤ length (now scratch))))) ⌝ }
+    ensures { λ r. ⌜ Planted n cell code (now (scratch .entry)) (now (scratch .exit)) r ⌝ }
+{
+    let mark = marked(scratch[n * SEEDS + cell], code);
+    scratch[n * SEEDS + cell] = mark;
     enlist(scratch, n, n * ACTIVE, active, cell)
 }
 
@@ -113,19 +135,20 @@ pub struct Arrivals {
     pub active: usize,
 }
 
-// The labels of the order from `at` on, of `count` in all, become seeds as long as they are not after this weight and these steps.
+// The labels of the order from `at` on, of `count` in all, become seeds for gates of this code as long as they are not after this weight and these steps.
 pub fn arrive(
     scratch: &mut [u16],
     n: usize,
     set: usize,
+    code: u16,
     at: usize,
     count: usize,
     weight: u32,
     steps: u32,
     active: usize,
 ) -> Arrivals
-    requires { ⌜ ArriveAsks n set at count active (now scratch) ⌝ }
-    ensures { λ r. ⌜ ArrivedAll n set at count weight steps (now (scratch .entry)) (now (scratch .exit)) (r .at) (r .active) ⌝ }
+    requires { ⌜ ArriveAsks n set code at count active (now scratch) ⌝ }
+    ensures { λ r. ⌜ ArrivedAll n set code at count weight steps (now (scratch .entry)) (now (scratch .exit)) (r .at) (r .active) ⌝ }
 {
     let mut i = at;
     let mut listed = active;
@@ -137,7 +160,7 @@ pub fn arrive(
                 active: listed,
             };
         }
-        listed = plant(scratch, n, cell, listed);
+        listed = plant(scratch, n, cell, code, listed);
         i += 1;
     }
     Arrivals {

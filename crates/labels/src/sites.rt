@@ -1,23 +1,26 @@
-// Labels for the active cells whose fresh state, the one after a register there, has come into the table.
+// Labels for the active cells where the state after a register, or a FIFO, has come into the table.
 ghost use mathlib.Core.Path.{_≡_};
 ghost use Prim.Native.Nat.{_+_, _*_, _≤_, _<_};
 ghost use lib.ListN.{length};
-ghost use Rattle.timing.specs.Valid.{Valid};
+ghost use Rattle.timing.specs.Elements.{RegisterInRange};
 ghost use Rattle.rules.specs.Rules.{registerCode};
 ghost use Rattle.rules.specs.Legal.{mayStand};
 ghost use Rattle.costs.specs.Costs.{rowWords};
 ghost use Rattle.layout.specs.Layout.{activeAt};
 ghost use Rattle.lists.specs.Lists.{Listed};
-ghost use Rattle.table.specs.Problem.{Ready, rulesFor};
+ghost use Rattle.problem.specs.Problem.{Ready, rulesFor};
+ghost use Rattle.table.specs.Problem.{netRules};
 ghost use Rattle.labels.specs.Additions.{FreshIn, LabelAsks, LabelsAddedAmong, LabelsAdded};
 use crate::label;
 use crate::weight_word;
 use layout::ACTIVE;
 use plan::is_tap;
+use problem::Net;
 use problem::Problem;
 use rows::view;
+use timing::Register;
 
-// A register may stand on the cell, between the ends.
+// A register may stand on the cell, between the ends; with two clocks a FIFO may too.
 pub fn may_register(plan: &[u8], p: Problem, cell: usize) -> bool
     requires { ⌜ Ready p (now plan) × (cell < length (now plan)) ⌝ }
     ensures { λ r. ⌜ r ≡ mayStand (rulesFor p (now (plan .entry))) cell registerCode ⌝ }
@@ -31,40 +34,39 @@ pub fn may_register(plan: &[u8], p: Problem, cell: usize) -> bool
     is_tap(plan[cell])
 }
 
-// The fresh state at the cell has come into the table; also the sink's start state, which is the same.
-pub fn fresh_in(scratch: &[u16], p: Problem, cell: usize) -> bool
-    requires { ⌜ Valid (p .elements) × (cell * rowWords + rowWords ≤ length (now scratch)) ⌝ }
-    ensures { λ r. ⌜ FreshIn p (now (scratch .entry)) cell r ⌝ }
+// The state after this gate at the cell has come into the table.
+pub fn fresh_in(scratch: &[u16], gate: Register, cell: usize) -> bool
+    requires { ⌜ RegisterInRange gate × (cell * rowWords + rowWords ≤ length (now scratch)) ⌝ }
+    ensures { λ r. ⌜ FreshIn gate (now (scratch .entry)) cell r ⌝ }
 {
-    let elements = p.elements;
-    let register = elements.register;
-    let load = register.load().0 as usize;
-    let start = register.start_delay().0 as u16;
+    let load = gate.load().0 as usize;
+    let start = gate.start_delay().0 as u16;
     start < view(scratch, cell, load)
 }
 
-// The cell is labelled, if it is a site without a label and its fresh state is in the table. The new count of labels.
+// The cell is labelled, if it is a site without a label and the state after the gate of this code is in the table. The new count of labels.
 fn label_cell(
     plan: &[u8],
     scratch: &mut [u16],
-    p: Problem,
+    net: Net,
+    code: u16,
     set: usize,
     cell: usize,
     weight: u32,
     steps: u32,
     count: usize,
 ) -> usize
-    requires { ⌜ LabelAsks p (now plan) set weight steps count (now scratch) × (cell < length (now plan)) ⌝ }
-    ensures { λ r. ⌜ LabelsAddedAmong (rulesFor p (now (plan .entry))) (length (now (plan .entry))) set (λ c. c ≡ cell) weight steps (now (scratch .entry)) (now (scratch .exit)) count r ⌝ }
+    requires { ⌜ LabelAsks net (now plan) code set weight steps count (now scratch) × (cell < length (now plan)) ⌝ }
+    ensures { λ r. ⌜ LabelsAddedAmong (netRules net (now (plan .entry))) (length (now (plan .entry))) code set (λ c. c ≡ cell) weight steps (now (scratch .entry)) (now (scratch .exit)) count r ⌝ }
 {
     let n = plan.len();
     if 0 < weight_word(scratch, n, set, cell) {
         return count;
     }
-    if !fresh_in(scratch, p, cell) {
+    if !fresh_in(scratch, net.gate(code), cell) {
         return count;
     }
-    if !may_register(plan, p, cell) {
+    if !may_register(plan, net.problem, cell) {
         return count;
     }
     label(scratch, n, set, cell, weight, steps, count);
@@ -75,22 +77,23 @@ fn label_cell(
 pub fn label_active(
     plan: &[u8],
     scratch: &mut [u16],
-    p: Problem,
+    net: Net,
+    code: u16,
     set: usize,
     active: usize,
     weight: u32,
     steps: u32,
     count: usize,
 ) -> usize
-    requires { ⌜ LabelAsks p (now plan) set weight steps count (now scratch) × Listed (length (now plan)) (now scratch) (length (now plan) * activeAt) active ⌝ }
-    ensures { λ r. ⌜ LabelsAdded (rulesFor p (now (plan .entry))) (length (now (plan .entry))) set weight steps (now (scratch .entry)) (now (scratch .exit)) count r ⌝ }
+    requires { ⌜ LabelAsks net (now plan) code set weight steps count (now scratch) × Listed (length (now plan)) (now scratch) (length (now plan) * activeAt) active ⌝ }
+    ensures { λ r. ⌜ LabelsAdded (netRules net (now (plan .entry))) (length (now (plan .entry))) code set weight steps (now (scratch .entry)) (now (scratch .exit)) count r ⌝ }
 {
     let n = plan.len();
     let mut known = count;
     let mut i = 0;
     while i < active {
         let cell = scratch[n * ACTIVE + i] as usize;
-        known = label_cell(plan, scratch, p, set, cell, weight, steps, known);
+        known = label_cell(plan, scratch, net, code, set, cell, weight, steps, known);
         i += 1;
     }
     known

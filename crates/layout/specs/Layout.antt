@@ -46,7 +46,7 @@ nextAt = 134
 abbrev pub listedAt : ℕ
 listedAt = 135
 
--- a mark a cell: 1 if a span may close there at a register, or at the source
+-- a mark a cell: the sum of the codes with which a span may close there, 7 at a register or at the source, 8 at a FIFO
 abbrev pub seedsAt : ℕ
 seedsAt = 136
 
@@ -54,9 +54,21 @@ seedsAt = 136
 abbrev pub trailAt : ℕ
 trailAt = 137
 
--- all words of a cell
+-- all words of a cell, with one clock
 abbrev pub cellWords : ℕ
 cellWords = 256
+
+-- with two clocks: the labels of FIFOs, a set of labels as that of registers
+abbrev pub exitsAt : ℕ
+exitsAt = 256
+
+-- with two clocks: the labels of registers on the source's side, laid aside while the sink's side is searched
+abbrev pub asideAt : ℕ
+asideAt = 261
+
+-- all words of a cell, with two clocks
+abbrev pub crossingWords : ℕ
+crossingWords = 512
 
 -- words a cell of the far stretch: from `trailAt` to `cellWords`
 abbrev pub farWords : ℕ

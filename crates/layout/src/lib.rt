@@ -34,14 +34,23 @@ pub const NEXT: usize = 134;
 // A flag a cell: 1 if it is listed.
 pub const LISTED: usize = 135;
 
-// A mark a cell: 1 if a span may close there at a register, or at the source.
+// A mark a cell: the sum of the codes with which a span may close there, 7 at a register or at the source, 8 at a FIFO.
 pub const SEEDS: usize = 136;
 
 // The undo trail's far stretch; its near one follows the arrival row.
 pub const TRAIL: usize = 137;
 
-// All words of a cell.
+// All words of a cell, with one clock.
 pub const CELL_WORDS: usize = 256;
+
+// With two clocks: the labels of FIFOs, a set of labels as that of registers.
+pub const EXITS: usize = 256;
+
+// With two clocks: the labels of registers on the source's side, laid aside while the sink's side is searched.
+pub const ASIDE: usize = 261;
+
+// All words of a cell, with two clocks.
+pub const CROSSING_WORDS: usize = 512;
 
 // Words a cell of the far stretch: from TRAIL to CELL_WORDS.
 pub const FAR_WORDS: usize = 119;

@@ -1,1 +1,2 @@
 pub mod Problem
+pub mod Net

@@ -1,4 +1,7 @@
 // A routing problem: the plan's sides, the ends and the checked tables. The marks are lent beside it.
+mod net;
+
+pub use net::Net;
 use timing::Elements;
 
 pub struct Problem {

@@ -1,2 +1,3 @@
 pub mod Question
 pub mod Checked
+pub mod Crossing

@@ -58,9 +58,13 @@ afterTables (At f) rest = fails (Refusal.Element f)
 abbrev pub orElse : Bool → Refusal → Check → Check
 orElse fault r rest = cond fault (fails r) rest
 
--- 1 to 5, then the rest
-unfoldable pub questionChecks : Question → Check → Check
-questionChecks q rest =
+-- 1 to 5, with what 4 names where a number is at fault, then the rest
+abbrev pub checksWith : ElementFault → Question → Check → Check
+checksWith fault q rest =
     afterPlan (checkedPlan (planOf (q .width) (q .height) (q .marks)))
-    (afterTables (tablesFault (q .tables) (q .buffers))
+    (afterTables fault
     (orElse (endsFault (cellsAsked q) (q .source) (q .sink)) Refusal.Ends rest))
+
+-- with one clock
+unfoldable pub questionChecks : Question → Check → Check
+questionChecks q rest = checksWith (tablesFault (q .tables) (q .buffers)) q rest

@@ -4,8 +4,10 @@ ghost use Rattle.plan.specs.Plan.{planOf};
 ghost use Rattle.plan.specs.Check.{checkedPlan};
 ghost use Rattle.plan.specs.declared.PlanCheck.{PlanCheck};
 ghost use Rattle.answers.specs.Tables.{checkedList};
+ghost use Rattle.answers.specs.declared.records.Tables.{Tables};
+ghost use Rattle.answers.specs.declared.records.BufferList.{BufferList};
 ghost use Rattle.question.specs.Question.{questionOf, fails};
-ghost use Rattle.question.specs.Checked.{noProblem, checkedAs, checkedQuestion};
+ghost use Rattle.question.specs.Checked.{noProblem, checkedAs, checkedWith, checkedQuestion};
 use answers::BuffersRead;
 use answers::ElementFault;
 use answers::Refusal;
@@ -16,6 +18,7 @@ use answers::no_elements;
 use plan::PlanCheck;
 use plan::check_plan;
 use problem::Problem;
+use timing::Elements;
 
 pub enum Checked {
     Passes,
@@ -50,16 +53,14 @@ fn after_plan(
     plan: &[u8],
     width: u16,
     height: u16,
-    tables: Tables,
-    read: BuffersRead,
+    fault: ElementFault,
+    elements: Elements,
     source: u16,
     sink: u16,
 ) -> QuestionCheck
-    requires { ⌜ (checkedPlan (planOf width height (now plan)) ≡ PlanCheck.Valid) × (read ≡ checkedList (read .list)) ⌝ }
-    ensures { λ r. ⌜ r ≡ checkedQuestion (questionOf (now (plan .entry)) width height tables (read .list) source sink) ⌝ }
+    requires { ⌜ checkedPlan (planOf width height (now plan)) ≡ PlanCheck.Valid ⌝ }
+    ensures { λ r. ⌜ ((t : Tables) → (list : BufferList) → r ≡ checkedWith fault elements (questionOf (now (plan .entry)) width height t list source sink)) ⌝ }
 {
-    let checked = check_tables(tables, read);
-    let fault = checked.fault;
     match fault {
         ElementFault::At(f) => {
             return refused(Refusal::Element(f));
@@ -68,7 +69,6 @@ fn after_plan(
             if ends_fault(width * height, source, sink) {
                 return refused(Refusal::Ends);
             }
-            let elements = checked.elements;
             let p = Problem {
                 width: width as usize,
                 height: height as usize,
@@ -84,18 +84,18 @@ fn after_plan(
     }
 }
 
-// The checks on a list of buffers that was read.
-pub fn check_question(
+// The checks with the fault of the tables, of one clock or two, and their elements, which are read only where nothing is at fault.
+// They hold for every question with this plan and these ends.
+pub fn check_with(
     plan: &[u8],
     width: u16,
     height: u16,
-    tables: Tables,
-    read: BuffersRead,
+    fault: ElementFault,
+    elements: Elements,
     source: u16,
     sink: u16,
 ) -> QuestionCheck
-    requires { ⌜ read ≡ checkedList (read .list) ⌝ }
-    ensures { λ r. ⌜ r ≡ checkedQuestion (questionOf (now (plan .entry)) width height tables (read .list) source sink) ⌝ }
+    ensures { λ r. ⌜ ((t : Tables) → (list : BufferList) → r ≡ checkedWith fault elements (questionOf (now (plan .entry)) width height t list source sink)) ⌝ }
 {
     let grid = check_plan(plan, width, height);
     match grid {
@@ -109,7 +109,26 @@ pub fn check_question(
             return refused(Refusal::Mark);
         }
         PlanCheck::Valid => {
-            return after_plan(plan, width, height, tables, read, source, sink);
+            return after_plan(plan, width, height, fault, elements, source, sink);
         }
     }
+}
+
+// The checks with one clock, on a list of buffers that was read.
+pub fn check_question(
+    plan: &[u8],
+    width: u16,
+    height: u16,
+    tables: Tables,
+    read: BuffersRead,
+    source: u16,
+    sink: u16,
+) -> QuestionCheck
+    requires { ⌜ read ≡ checkedList (read .list) ⌝ }
+    ensures { λ r. ⌜ r ≡ checkedQuestion (questionOf (now (plan .entry)) width height tables (read .list) source sink) ⌝ }
+{
+    let checked = check_tables(tables, read);
+    let fault = checked.fault;
+    let elements = checked.elements;
+    check_with(plan, width, height, fault, elements, source, sink)
 }

@@ -1,4 +1,5 @@
 pub mod Kept
+pub mod Sets
 pub mod Turns
 pub mod Start
 pub mod Trailing

@@ -2,25 +2,25 @@
 ghost use Prim.Native.Nat.{_<_};
 ghost use mathlib.Core.Path.{_≡_};
 ghost use lib.ListN.{length};
-ghost use Rattle.table.specs.Problem.{rulesFor};
+ghost use Rattle.table.specs.Problem.{netRules};
 ghost use Rattle.reach.specs.Reach.{noLayers, heldBy, LoadAsks, Loaded};
 use crate::cone::drop_outside;
 use crate::cone::in_cone;
-use crate::span::next_steps;
+use crate::span::next_both;
 use crate::span::start_span;
 use costs::COSTS;
-use labels::arrive;
-use layout::LABELS;
-use problem::Problem;
+use labels::arrive_both;
+use problem::Net;
 use table::next_layer;
 use trail::Trail;
 use trail::new_trail;
 use trail::rewind;
 use trail::stamped;
 
-// What one call of `load_layer` leaves for the next, beside the words: the table is that of `steps` steps in the span with this weight to go after it.
+// What one call of `load_layer` leaves for the next, beside the words: the table is that of `steps` steps in the span on this side with this weight to go after it.
 // The span was run at the cell `from`, of a plan of this width, with `most` steps: its layers are right in that cone.
 pub struct Layers {
+    pub side: usize,
     pub weight: u32,
     pub steps: u32,
     pub width: usize,
@@ -34,6 +34,7 @@ pub fn no_layers() -> Layers
     ensures { λ r. ⌜ r ≡ noLayers ⌝ }
 {
     Layers {
+        side: 0,
         weight: 0,
         steps: 0,
         width: 1,
@@ -50,16 +51,18 @@ pub fn no_layers() -> Layers
 }
 
 // The rows next to the cell can be had back from the trail.
-fn held_by(layers: Layers, cell: usize, weight: u32, steps: u32) -> bool
+fn held_by(layers: Layers, side: usize, cell: usize, weight: u32, steps: u32) -> bool
     requires { ⌜ 0 < layers .width ⌝ }
-    ensures { λ r. ⌜ r ≡ heldBy layers cell weight steps ⌝ }
+    ensures { λ r. ⌜ r ≡ heldBy layers side cell weight steps ⌝ }
 {
     let trail = layers.trail;
-    if layers.weight == weight {
-        if trail.low <= steps {
-            if steps <= layers.steps {
-                let most = layers.most as usize;
-                return in_cone(layers.width, layers.from, most, steps as usize, cell);
+    if layers.side == side {
+        if layers.weight == weight {
+            if trail.low <= steps {
+                if steps <= layers.steps {
+                    let most = layers.most as usize;
+                    return in_cone(layers.width, layers.from, most, steps as usize, cell);
+                }
             }
         }
     }
@@ -67,41 +70,56 @@ fn held_by(layers: Layers, cell: usize, weight: u32, steps: u32) -> bool
 }
 
 // The layers of the span, from no steps on, in the cone of the cell.
-// With no active cell a layer changes nothing, so u goes on to the next label.
+// With no active cell a layer changes nothing, so u goes on to the next label of either set.
 fn run_span(
     plan: &[u8],
     scratch: &mut [u16],
-    p: Problem,
+    net: Net,
     costs: &[u16; COSTS],
+    side: usize,
     count: usize,
+    exits: usize,
     cell: usize,
     weight: u32,
     steps: u32,
     layers: Layers,
 ) -> Layers
-    requires { ⌜ LoadAsks p (now plan) (now costs) count (now scratch) layers ⌝ }
-    ensures { λ r. ⌜ Loaded (rulesFor p (now (plan .entry))) (length (now (plan .entry))) count cell weight steps (now (scratch .entry)) (now (scratch .exit)) r ⌝ }
+    requires { ⌜ LoadAsks net (now plan) (now costs) side count exits (now scratch) layers ⌝ }
+    ensures { λ r. ⌜ Loaded (netRules net (now (plan .entry))) (length (now (plan .entry))) side count exits cell weight steps (now (scratch .entry)) (now (scratch .exit)) r ⌝ }
 {
     let n = plan.len();
-    let span = start_span(plan, scratch, p, count, weight, layers);
+    let p = net.problem;
+    let top = 2 * net.period(side) + 1;
+    let span = start_span(plan, scratch, net, count, exits, weight, layers);
     let mut u: u32 = 0;
     let mut at = span.at;
+    let mut exit = span.exit;
     let mut active = span.active;
     let mut trail = new_trail(n);
     while u < steps {
         if active == 0 {
-            u = next_steps(scratch, n, n * LABELS, at, count, weight, steps);
+            u = next_both(scratch, n, at, count, exit, exits, weight, steps);
         } else {
-            let grown = next_layer(plan, scratch, p, costs, active, stamped(trail, u + 1));
+            let grown = next_layer(
+                plan,
+                scratch,
+                net,
+                top,
+                costs,
+                active,
+                stamped(trail, u + 1),
+            );
             active = grown.count;
             trail = grown.trail;
             u += 1;
         }
-        let next = arrive(scratch, n, n * LABELS, at, count, weight, u, active);
+        let next = arrive_both(scratch, n, at, count, exit, exits, weight, u, active);
         at = next.at;
+        exit = next.exit;
         active = drop_outside(scratch, n, next.active, p, cell, steps, u);
     }
     Layers {
+        side: side,
         weight: weight,
         steps: steps,
         width: p.width,
@@ -111,24 +129,27 @@ fn run_span(
     }
 }
 
-// The table of this span with `steps` steps to go, in the rows next to the cell.
+// The table of this span, on this side, with `steps` steps to go, in the rows next to the cell.
 pub fn load_layer(
     plan: &[u8],
     scratch: &mut [u16],
-    p: Problem,
+    net: Net,
     costs: &[u16; COSTS],
+    side: usize,
     count: usize,
+    exits: usize,
     cell: usize,
     weight: u32,
     steps: u32,
     layers: Layers,
 ) -> Layers
-    requires { ⌜ LoadAsks p (now plan) (now costs) count (now scratch) layers ⌝ }
-    ensures { λ r. ⌜ Loaded (rulesFor p (now (plan .entry))) (length (now (plan .entry))) count cell weight steps (now (scratch .entry)) (now (scratch .exit)) r ⌝ }
+    requires { ⌜ LoadAsks net (now plan) (now costs) side count exits (now scratch) layers ⌝ }
+    ensures { λ r. ⌜ Loaded (netRules net (now (plan .entry))) (length (now (plan .entry))) side count exits cell weight steps (now (scratch .entry)) (now (scratch .exit)) r ⌝ }
 {
-    if held_by(layers, cell, weight, steps) {
+    if held_by(layers, side, cell, weight, steps) {
         let trail = rewind(scratch, plan.len(), layers.trail, steps);
         return Layers {
+            side: side,
             weight: weight,
             steps: steps,
             width: layers.width,
@@ -137,5 +158,17 @@ pub fn load_layer(
             trail: trail,
         };
     }
-    run_span(plan, scratch, p, costs, count, cell, weight, steps, layers)
+    run_span(
+        plan,
+        scratch,
+        net,
+        costs,
+        side,
+        count,
+        exits,
+        cell,
+        weight,
+        steps,
+        layers,
+    )
 }

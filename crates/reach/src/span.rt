@@ -2,26 +2,26 @@
 ghost use Prim.Native.Nat.{_*_, _≤_};
 ghost use lib.ListN.{length};
 ghost use Rattle.layout.specs.Layout.{cellWords};
-ghost use Rattle.table.specs.Problem.{rulesFor};
-ghost use Rattle.labels.specs.Labels.{SetIn, Ordered};
-ghost use Rattle.reach.specs.Reach.{FirstWith, NextSteps, Past, TableCleared, Cleared, Started, SpanAsks};
+ghost use Rattle.table.specs.Problem.{netRules};
+ghost use Rattle.reach.specs.Reach.{OrderIn, ExitsIn, BothIn, FirstWith, FirstExit, NextSteps, NextBoth, Past, TableCleared, Cleared, Started, SpanAsks};
 use crate::layers::Layers;
-use labels::Arrivals;
-use labels::arrive;
+use labels::BothArrivals;
+use labels::arrive_both;
 use labels::steps_of;
 use labels::weight_word;
 use layout::ARRIVAL;
+use layout::EXITS;
 use layout::LABELS;
 use layout::LISTED;
 use layout::ORDER;
 use layout::TRAIL;
-use problem::Problem;
+use problem::Net;
 use rows::clear;
 use trail::rewind;
 
 // The first place of the order, up to `count`, whose label has at least this weight.
 fn first_with(scratch: &[u16], n: usize, set: usize, count: usize, weight: u32) -> usize
-    requires { ⌜ Ordered n set (now scratch) count × SetIn n set (now scratch) ⌝ }
+    requires { ⌜ OrderIn n set (now scratch) count ⌝ }
     ensures { λ r. ⌜ FirstWith n set (now (scratch .entry)) count weight r ⌝ }
 {
     let mut low = 0;
@@ -38,8 +38,19 @@ fn first_with(scratch: &[u16], n: usize, set: usize, count: usize, weight: u32) 
     low
 }
 
+// So in the order of the FIFOs, where there are labels of them.
+fn first_exit(scratch: &[u16], n: usize, exits: usize, weight: u32) -> usize
+    requires { ⌜ ExitsIn n (now scratch) exits ⌝ }
+    ensures { λ r. ⌜ FirstExit n (now (scratch .entry)) exits weight r ⌝ }
+{
+    if 0 < exits {
+        return first_with(scratch, n, n * EXITS, exits, weight);
+    }
+    0
+}
+
 // The steps of the label at `at`, if that is one of this weight; at most `steps`.
-pub fn next_steps(
+fn next_steps(
     scratch: &[u16],
     n: usize,
     set: usize,
@@ -48,7 +59,7 @@ pub fn next_steps(
     weight: u32,
     steps: u32,
 ) -> u32
-    requires { ⌜ Ordered n set (now scratch) count × SetIn n set (now scratch) ⌝ }
+    requires { ⌜ OrderIn n set (now scratch) count ⌝ }
     ensures { λ r. ⌜ NextSteps n set (now (scratch .entry)) at count weight steps r ⌝ }
 {
     if at < count {
@@ -61,6 +72,27 @@ pub fn next_steps(
         }
     }
     steps
+}
+
+// The steps of the first label of either set that waits, if that is one of this weight; at most `steps`.
+pub fn next_both(
+    scratch: &[u16],
+    n: usize,
+    at: usize,
+    count: usize,
+    exit: usize,
+    exits: usize,
+    weight: u32,
+    steps: u32,
+) -> u32
+    requires { ⌜ BothIn n (now scratch) count exits ⌝ }
+    ensures { λ r. ⌜ NextBoth n (now (scratch .entry)) at count exit exits weight steps r ⌝ }
+{
+    let first = next_steps(scratch, n, n * LABELS, at, count, weight, steps);
+    if exit < exits {
+        return next_steps(scratch, n, n * EXITS, exit, exits, weight, first);
+    }
+    first
 }
 
 // The table becomes 0: on the trail, if that goes back to layer 0.
@@ -85,20 +117,22 @@ fn clear_span(scratch: &mut [u16], n: usize, layers: Layers)
     clear(scratch, n * LISTED, n * TRAIL);
 }
 
-// The table of no steps, and the seeds that need none after the close: where the labels wait that come later, and the count of the active list.
+// The table of no steps, and the seeds that need none after the close: where the labels of both sets wait that come later, and the count of the active list.
 pub fn start_span(
     plan: &[u8],
     scratch: &mut [u16],
-    p: Problem,
+    net: Net,
     count: usize,
+    exits: usize,
     weight: u32,
     layers: Layers,
-) -> Arrivals
-    requires { ⌜ SpanAsks p (now plan) count (now scratch) layers ⌝ }
-    ensures { λ r. ⌜ Started (rulesFor p (now (plan .entry))) (length (now (plan .entry))) weight (now (scratch .entry)) (now (scratch .exit)) (r .active) (r .at) count ⌝ }
+) -> BothArrivals
+    requires { ⌜ SpanAsks net (now plan) count exits (now scratch) layers ⌝ }
+    ensures { λ r. ⌜ Started (netRules net (now (plan .entry))) (length (now (plan .entry))) weight (now (scratch .entry)) (now (scratch .exit)) (r .active) (r .at) count (r .exit) exits ⌝ }
 {
     let n = plan.len();
     clear_span(scratch, n, layers);
-    let from = first_with(scratch, n, n * LABELS, count, weight);
-    arrive(scratch, n, n * LABELS, from, count, weight, 0, 0)
+    let at = first_with(scratch, n, n * LABELS, count, weight);
+    let exit = first_exit(scratch, n, exits, weight);
+    arrive_both(scratch, n, at, count, exit, exits, weight, 0, 0)
 }

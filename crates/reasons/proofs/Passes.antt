@@ -14,7 +14,7 @@ use Rattle.answers.specs.declared.explained.Reason.{Reason}
 use Rattle.answers.specs.declared.answer.Refusal.{Refusal}
 use Rattle.answers.specs.declared.explained.Explained.{Explained}
 use Rattle.problem.specs.declared.Problem.{Problem}
-use Rattle.table.specs.Problem.{planFor}
+use Rattle.problem.specs.Problem.{planFor}
 use Rattle.spans.specs.Opens.{rulesAt}
 use Rattle.earliest.specs.declared.First.{First}
 use Rattle.earliest.specs.Earliest.{FirstAt, NoPeriod, Tells, foundAt, noneAt, unknown}

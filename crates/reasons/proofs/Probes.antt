@@ -9,7 +9,7 @@ use Rattle.timing.specs.Valid.{Valid}
 use Rattle.rules.specs.Rules.{Rules}
 use Rattle.best.specs.Best.{Outcome, found, none, best}
 use Rattle.problem.specs.declared.Problem.{Problem}
-use Rattle.table.specs.Problem.{planFor, Ready}
+use Rattle.problem.specs.Problem.{planFor, Ready}
 use Rattle.router.specs.declared.least.Least.{Least}
 use Rattle.router.specs.Least.{leastOf}
 use Rattle.reasons.specs.Reasons.{routed}

@@ -5,7 +5,7 @@ use mathlib.Core.List.{List, []}
 use lib.ListN.{length}
 use Rattle.answers.specs.declared.answer.Refusal.{Refusal}
 use Rattle.answers.specs.declared.explained.Explained.{Explained}
-use Rattle.table.specs.Problem.{planFor}
+use Rattle.problem.specs.Problem.{planFor}
 use Rattle.question.specs.Checked.{problemAsked}
 use Rattle.question.proofs.Checks.{cells-asked}
 use Rattle.router.specs.Route.{Question, cellWords, passes, fails, questionChecks, checks, scratchAfter, scratchOf}

@@ -10,7 +10,7 @@ use Rattle.answers.specs.declared.explained.Explained.{Explained}
 use Rattle.rules.specs.Rules.{rulesOf}
 use Rattle.rows.specs.Words.{KeptFrom}
 use Rattle.problem.specs.declared.Problem.{Problem}
-use Rattle.table.specs.Problem.{planFor}
+use Rattle.problem.specs.Problem.{planFor}
 use Rattle.router.specs.Route.{cellWords, zeroed}
 use Rattle.reasons.specs.Reasons.{routed, routedAt, smallestPeriod, reasonFor, explainedFor}
 

@@ -1,7 +1,8 @@
 // Whether a route exists with other tables.
 ghost use lib.ListN.{length};
 ghost use Rattle.timing.specs.Valid.{Valid};
-ghost use Rattle.table.specs.Problem.{Ready, Room};
+ghost use Rattle.problem.specs.Problem.{Ready};
+ghost use Rattle.table.specs.Problem.{Room};
 ghost use Rattle.reasons.specs.Probe.{Probed};
 use costs::costs_of;
 use problem::Problem;
@@ -14,7 +15,7 @@ pub fn exists_with(plan: &[u8], scratch: &mut [u16], p: Problem, elements: Eleme
     requires { ⌜ Ready p (now plan) × (Room (length (now plan)) (now scratch) × Valid elements) ⌝ }
     ensures { λ r. ⌜ Probed p elements (now (plan .entry)) (now (scratch .entry)) (now (scratch .exit)) r ⌝ }
 {
-    let costs = costs_of(elements);
+    let costs = costs_of(elements, elements.register);
     let q = Problem {
         width: p.width,
         height: p.height,

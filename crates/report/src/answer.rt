@@ -1,5 +1,6 @@
 // The answer of a call.
 ghost use mathlib.Core.Path.{_≡_};
+ghost use Prim.Native.Nat.{_≤_};
 ghost use Rattle.answers.specs.Numbers.{filledWords};
 use answers::Answer;
 use answers::Fault;
@@ -37,13 +38,20 @@ pub fn write_slack(z: i32) -> bool {
     write_number(slack_magnitude(z) as u64)
 }
 
-// Of refusal 4 the word `fault`, the fault's place in document 01's order and a buffer's place in its list; of any other
-// refusal nothing.
-pub fn write_element(refusal: Refusal) -> bool {
+// Of refusal 4 the word `fault`, the fault's place in the order of a call with so many clocks and a buffer's place in its list;
+// of any other refusal nothing.
+pub fn write_named(refusal: Refusal, clocks: u64) -> bool
+    requires { ⌜ clocks ≤ 2 ⌝ }
+{
     let Refusal::Element(fault) = refusal else {
         return true;
     };
-    write_text(b" fault") && write_place(fault)
+    write_text(b" fault") && write_place(fault, clocks)
+}
+
+// The same with one clock.
+pub fn write_element(refusal: Refusal) -> bool {
+    write_named(refusal, 1)
 }
 
 // The same of an answer.
@@ -54,15 +62,21 @@ pub fn write_fault(answer: Answer) -> bool {
     write_element(refusal)
 }
 
-fn write_place(fault: Fault) -> bool {
+// Each clock has a period before L, and each clock but one a FIFO before the count.
+fn write_place(fault: Fault, clocks: u64) -> bool
+    requires { ⌜ clocks ≤ 2 ⌝ }
+{
     match fault {
         Fault::Period => write_number(1),
-        Fault::Limit => write_number(2),
-        Fault::Horizontal => write_number(3),
-        Fault::Vertical => write_number(4),
-        Fault::Register => write_number(5),
-        Fault::Count => write_number(6),
-        Fault::Buffer(place) => write_number(7) && write_number(place as u64),
+        Fault::SourcePeriod => write_number(1),
+        Fault::SinkPeriod => write_number(2),
+        Fault::Limit => write_number(clocks + 1),
+        Fault::Horizontal => write_number(clocks + 2),
+        Fault::Vertical => write_number(clocks + 3),
+        Fault::Register => write_number(clocks + 4),
+        Fault::Fifo => write_number(clocks + 5),
+        Fault::Count => write_number(2 * clocks + 4),
+        Fault::Buffer(place) => write_number(2 * clocks + 5) && write_number(place as u64),
     }
 }
 

@@ -1,5 +1,6 @@
 // What the programs print of a call: its answer, and the words that it was lent. Each says whether all was written.
 mod answer;
+mod crossing;
 mod words;
 
 pub use answer::filled;
@@ -8,6 +9,9 @@ pub use answer::write_element;
 pub use answer::write_fault;
 pub use answer::write_figures;
 pub use answer::write_slack;
+pub use crossing::crossed;
+pub use crossing::write_crossing_fault;
+pub use crossing::write_crossing_figures;
 pub use words::smaller;
 pub use words::write_runs;
 pub use words::write_words;

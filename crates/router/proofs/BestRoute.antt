@@ -17,9 +17,9 @@ use Rattle.budget.proofs.Document01.{rules-cost}
 use Rattle.best.specs.Best.{Outcome, found, none, best}
 use Rattle.best.proofs.Document01.{rules-best, rules-none, registers-fit, steps-fit, latency-fits}
 use Rattle.problem.specs.declared.Problem.{Problem}
-use Rattle.table.specs.Problem.{planFor, rulesFor, Ready}
+use Rattle.problem.specs.Problem.{planFor, rulesFor, Ready}
 use Rattle.search.specs.Turn.{Reaching}
-use Rattle.search.proofs.Ready.{ready-cells}
+use Rattle.problem.proofs.Sizes.{cells-are}
 
 pub record BestIs (R : Rules) (period k s : ℕ) : Type 0 where
   pub route : Route
@@ -44,7 +44,7 @@ module _ (p : Problem) (marks : List ℕ) (ready : Ready p marks) where
 
   pub sink-in : R .sink < R .cellCount
   unfolding rulesFor rulesOf
-  sink-in = omega (arith, ready .sink, ready-cells p marks ready)
+  sink-in = omega (arith, ready .sink, cells-are p marks ready)
 
   found-best : (r : Route) → best R ≡ found r → IsBest registers R r
   unfolding rulesFor
@@ -54,7 +54,7 @@ module _ (p : Problem) (marks : List ℕ) (ready : Ready p marks) where
   unfolding rulesFor
   none-legal e = rules-none (planFor p marks) (p .elements) (p .source) (p .sink) (ready .valid) .0 e
 
-  cost : Costs R registers 1
+  pub cost : Costs R registers 1
   unfolding rulesFor
   cost = rules-cost (planFor p marks) (p .elements) (p .source) (p .sink)
 
@@ -76,9 +76,9 @@ module _ (p : Problem) (marks : List ℕ) (ready : Ready p marks) where
     ),
   )
 
-  pub best-is : (n : ℕ) (words : List ℕ) (k s count : ℕ) → Reaching R n words k s count → BestIs R (p .elements .period) k s
+  pub best-is : (n exits : ℕ) (words : List ℕ) (k s count : ℕ) → Reaching R n exits words k s count → BestIs R (p .elements .period) k s
   unfolding latency
-  best-is n words k s count x = go (best R) refl
+  best-is n exits words k s count x = go (best R) refl
     where
       go : (o : Outcome) → best R ≡ o → BestIs R (p .elements .period) k s
       go none e = absurd (none-legal e _ (figures.least-legal R (R .weight 0 + k) s (x .least) sink-in))

@@ -1,4 +1,6 @@
 pub mod Splice
+pub mod Lent
+pub mod OneClock
 pub mod BestRoute
 pub mod Outcomes
 pub mod Refusals

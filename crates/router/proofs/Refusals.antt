@@ -8,7 +8,7 @@ use lib.ListN.{length}
 use Rattle.answers.specs.Tables.{elementsOf}
 use Rattle.answers.specs.declared.answer.Answer.{Answer}
 use Rattle.answers.specs.declared.answer.Refusal.{Refusal}
-use Rattle.table.specs.Problem.{planFor, rulesFor}
+use Rattle.problem.specs.Problem.{planFor, rulesFor}
 use Rattle.question.specs.Checked.{problemAsked}
 use Rattle.question.proofs.Checks.{first-five, five-fail, cells-asked}
 use Rattle.router.specs.Route.{Question, rulesAsked, cellWords, passes, fails, questionChecks, checks, answerAfter, answerUnder, answerOf, scratchAfter, scratchOf, visitsAfter, visitsUnder, visitsOf, Routed}

@@ -7,7 +7,7 @@ use Rattle.rules.specs.Ranking.{registers, steps}
 use Rattle.best.specs.Best.{Outcome, found, none, best}
 use Rattle.rows.specs.Words.{KeptFrom}
 use Rattle.problem.specs.declared.Problem.{Problem}
-use Rattle.table.specs.Problem.{rulesFor}
+use Rattle.problem.specs.Problem.{rulesFor}
 use Rattle.router.specs.Route.{cellWords}
 use Rattle.router.specs.declared.least.Least.{Least}
 

@@ -1,3 +1,4 @@
 pub mod Route
 pub mod Ready
 pub mod Least
+pub mod Writing

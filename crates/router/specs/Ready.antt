@@ -6,7 +6,7 @@ use lib.ListN.{length}
 use Rattle.best.specs.Best.{best}
 use Rattle.answers.specs.declared.answer.Answer.{Answer}
 use Rattle.problem.specs.declared.Problem.{Problem}
-use Rattle.table.specs.Problem.{rulesFor}
+use Rattle.problem.specs.Problem.{rulesFor}
 use Rattle.router.specs.Route.{cellWords, answerFor, visitsFor, zeroed}
 
 pub record RouteDone (p : Problem) (marks scratch scratch′ visits visits′ : List ℕ) (r : Answer) : Type 0 where

@@ -41,7 +41,7 @@ pub fn route_read(
             }
             let p = checked.problem;
             let elements = p.elements;
-            let costs = costs_of(elements);
+            let costs = costs_of(elements, elements.register);
             return route_ready(plan, scratch, p, &costs, visits);
         }
     }

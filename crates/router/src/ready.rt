@@ -1,30 +1,23 @@
 // The best route of a problem that the checks have passed. The scratch words are zero afterwards.
 ghost use Prim.Native.Nat.{_*_};
-ghost use mathlib.Core.Bool.{cond};
-ghost use mathlib.Core.Path.{_≡_};
-ghost use lib.Dec.{leb};
 ghost use lib.ListN.{length};
 ghost use Rattle.costs.specs.Costs.{CostsOf};
-ghost use Rattle.table.specs.Problem.{Ready, Room, rulesFor};
+ghost use Rattle.problem.specs.Problem.{Ready, rulesFor};
+ghost use Rattle.table.specs.Problem.{Room};
 ghost use Rattle.search.specs.Turn.{Reaching};
 ghost use Rattle.router.specs.Ready.{RouteDone};
+use crate::writing::write_out;
 use answers::Answer;
 use answers::Figures;
 use answers::Refusal;
 use costs::COSTS;
-use emission::emit;
+use emission::Counts;
 use layout::CELL_WORDS;
+use problem::Net;
 use problem::Problem;
 use rows::clear;
 use search::Reached;
 use search::search_anew;
-
-// The words that a route of so many gets of those lent: all of its own, or none.
-fn words_for(need: usize, lent: usize) -> usize
-    ensures { λ r. ⌜ r ≡ cond (leb need lent) need 0 ⌝ }
-{
-    if need <= lent { need } else { 0 }
-}
 
 // The route of these figures is written, if there is room; its smallest spare figure is told in any case.
 fn write_route(
@@ -37,34 +30,39 @@ fn write_route(
     steps: u32,
     count: usize,
 ) -> Answer
-    requires { ⌜ Ready p (now plan) × (Room (length (now plan)) (now scratch) × (Reaching (rulesFor p (now plan)) (length (now plan)) (now scratch) weight steps count × CostsOf (p .elements) (now costs))) ⌝ }
+    requires { ⌜ Ready p (now plan) × (Room (length (now plan)) (now scratch) × (Reaching (rulesFor p (now plan)) (length (now plan)) 0 (now scratch) weight steps count × CostsOf (p .elements) (p .elements .register) (now costs))) ⌝ }
     ensures { λ r. ⌜ RouteDone p (now (plan .entry)) (now (scratch .entry)) (now (scratch .exit)) (now (visits .entry)) (now (visits .exit)) r ⌝ }
 {
     let n = plan.len();
     let elements = p.elements;
     let latency = elements.period as u32 * (weight + 1);
-    let room = words_for(2 * (steps as usize + 1), visits.len());
-    let slack = emit(
+    let net = Net::one_clock(p);
+    let labels = Counts {
+        registers: count,
+        exits: 0,
+    };
+    let written = write_out(
         plan,
         scratch,
-        p,
+        net,
         costs,
-        count,
+        labels,
+        0,
         weight,
         steps,
-        &mut visits[..room],
+        n * CELL_WORDS,
+        visits,
     );
-    clear(scratch, 0, n * CELL_WORDS);
     let figures = Figures {
         registers: weight as u16,
         steps: steps,
         latency: latency,
-        slack: slack,
+        slack: written.slack,
     };
-    if room == 0 {
-        return Answer::NoRoom(figures);
+    if written.fits {
+        return Answer::Found(figures);
     }
-    Answer::Found(figures)
+    Answer::NoRoom(figures)
 }
 
 // The best route, 7 or 8.
@@ -75,15 +73,16 @@ pub fn route_ready(
     costs: &[u16; COSTS],
     visits: &mut [u16],
 ) -> Answer
-    requires { ⌜ Ready p (now plan) × (Room (length (now plan)) (now scratch) × CostsOf (p .elements) (now costs)) ⌝ }
+    requires { ⌜ Ready p (now plan) × (Room (length (now plan)) (now scratch) × CostsOf (p .elements) (p .elements .register) (now costs)) ⌝ }
     ensures { λ r. ⌜ RouteDone p (now (plan .entry)) (now (scratch .entry)) (now (scratch .exit)) (now (visits .entry)) (now (visits .exit)) r ⌝ }
 {
-    let reached = search_anew(plan, scratch, p, costs);
+    let net = Net::one_clock(p);
+    let reached = search_anew(plan, scratch, net, costs, 0, 0);
     match reached {
         Reached::Sink(weight, steps, count) => {
             return write_route(plan, scratch, p, costs, visits, weight, steps, count);
         }
-        Reached::Nothing => {
+        Reached::Nothing(_, _) => {
             let n = plan.len();
             clear(scratch, 0, n * CELL_WORDS);
             return Answer::Refused(Refusal::NoRoute);

@@ -7,6 +7,8 @@ pub mod Dominance
 pub mod Relaxed
 pub mod Chains
 pub mod Document01
+pub mod Clocks
+pub mod Crossing
 pub mod Looser
 pub mod LeftOut
 pub mod Slack

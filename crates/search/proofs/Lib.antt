@@ -1,9 +1,8 @@
 pub mod Total
-pub mod Arrivals
-pub mod Seeds
-pub mod Ready
+pub mod Blanks
 pub mod Queue
 pub mod Layers
 pub mod Fronts
 pub mod TakeTurn
 pub mod Ends
+pub mod LastSide

@@ -1,3 +1,4 @@
 pub mod Front
 pub mod Turn
+pub mod Ask
 pub mod Search

@@ -9,9 +9,9 @@ use Rattle.timing.specs.Formulas.{gateDelay, registerDriver, bufferLoad}
 use Rattle.rules.specs.Rules.{Rules, rulesOf, registerCode}
 use Rattle.rows.specs.Rows.{viewOf}
 use Rattle.problem.specs.declared.Problem.{Problem}
-use Rattle.table.specs.Problem.{rulesFor}
+use Rattle.problem.specs.Problem.{rulesFor}
 use Rattle.table.specs.ArrivalRow.{takesBuffers}
-use Rattle.table.proofs.Views.{limit-named}
+use Rattle.spans.proofs.Named.{limit-named}
 use Rattle.delays.specs.Delays.{Eased}
 use Rattle.spans.specs.Opens.{MayClose}
 use Rattle.spans.specs.Eases.{Eases}

@@ -19,10 +19,10 @@ use Rattle.budget.proofs.Codes.{buffer-open}
 use Rattle.costs.specs.Costs.{bufferAt}
 use Rattle.rows.specs.Rows.{viewOf}
 use Rattle.problem.specs.declared.Problem.{Problem}
-use Rattle.table.specs.Problem.{planFor, rulesFor, Ready}
+use Rattle.problem.specs.Problem.{planFor, rulesFor, Ready}
 use Rattle.table.specs.ArrivalRow.{takesBuffers}
 use Rattle.table.proofs.ArrivalRow.{takes-site, site-takes}
-use Rattle.table.proofs.Views.{buffer-named, limit-named}
+use Rattle.spans.proofs.Named.{buffer-named, limit-named}
 use Rattle.delays.specs.Delays.{latest, Eased}
 use Rattle.spans.specs.Opens.{Opens}
 use Rattle.spans.specs.Eases.{Ground, Eases}

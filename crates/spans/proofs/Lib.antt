@@ -1,3 +1,4 @@
+pub mod Named
 pub mod Opens
 pub mod Eases
 pub mod Buffers

@@ -19,7 +19,7 @@ use Rattle.budget.proofs.Done.{any-span}
 use Rattle.budget.proofs.Document01.{rules-lawful}
 use Rattle.problem.specs.declared.Problem.{Problem}
 use Rattle.problem.proofs.Sizes.{cells-are}
-use Rattle.table.specs.Problem.{Ready, planFor, rulesFor}
+use Rattle.problem.specs.Problem.{Ready, planFor, rulesFor}
 use Rattle.spans.specs.Opens.{MayClose, rulesAt, Opens, Shuts, Comes}
 
 module _ (p : Problem) (marks : List ℕ) where

@@ -21,8 +21,8 @@ use Rattle.costs.specs.Costs.{rowWords}
 use Rattle.problem.specs.declared.Problem.{Problem}
 use Rattle.problem.proofs.Sizes.{cells-are}
 use Rattle.problem.proofs.Wires.{in-order, sides, linked, across, along}
-use Rattle.table.specs.Problem.{planFor, rulesFor, Ready}
-use Rattle.table.proofs.Views.{limit-named}
+use Rattle.problem.specs.Problem.{planFor, rulesFor, Ready}
+use Rattle.spans.proofs.Named.{limit-named}
 use Rattle.delays.specs.Delays.{never, latest}
 use Rattle.spans.specs.Eases.{Eases}
 use Rattle.spans.specs.Arrive.{ArriveAsks, Arrived}

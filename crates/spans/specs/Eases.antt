@@ -9,7 +9,8 @@ use Rattle.layout.specs.Layout.{cellWords}
 use Rattle.rows.specs.Words.{KeptFrom}
 use Rattle.rows.specs.Rows.{viewOf}
 use Rattle.problem.specs.declared.Problem.{Problem}
-use Rattle.table.specs.Problem.{Ready, Room}
+use Rattle.problem.specs.Problem.{Ready}
+use Rattle.table.specs.Problem.{Room}
 use Rattle.queue.specs.Queue.{Queue, Waits}
 use Rattle.delays.specs.Delays.{latest, closesOf, Falling}
 use Rattle.spans.specs.Opens.{Opens, Shuts}

@@ -12,7 +12,7 @@ use Rattle.rules.specs.Carrying.{Buffering}
 use Rattle.rules.specs.Relaxed.{HasRoute}
 use Rattle.budget.specs.Done.{stage}
 use Rattle.problem.specs.declared.Problem.{Problem}
-use Rattle.table.specs.Problem.{planFor, rulesFor}
+use Rattle.problem.specs.Problem.{planFor, rulesFor}
 
 -- a span may close at the cell: it is the source, or a register may stand there
 abbrev pub MayClose : Rules → ℕ → Type 0

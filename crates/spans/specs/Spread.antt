@@ -12,7 +12,7 @@ use Rattle.rules.specs.Legal.{arrive}
 use Rattle.budget.specs.Done.{stage}
 use Rattle.costs.specs.Costs.{rowWords}
 use Rattle.problem.specs.declared.Problem.{Problem}
-use Rattle.table.specs.Problem.{rulesFor}
+use Rattle.problem.specs.Problem.{rulesFor}
 use Rattle.delays.specs.Delays.{never, latest, Idle}
 use Rattle.spans.specs.Opens.{Opens}
 use Rattle.spans.specs.Eases.{Ground}

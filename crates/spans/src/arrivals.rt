@@ -3,7 +3,7 @@ ghost use mathlib.Core.Path.{_≡_};
 ghost use mathlib.Core.Bool.{true};
 ghost use lib.ListN.{length, getD};
 ghost use Rattle.timing.specs.Formulas.{registerLoad, setupDelay};
-ghost use Rattle.table.specs.Problem.{rulesFor};
+ghost use Rattle.problem.specs.Problem.{rulesFor};
 ghost use Rattle.table.specs.ArrivalRow.{takesBuffers};
 ghost use Rattle.delays.specs.Delays.{Eased};
 ghost use Rattle.spans.specs.Eases.{Eases};

@@ -1,6 +1,6 @@
 // A state goes on to the neighbours of its cell.
 ghost use lib.ListN.{length};
-ghost use Rattle.table.specs.Problem.{rulesFor};
+ghost use Rattle.problem.specs.Problem.{rulesFor};
 ghost use Rattle.spans.specs.Eases.{Eases};
 ghost use Rattle.spans.specs.Spread.{StepAsks, Stepped, SpreadAsks, SpreadOut};
 use crate::arrivals::arrive;

@@ -1,6 +1,6 @@
 -- The arrival row of one cell, as the words give it: buffer by buffer, and then `arrival` out of its three parts.
 use Prim.Native.Nat.{ℕ, suc, _+_, _*_, _-_, _≤_, _<_, max}
-use mathlib.Core.Path.{_≡_, refl, ap, _∙_}
+use mathlib.Core.Path.{_≡_, refl, sym, ap, _∙_}
 use mathlib.Core.Bool.{Bool, true, false, cond}
 use mathlib.Core.List.{List}
 use native.Mathlib.Omega.{arith}
@@ -8,20 +8,26 @@ use borrow.Author.Tests.{le-leb, lt-leb}
 use lib.Dec.{T, T-not, not-T, leb}
 use lib.ListN.{length, getD}
 use Rattle.plan.specs.Plan.{marksAt}
+use Rattle.timing.specs.declared.elements.Register.{Register}
 use Rattle.timing.specs.declared.elements.Elements.{Elements}
 use Rattle.timing.specs.Formulas.{gateDelay, bufferDriver, bufferLoad, registerDriver}
-use Rattle.rules.specs.Rules.{Rules, rulesOf, noGate, registerCode, fifoCode}
+use Rattle.rules.specs.Rules.{Rules, noGate, registerCode, fifoCode}
 use Rattle.rules.specs.Legal.{mayStand}
 use Rattle.plan.proofs.Truth.{both, parts, is-true, is-false, of-true, of-false, neqb→ne, ne→neqb}
 use Rattle.rules.proofs.Document01.{BufferSite, no-gate-stands, buffer-site, buffer-stands}
+use Rattle.rules.proofs.Clocks.{gate-register}
 use Rattle.budget.specs.Table.{Table, only, maxBelow, viaBuffer, viaClose, arrival, loadOf, bufferCost, closeCost}
 use Rattle.budget.proofs.Max.{max-longer}
 use Rattle.budget.proofs.Active.{max-same}
-use Rattle.costs.specs.Costs.{rowWords, bufferAt}
-use Rattle.rows.proofs.Leaves.{limited, driven}
+use Rattle.costs.specs.Costs.{rowWords, wordMost, bufferAt, registerAt, fifoAt, CostsOf}
+use Rattle.rows.proofs.Leaves.{limited, driven, raised-driven}
 use Rattle.problem.specs.declared.Problem.{Problem}
-use Rattle.table.specs.Problem.{planFor, rulesFor, Ready, budgetOf, seedOf}
-use Rattle.table.specs.ArrivalRow.{takesBuffers, behind, raisedByBuffers}
+use Rattle.problem.specs.declared.net.Net.{Net}
+use Rattle.problem.specs.Problem.{rulesFor}
+use Rattle.problem.specs.Net.{fifoOf}
+use Rattle.problem.proofs.Clocks.{net-stands, net-closer}
+use Rattle.table.specs.Problem.{planFor, netRules, NetReady, budgetOf, seedOf}
+use Rattle.table.specs.ArrivalRow.{takesBuffers, behind, raisedByBuffers, seeded}
 use Rattle.table.proofs.Views.{budget-at, buffer-named, limit-named}
 
 -- A word that is raised within the limit: x within it, z past it
@@ -33,6 +39,16 @@ raised-once false word x y z h = h
 raised-twice : (b : Bool) (word x y z d : ℕ) → word ≡ cond b (max x y) z → cond b (max word d) word ≡ cond b (max x (max y d)) z
 raised-twice true word x y z d h = omega arith
 raised-twice false word x y z d h = h
+
+raised-seed : (b s : Bool) (word x v : ℕ) → word ≡ cond b x 0 → cond s (cond b (max word v) word) word ≡ cond b (max x (cond s v 0)) 0
+raised-seed true true word x v h = omega arith
+raised-seed true false word x v h = omega arith
+raised-seed false true word x v h = h
+raised-seed false false word x v h = h
+
+regrouped : (b : Bool) (w x y z : ℕ) → cond b (max (max (max w x) y) z) 0 ≡ cond b (max w (max x (max y z))) 0
+regrouped true w x y z = omega arith
+regrouped false w x y z = refl
 
 -- Buffer by buffer
 
@@ -83,9 +99,12 @@ module _ (p : Problem) (marks : List ℕ) (cell : ℕ) where
 
 -- The parts of `arrival`, each as the words give it
 
-module _ (p : Problem) (marks words : List ℕ) (cell : ℕ) (ready : Ready p marks) (inside : cell < length marks) where
+module _ (net : Net) (marks words : List ℕ) (cell : ℕ) (ready : NetReady net marks) (inside : cell < length marks) where
+  abbrev p : Problem
+  p = net .problem
+
   abbrev R : Rules
-  R = rulesFor p marks
+  R = netRules net marks
 
   abbrev e : Elements
   e = p .elements
@@ -98,54 +117,64 @@ module _ (p : Problem) (marks words : List ℕ) (cell : ℕ) (ready : Ready p ma
 
   buffer-load : (i : ℕ) → i < e .count → bufferLoad (bufferAt e i) < rowWords
   unfolding bufferLoad bufferAt
-  buffer-load i h = omega (arith, ready .valid .buffers i (omega (arith, ready .valid .count)) .load)
+  buffer-load i h = omega (arith, ready .ready .valid .buffers i (omega (arith, ready .ready .valid .count)) .load)
 
   via-standing : (i l : ℕ) → i < e .count → T (mayStand R cell (suc i)) → viaBuffer R A cell l (suc i) ≡ behind words cell e l i
   unfolding viaBuffer behind loadOf bufferCost only
   via-standing i l h t =
       simp
-      (is-true (mayStand R cell (suc i)) t, buffer-named p marks i, limit-named p marks, budget-word (bufferLoad (bufferAt e i)) (buffer-load i h))
+      (is-true (mayStand R cell (suc i)) t, buffer-named net marks i, limit-named net marks, budget-word (bufferLoad (bufferAt e i)) (buffer-load i h))
 
   via-refused : (i l : ℕ) → (T (mayStand R cell (suc i)) → ⊥) → viaBuffer R A cell l (suc i) ≡ 0
   unfolding viaBuffer only
   via-refused i l t = simp (is-false (mayStand R cell (suc i)) (not-T (mayStand R cell (suc i)) t))
 
+  -- a buffer stands as with one clock
+  alike : (i : ℕ) → i < 6 → mayStand R cell (suc i) ≡ mayStand (rulesFor p marks) cell (suc i)
+  alike i h = net-stands net marks cell (suc i) (λ z. omega arith)
+
+  stands-buffer : (i : ℕ) → i < 6 → T (mayStand R cell (suc i)) → BufferSite (planFor p marks) e (p .source) (p .sink) cell (suc i)
+  unfolding rulesFor
+  stands-buffer i h t =
+      buffer-site (planFor p marks) e (p .source) (p .sink) cell (suc i) (λ z. omega arith) (λ z. omega arith) (rw (alike i h) at t)
+
+  buffer-may : (i : ℕ) → i < 6 → BufferSite (planFor p marks) e (p .source) (p .sink) cell (suc i) → T (mayStand R cell (suc i))
+  unfolding rulesFor
+  buffer-may i h s = rw (alike i h) (buffer-stands (planFor p marks) e (p .source) (p .sink) cell (suc i) (ready .ready .valid .count) s)
+
   -- the buffers give the maximum over those that are listed, where a buffer may stand at all
   buffers-listed : site p marks cell ≡ true → (l : ℕ) → maxBelow 6 (λ i. viaBuffer R A cell l (suc i)) ≡ maxBelow (e .count) (behind words cell e l)
-  unfolding rulesFor
   buffers-listed s l =
-      max-longer 6 (e .count) (λ i. viaBuffer R A cell l (suc i)) (ready .valid .count) (λ i h k. via-refused i l (λ t. omega (arith, buffer-site (planFor p marks) e (p .source) (p .sink) cell (suc i) (λ z. omega arith) (λ z. omega arith) t .listed)))
-      ∙ max-same (e .count) (λ i. viaBuffer R A cell l (suc i)) (behind words cell e l) (λ i h. via-standing i l h (buffer-stands (planFor p marks) e (p .source) (p .sink) cell (suc i) (ready .valid .count) (takes-site p marks cell s (suc i) (omega arith) (omega arith))))
+      max-longer 6 (e .count) (λ i. viaBuffer R A cell l (suc i)) (ready .ready .valid .count) (λ i h k. via-refused i l (λ t. omega (arith, stands-buffer i (omega arith) t .listed)))
+      ∙ max-same (e .count) (λ i. viaBuffer R A cell l (suc i)) (behind words cell e l) (λ i h. via-standing i l h (buffer-may i (omega arith) (takes-site p marks cell s (suc i) (omega arith) (omega arith))))
 
   buffers-none : site p marks cell ≡ false → (l : ℕ) → maxBelow 6 (λ i. viaBuffer R A cell l (suc i)) ≡ 0
-  unfolding rulesFor maxBelow
+  unfolding maxBelow
   buffers-none s l =
-      max-longer 6 0 (λ i. viaBuffer R A cell l (suc i)) (omega arith) (λ i h k. via-refused i l (λ t. T-not (site p marks cell) (of-false (site p marks cell) s) (site-takes p marks cell (suc i) (buffer-site (planFor p marks) e (p .source) (p .sink) cell (suc i) (λ z. omega arith) (λ z. omega arith) t))))
+      max-longer 6 0 (λ i. viaBuffer R A cell l (suc i)) (omega arith) (λ i h k. via-refused i l (λ t. T-not (site p marks cell) (of-false (site p marks cell) s) (site-takes p marks cell (suc i) (stands-buffer i (omega arith) t))))
 
   -- the row before a register is tried
   unfoldable pub through : ℕ → ℕ
   through l = only (leb l (e .limit .0)) (max (getD words (cell * rowWords + l) 0) (maxBelow 6 (λ i. viaBuffer R A cell l (suc i))))
 
-  -- no cell is marked for a FIFO
-  no-fifo-seed : seedOf (length marks) words fifoCode cell ≡ false
-  unfolding seedOf
-  no-fifo-seed = refl
+  -- what a close at a gate leaves of `top`
+  abbrev left : ℕ → Register → ℕ → ℕ → ℕ
+  left code gate top l = cond (seedOf (length marks) words code cell) (top - gateDelay (registerDriver gate) l) 0
+
+  passes : T (mayStand R cell noGate)
+  unfolding rulesFor
+  passes = rw (net-stands net marks cell noGate (λ z. omega arith)) (no-gate-stands (planFor p marks) e (p .source) (p .sink) cell)
 
   -- `arrival` at a cell of the plan
-  whole : (l : ℕ) → l < rowWords → arrival R (seedOf (length marks) words) (R .bound 0 0) A cell l ≡ only (leb l (e .limit .0)) (max (getD words (cell * rowWords + l) 0) (max (maxBelow 6 (λ i. viaBuffer R A cell l (suc i))) (only (seedOf (length marks) words registerCode cell) (2 * e .period + 1 - gateDelay (registerDriver (e .register)) l))))
-  unfolding arrival viaClose closeCost rulesFor rulesOf only
-  whole l h =
+  whole : (top l : ℕ) → l < rowWords → arrival R (seedOf (length marks) words) top A cell l ≡ only (leb l (e .limit .0)) (max (getD words (cell * rowWords + l) 0) (max (maxBelow 6 (λ i. viaBuffer R A cell l (suc i))) (max (left registerCode (e .register) top l) (left fifoCode (fifoOf net) top l))))
+  unfolding arrival viaClose closeCost only fifoOf
+  whole top l h =
       simp
-      (is-true (mayStand R cell noGate) (no-gate-stands (planFor p marks) e (p .source) (p .sink) cell), budget-word l h, no-fifo-seed)
-      (ap (only (leb l (e .limit .0))) (omega arith))
+      (is-true (mayStand R cell noGate) passes, budget-word l h, limit-named net marks, net-closer net marks cell registerCode, net-closer net marks cell fifoCode, gate-register e (net .clocks))
 
   pub limited-through : site p marks cell ≡ false → (l : ℕ) → limited words cell (e .limit .0) l ≡ through l
   unfolding through
   limited-through s l = rw (buffers-none s l) (ap (only (leb l (e .limit .0))) (omega arith))
-
-  pub through-arrival : seedOf (length marks) words registerCode cell ≡ false → (l : ℕ) → l < rowWords → through l ≡ arrival R (seedOf (length marks) words) (R .bound 0 0) A cell l
-  unfolding through only
-  through-arrival s l h = rw (whole l h) (simp s (ap (only (leb l (e .limit .0))) (omega arith)))
 
   module _ (mid : List ℕ) (to l : ℕ) where
     pub raised-by-through : site p marks cell ≡ true → ((k : ℕ) → k < rowWords → getD mid (cell * rowWords + k) 0 ≡ getD words (cell * rowWords + k) 0) → getD mid (to + l) 0 ≡ limited words cell (e .limit .0) l → raisedByBuffers mid cell to e (e .count) l ≡ through l
@@ -157,6 +186,25 @@ module _ (p : Problem) (marks words : List ℕ) (cell : ℕ) (ready : Ready p ma
         same =
             max-same (e .count) (behind mid cell e l) (behind words cell e l) (λ i h. simp (row (bufferLoad (bufferAt e i)) (buffer-load i h)))
 
-    pub driven-arrival : seedOf (length marks) words registerCode cell ≡ true → l < rowWords → getD mid (to + l) 0 ≡ through l → driven mid to (2 * e .period + 1) (registerDriver (e .register)) (e .limit .0) l ≡ arrival R (seedOf (length marks) words) (R .bound 0 0) A cell l
-    unfolding through only
-    driven-arrival s h here = rw (whole l h) (simp s (raised-twice (leb l (e .limit .0)) _ _ _ _ _ here))
+  -- the row after both tries to close: the register's (`past`), and then the FIFO's
+  module _ (top : ℕ) (costs : List ℕ) (costed : CostsOf e (fifoOf net) costs) (fits : top ≤ wordMost) (mid past : List ℕ) (to l : ℕ) (h : l < rowWords) where
+    abbrev within : Bool
+    within = leb l (e .limit .0)
+
+    abbrev before : ℕ
+    before = max (getD words (cell * rowWords + l) 0) (maxBelow 6 (λ i. viaBuffer R A cell l (suc i)))
+
+    after-register : getD mid (to + l) 0 ≡ through l → getD past (to + l) 0 ≡ seeded (seedOf (length marks) words registerCode cell) mid to top costs registerAt l → getD past (to + l) 0 ≡ cond within (max before (left registerCode (e .register) top l)) 0
+    unfolding through seeded only
+    after-register here then =
+        then
+        ∙ (ap (λ (z : ℕ). cond (seedOf (length marks) words registerCode cell) z (getD mid (to + l) 0)) (raised-driven mid to top costs registerAt (registerDriver (e .register)) (e .limit .0) (costed .register) fits l h)
+        ∙ raised-seed within (seedOf (length marks) words registerCode cell) (getD mid (to + l) 0) before (top - gateDelay (registerDriver (e .register)) l) here)
+
+    pub seeded-arrival : getD mid (to + l) 0 ≡ through l → getD past (to + l) 0 ≡ seeded (seedOf (length marks) words registerCode cell) mid to top costs registerAt l → seeded (seedOf (length marks) words fifoCode cell) past to top costs fifoAt l ≡ arrival R (seedOf (length marks) words) top A cell l
+    unfolding seeded only
+    seeded-arrival here then =
+        ap (λ (z : ℕ). cond (seedOf (length marks) words fifoCode cell) z (getD past (to + l) 0)) (raised-driven past to top costs fifoAt (registerDriver (fifoOf net)) (e .limit .0) (costed .fifo) fits l h)
+        ∙ (raised-seed within (seedOf (length marks) words fifoCode cell) (getD past (to + l) 0) (max before (left registerCode (e .register) top l)) (top - gateDelay (registerDriver (fifoOf net)) l) (after-register here then)
+        ∙ (regrouped within (getD words (cell * rowWords + l) 0) (maxBelow 6 (λ i. viaBuffer R A cell l (suc i))) (left registerCode (e .register) top l) (left fifoCode (fifoOf net) top l)
+        ∙ sym (whole top l h)))

@@ -15,8 +15,9 @@ use Rattle.lists.proofs.Lists.{bit-cases, listed-count}
 use Rattle.trail.specs.declared.Trail.{Trail}
 use Rattle.trail.specs.Trail.{Sound}
 use Rattle.trail.proofs.History.{sound-kept}
-use Rattle.problem.specs.declared.Problem.{Problem}
-use Rattle.table.specs.Problem.{rulesFor, Ready}
+use Rattle.problem.specs.declared.net.Net.{Net}
+use Rattle.problem.specs.Net.{fifoOf}
+use Rattle.table.specs.Problem.{netRules, NetReady}
 use Rattle.table.specs.Colours.{Unlinked}
 use Rattle.table.specs.Layer.{FlagsCleared, SpreadAllAsks}
 
@@ -103,8 +104,8 @@ module _ (n active i : ℕ) (old now : List ℕ) (listed : Listed n old (n * act
       flags c (inr e) (inr z) = inr (flag-other c e ∙ z)
 
 -- the pushes may begin
-pub cleared-asks : (p : Problem) (marks costs : List ℕ) (active : ℕ) (t : Trail) (old mid : List ℕ) → Ready p marks → length marks * cellWords ≤ length old → Sound (length marks) old t → Listed (length marks) old (length marks * activeAt) active → Unlinked (rulesFor p marks) (length marks) old → CostsOf (p .elements) costs → FlagsCleared (length marks) old mid → SpreadAllAsks p marks costs active t mid
-cleared-asks p marks costs active t old mid ready room sound listed unlinked costed f =
+pub cleared-asks : (net : Net) (marks costs : List ℕ) (active : ℕ) (t : Trail) (old mid : List ℕ) → NetReady net marks → length marks * cellWords ≤ length old → Sound (length marks) old t → Listed (length marks) old (length marks * activeAt) active → Unlinked (netRules net marks) (length marks) old → CostsOf (net .problem .elements) (fifoOf net) costs → FlagsCleared (length marks) old mid → SpreadAllAsks net marks costs active t mid
+cleared-asks net marks costs active t old mid ready room sound listed unlinked costed f =
     record {
       ready = ready;
       costed = costed;

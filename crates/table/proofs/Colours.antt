@@ -14,16 +14,17 @@ use Rattle.layout.specs.Layout.{activeAt}
 use Rattle.lists.specs.Lists.{flagOf, Listed}
 use Rattle.lists.proofs.Lists.{empty-flags}
 use Rattle.trail.specs.declared.Trail.{Trail}
-use Rattle.problem.specs.declared.Problem.{Problem}
+use Rattle.problem.specs.declared.net.Net.{Net}
 use Rattle.table.specs.declared.pushes.Grown.{Grown}
-use Rattle.table.specs.Problem.{planFor, rulesFor, budgetOf}
+use Rattle.table.specs.Problem.{planFor, netRules, budgetOf}
 use Rattle.table.specs.Layer.{arrivals, SpreadAll, Layered}
 use Rattle.table.specs.Colours.{ActiveNeighbour, Coloured, Unlinked}
 
 -- the rules of a problem have a colouring
-pub problem-colouring : (p : Problem) (marks : List ℕ) → Colouring (rulesFor p marks)
-unfolding rulesFor
-problem-colouring p marks = rules-colouring (planFor p marks) (p .elements) (p .source) (p .sink)
+pub problem-colouring : (net : Net) (marks : List ℕ) → Colouring (netRules net marks)
+unfolding netRules
+problem-colouring net marks =
+    rules-colouring (planFor (net .problem) marks) (net .problem .elements) (net .clocks) (net .problem .source) (net .problem .sink)
 
 pub coloured-unlinked : {R : Rules} {n s : ℕ} {words : List ℕ} → Colouring R → Coloured R n s words → Unlinked R n words
 coloured-unlinked K k c d h i f g = same-unlinked K (k .inStep c h f) (k .inStep d i g)
@@ -37,13 +38,13 @@ pub coloured-kept : {R : Rules} {n s : ℕ} {old : List ℕ} → Coloured R n s 
 coloured-kept k new old = record { inStep = λ c h f. k .inStep c h (old c h f) }
 
 -- Proof: what is in the table after the pushes was there or is given by a listed cell, and a cell gives only over a wire. Qed.
-pub pushes-neighbour : (R : Rules) (n : ℕ) (t : Trail) (old mid pushed : List ℕ) (active : ℕ) (next : Grown) → Listed n old (n * activeAt) active → ((i : ℕ) → i < active → getD mid (n * activeAt + i) 0 ≡ getD old (n * activeAt + i) 0) → SpreadAll R n active t mid pushed next → (c l : ℕ) → budgetOf n mid c l < budgetOf n pushed c l → ActiveNeighbour R n old c
+pub pushes-neighbour : (R : Rules) (n top : ℕ) (t : Trail) (old mid pushed : List ℕ) (active : ℕ) (next : Grown) → Listed n old (n * activeAt) active → ((i : ℕ) → i < active → getD mid (n * activeAt + i) 0 ≡ getD old (n * activeAt + i) 0) → SpreadAll R n top active t mid pushed next → (c l : ℕ) → budgetOf n mid c l < budgetOf n pushed c l → ActiveNeighbour R n old c
 unfolding given
-pushes-neighbour R n t old mid pushed active next listed same spread c l more =
+pushes-neighbour R n top t old mid pushed active next listed same spread c l more =
     from (below-max active offered (budgetOf n mid c l) (omega (arith, spread .most (max (budgetOf n mid c l) (maxBelow active offered)) c l (omega arith) (λ i h. omega (arith, max-at active offered i h)))))
   where
     offered : ℕ → ℕ
-    offered i = given R (arrivals R n mid) (getD mid (n * activeAt + i) 0) c l
+    offered i = given R (arrivals R n top mid) (getD mid (n * activeAt + i) 0) c l
 
     from : Above active offered (budgetOf n mid c l) → ActiveNeighbour R n old c
     from x =
@@ -54,7 +55,7 @@ pushes-neighbour R n t old mid pushed active next listed same spread c l more =
           link = rw (same (x .at) (x .below)) at (only-test (R .linked c (getD mid (n * activeAt + x .at) 0)) _ (budgetOf n mid c l) (x .above));
         }
 
-pub coloured-layer : {R : Rules} {n s : ℕ} {t : Trail} {old new : List ℕ} {next : Grown} → Layered R n t old new next → Coloured R n s old → Coloured R n (suc s) new
+pub coloured-layer : {R : Rules} {n top s : ℕ} {t : Trail} {old new : List ℕ} {next : Grown} → Layered R n top t old new next → Coloured R n s old → Coloured R n (suc s) new
 coloured-layer {R} {n} {s} {t} {old} l k =
     record {
       inStep = λ c h f.

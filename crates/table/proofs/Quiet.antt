@@ -13,8 +13,8 @@ use Rattle.table.specs.Problem.{budgetOf, seedOf}
 use Rattle.table.specs.Layer.{ActiveIn}
 
 -- wherever the list is right at all neighbours
-pub quiet-layer : (R : Rules) (n : ℕ) {P : ℕ → Bool} (words : List ℕ) (active : ℕ) → R .cellCount ≡ n → ActiveIn R n P words active → active ≡ 0 → (c : ℕ) → ((x : ℕ) → T (R .linked c x) → T (P x)) → (l : ℕ) → budgetOf n words c l ≡ layer R (seedOf n words) (R .bound 0 0) (budgetOf n words) c l
-quiet-layer R n words active cells right none c near l =
-    pushes-layer R (seedOf n words) (R .bound 0 0) (budgetOf n words) (budgetOf n words c l) c l (omega arith)
-    (layer-least R (seedOf n words) (R .bound 0 0) (budgetOf n words) c l)
+pub quiet-layer : (R : Rules) (n top : ℕ) {P : ℕ → Bool} (words : List ℕ) (active : ℕ) → R .cellCount ≡ n → ActiveIn R n top P words active → active ≡ 0 → (c : ℕ) → ((x : ℕ) → T (R .linked c x) → T (P x)) → (l : ℕ) → budgetOf n words c l ≡ layer R (seedOf n words) top (budgetOf n words) c l
+quiet-layer R n top words active cells right none c near l =
+    pushes-layer R (seedOf n words) top (budgetOf n words) (budgetOf n words c l) c l (omega arith)
+    (layer-least R (seedOf n words) top (budgetOf n words) c l)
     (λ x h t. right .settled x (omega arith) (near x t) (empty-flags (right .listed) none x (omega arith)) c l)

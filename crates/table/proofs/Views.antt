@@ -13,9 +13,10 @@ use Rattle.layout.specs.Layout.{arrivalAt, seedsAt, trailAt}
 use Rattle.rows.specs.Words.{Kept}
 use Rattle.rows.specs.Rows.{wordOf}
 use Rattle.costs.specs.Costs.{rowWords, bufferAt}
-use Rattle.rules.specs.Rules.{rulesOf}
-use Rattle.problem.specs.declared.Problem.{Problem}
-use Rattle.table.specs.Problem.{rulesFor, budgetOf, seedOf}
+use Rattle.rules.specs.Rules.{isClosing, rulesOf}
+use Rattle.rules.specs.Crossing.{rulesBetween}
+use Rattle.problem.specs.declared.net.Net.{Net}
+use Rattle.table.specs.Problem.{netRules, budgetOf, seedOf}
 use Rattle.table.specs.Layer.{arrivalOf}
 
 module _ (n : ℕ) where
@@ -64,19 +65,19 @@ module _ (n : ℕ) where
       go (inl h) = arrival-outside new l h ∙ sym (arrival-outside old l h)
       go (inr h) = arrival-at new l h ∙ (kept (n * arrivalAt + l) (omega arith) (omega arith) ∙ sym (arrival-at old l h))
 
-  pub seeds-kept : (old new : List ℕ) → Kept (n * seedsAt) (n * trailAt) old new → (c : ℕ) → c < n → (code : ℕ) → seedOf n new code c ≡ seedOf n old code c
+  pub seeds-kept : (old new : List ℕ) → Kept (n * seedsAt) (n * trailAt) old new → (c : ℕ) → c < n → (code : ℕ) → T (isClosing code) → seedOf n new code c ≡ seedOf n old code c
   unfolding seedOf
-  seeds-kept old new kept c h code = rw (kept (n * seedsAt + c) (omega arith) (omega arith))
+  seeds-kept old new kept c h code z = rw (kept (n * seedsAt + c) (omega arith) (omega arith))
 
--- what the rules of a problem name
+-- what the rules of a net name
 
-module _ (p : Problem) (marks : List ℕ) where
-  pub buffer-named : (i : ℕ) → rulesFor p marks .buffer (suc i) ≡ bufferAt (p .elements) i
-  unfolding rulesFor rulesOf bufferAt
+module _ (net : Net) (marks : List ℕ) where
+  pub buffer-named : (i : ℕ) → netRules net marks .buffer (suc i) ≡ bufferAt (net .problem .elements) i
+  unfolding netRules rulesBetween rulesOf bufferAt
   buffer-named i =
       let z : suc i - 1 ≡ i = omega arith in
       rw z
 
-  pub limit-named : rulesFor p marks .limit ≡ p .elements .limit .0
-  unfolding rulesFor rulesOf
+  pub limit-named : netRules net marks .limit ≡ net .problem .elements .limit .0
+  unfolding netRules rulesBetween rulesOf
   limit-named = refl

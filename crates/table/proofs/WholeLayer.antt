@@ -47,9 +47,9 @@ raised-more n a b d k m up1 up2 r s =
     quiet c h z (inr e) l = absurd (omega (arith, e .0))
 
 -- From the cleared flags, the pushes and the new list to the layer.
-module _ (R : Rules) (n : ℕ) (t : Trail) (old mid pushed new : List ℕ) (active : ℕ) (next : Grown) (cells : R .cellCount ≡ n) (start : Listed n old (n * activeAt) active) (sound : Sound n old t) (cleared : FlagsCleared n old mid) (spread : SpreadAll R n active t mid pushed next) (taken : Taken n (next .count) pushed new) where
+module _ (R : Rules) (n top : ℕ) (t : Trail) (old mid pushed new : List ℕ) (active : ℕ) (next : Grown) (cells : R .cellCount ≡ n) (start : Listed n old (n * activeAt) active) (sound : Sound n old t) (cleared : FlagsCleared n old mid) (spread : SpreadAll R n top active t mid pushed next) (taken : Taken n (next .count) pushed new) where
   abbrev B : Table
-  B = arrivals R n old
+  B = arrivals R n top old
 
   same-budget : (c l : ℕ) → budgetOf n mid c l ≡ budgetOf n old c l
   same-budget = budget-kept n old mid (λ k lo hi. cleared .low k lo (omega arith))
@@ -61,32 +61,32 @@ module _ (R : Rules) (n : ℕ) (t : Trail) (old mid pushed new : List ℕ) (acti
   same-list i h = cleared .low (n * activeAt + i) (omega arith) (omega (arith, listed-count start))
 
   -- what a cell on the list gives
-  gives : (i : ℕ) → i < active → (c l : ℕ) → given R (arrivals R n mid) (getD mid (n * activeAt + i) 0) c l ≡ given R B (getD old (n * activeAt + i) 0) c l
+  gives : (i : ℕ) → i < active → (c l : ℕ) → given R (arrivals R n top mid) (getD mid (n * activeAt + i) 0) c l ≡ given R B (getD old (n * activeAt + i) 0) c l
   gives i h c l =
       let x : ℕ = getD old (n * activeAt + i) 0 in
       let e : getD mid (n * activeAt + i) 0 ≡ x = same-list i h in
-      rw e (given-row R B (arrivals R n mid) x (arrival-row R (seedOf n old) (seedOf n mid) (R .bound 0 0) (budgetOf n old) (budgetOf n mid) x (same-budget x) (seeds-kept n old mid (λ k lo hi. cleared .rest k lo) x (start .cells i h))) c l)
+      rw e (given-row R B (arrivals R n top mid) x (arrival-row R (seedOf n old) (seedOf n mid) top (budgetOf n old) (budgetOf n mid) x (same-budget x) (seeds-kept n old mid (λ k lo hi. cleared .rest k lo) x (start .cells i h))) c l)
 
   least : (c l : ℕ) → budgetOf n old c l ≤ budgetOf n new c l
   least c l = omega (arith, same-budget c l, spread .least c l, final-budget c l)
 
-  most : (c l : ℕ) → budgetOf n new c l ≤ layer R (seedOf n old) (R .bound 0 0) (budgetOf n old) c l
+  most : (c l : ℕ) → budgetOf n new c l ≤ layer R (seedOf n old) top (budgetOf n old) c l
   most c l =
       omega (
         arith,
         final-budget c l,
-        spread .most (layer R (seedOf n old) (R .bound 0 0) (budgetOf n old) c l) c l
-            (omega (arith, same-budget c l, layer-least R (seedOf n old) (R .bound 0 0) (budgetOf n old) c l))
+        spread .most (layer R (seedOf n old) top (budgetOf n old) c l) c l
+            (omega (arith, same-budget c l, layer-least R (seedOf n old) top (budgetOf n old) c l))
             (λ i h.
             omega (
               arith,
               gives i h c l,
-              given-most R (seedOf n old) (R .bound 0 0) (budgetOf n old) (getD old (n * activeAt + i) 0) c l (omega (arith, start .cells i h)),
+              given-most R (seedOf n old) top (budgetOf n old) (getD old (n * activeAt + i) 0) c l (omega (arith, start .cells i h)),
             )),
       )
 
   -- where the list was right, the table has what a cell gives
-  all : {P : ℕ → Bool} {count : ℕ} → ActiveIn R n P old count → (x c l : ℕ) → x < n → T (P x) → given R B x c l ≤ budgetOf n new c l
+  all : {P : ℕ → Bool} {count : ℕ} → ActiveIn R n top P old count → (x c l : ℕ) → x < n → T (P x) → given R B x c l ≤ budgetOf n new c l
   all right x c l h t = go (bit-cases (flagOf n old x) (start .bits x h))
     where
       listed : ListedAt n old (n * activeAt) active x → given R B x c l ≤ budgetOf n new c l
@@ -117,7 +117,7 @@ module _ (R : Rules) (n : ℕ) (t : Trail) (old mid pushed new : List ℕ) (acti
   neighbour : (c : ℕ) → c < n → flagOf n new c ≡ 1 → ActiveNeighbour R n old c
   neighbour c h f =
       let g = grew c h f in
-      pushes-neighbour R n t old mid pushed active next start same-list spread c (g .load) (omega (arith, g .more, same-budget c (g .load), final-budget c (g .load)))
+      pushes-neighbour R n top t old mid pushed active next start same-list spread c (g .load) (omega (arith, g .more, same-budget c (g .load), final-budget c (g .load)))
 
   taken-trail : TrailKept n pushed new
   taken-trail = record { near = λ i lo hi. taken .low i (omega arith); far = λ i lo hi. taken .high i (omega arith) }
@@ -129,21 +129,21 @@ module _ (R : Rules) (n : ℕ) (t : Trail) (old mid pushed new : List ℕ) (acti
       (spread .follows .history (λ c h e. absurd (omega (arith, cleared .cleared c h))) u Z below
       (history-kept n old t mid sound (record { near = λ i lo hi. cleared .low i (omega arith) (omega arith); far = λ i lo hi. cleared .rest i (omega arith) }) u Z (λ c h l k. cleared .low (c * rowWords + l) (omega arith) (omega arith)) past))
 
-  settled : {P : ℕ → Bool} {count : ℕ} → ActiveIn R n P old count → (x : ℕ) → x < n → T (P x) → flagOf n new x ≡ 0 → Settled R n new x
+  settled : {P : ℕ → Bool} {count : ℕ} → ActiveIn R n top P old count → (x : ℕ) → x < n → T (P x) → flagOf n new x ≡ 0 → Settled R n top new x
   settled right x h t f c l =
       omega (
         arith,
-        given-row R B (arrivals R n new) x
-            (arrival-row R (seedOf n old) (seedOf n new) (R .bound 0 0) (budgetOf n old) (budgetOf n new) x (quiet x h f) (seeds-kept n old new seeds x h)) c l,
+        given-row R B (arrivals R n top new) x
+            (arrival-row R (seedOf n old) (seedOf n new) top (budgetOf n old) (budgetOf n new) x (quiet x h f) (seeds-kept n old new seeds x h)) c l,
         all right x c l h t,
       )
 
-  pub layered : Layered R n t old new next
+  pub layered : Layered R n top t old new next
   layered =
       record {
         same = taken .same ∙ (spread .raised .same ∙ cleared .same);
         listed = taken .listed;
-        table = λ right c near l. pushes-layer R (seedOf n old) (R .bound 0 0) (budgetOf n old) (budgetOf n new c l) c l (least c l) (most c l) (λ x h t. all right x c l (omega arith) (near x t));
+        table = λ right c near l. pushes-layer R (seedOf n old) top (budgetOf n old) (budgetOf n new c l) c l (least c l) (most c l) (λ x h t. all right x c l (omega arith) (near x t));
         active = λ right. record { listed = taken .listed; settled = settled right };
         grew = grew;
         quiet = quiet;

@@ -9,15 +9,17 @@ use Rattle.timing.specs.declared.elements.Elements.{Elements}
 use Rattle.timing.specs.Formulas.{gateDelay, bufferDriver, bufferLoad}
 use Rattle.timing.specs.Valid.{Valid}
 use Rattle.budget.specs.Table.{only, maxBelow}
-use Rattle.costs.specs.Costs.{rowWords, bufferAt, BufferRows, CostsOf}
-use Rattle.rows.specs.Rows.{viewOf}
+use Rattle.costs.specs.Costs.{rowWords, costWords, bufferAt, BufferRows, CostsOf}
+use Rattle.rows.specs.Rows.{viewOf, raised}
 use Rattle.problem.specs.declared.Problem.{Problem}
-use Rattle.table.specs.Problem.{Ready, Room}
+use Rattle.problem.specs.declared.net.Net.{Net}
+use Rattle.problem.specs.Net.{fifoOf}
+use Rattle.table.specs.Problem.{NetReady, Room}
 
 -- a cell of a plan that has passed the checks, the costs, and room for the scratch words
-pub record CellReady (p : Problem) (marks costs words : List ℕ) (cell : ℕ) : Type 0 where
-  pub ready : Ready p marks
-  pub costed : CostsOf (p .elements) costs
+pub record CellReady (net : Net) (marks costs words : List ℕ) (cell : ℕ) : Type 0 where
+  pub ready : NetReady net marks
+  pub costed : CostsOf (net .problem .elements) (fifoOf net) costs
   pub inside : cell < length marks
   pub room : Room (length marks) words
 
@@ -41,3 +43,13 @@ behind words cell e l i =
 unfoldable pub raisedByBuffers : List ℕ → ℕ → ℕ → Elements → ℕ → ℕ → ℕ
 raisedByBuffers words cell to e count l =
     cond (leb l (e .limit .0)) (max (getD words (to + l) 0) (maxBelow count (behind words cell e l))) (getD words (to + l) 0)
+
+-- a mark and a row in the words, and a row of the costs
+pub record SeedAsks (mark to base : ℕ) (words : List ℕ) : Type 0 where
+  pub markIn : mark < length words
+  pub rowIn : to + rowWords ≤ length words
+  pub costsIn : base + rowWords ≤ costWords
+
+-- the row at `to`, raised where a span may close
+unfoldable pub seeded : Bool → List ℕ → ℕ → ℕ → List ℕ → ℕ → ℕ → ℕ
+seeded seed words to top costs base l = cond seed (raised words to top costs base l) (getD words (to + l) 0)

@@ -16,9 +16,10 @@ use Rattle.costs.specs.Costs.{rowWords, CostsOf}
 use Rattle.lists.specs.Lists.{flagOf, Listed}
 use Rattle.trail.specs.declared.Trail.{Trail}
 use Rattle.trail.specs.Trail.{Sound, History, Noted}
-use Rattle.table.specs.Problem.{Ready, Room, rulesFor, budgetOf, seedOf}
+use Rattle.table.specs.Problem.{NetReady, Room, netRules, budgetOf, seedOf}
 use Rattle.table.specs.Colours.{ActiveNeighbour}
-use Rattle.problem.specs.declared.Problem.{Problem}
+use Rattle.problem.specs.declared.net.Net.{Net}
+use Rattle.problem.specs.Net.{fifoOf}
 use Rattle.table.specs.declared.pushes.Grown.{Grown}
 
 -- the arrival row in the words; 0 past the loads
@@ -29,23 +30,23 @@ arrivalOf n words l = wordOf words (n * arrivalAt) l
 abbrev pub viaStep : ℕ → List ℕ → List ℕ → ℕ → ℕ → ℕ → ℕ
 viaStep n words costs base step l = arrivalOf n words (l + step) - getD costs (base + l) 0
 
--- the arrival rows of all cells, as the table in the words has them
-abbrev pub arrivals : Rules → ℕ → List ℕ → Table
-arrivals R n words = arrival R (seedOf n words) (R .bound 0 0) (budgetOf n words)
+-- the arrival rows of all cells, as the table in the words has them; `top` is what a closing delay stays below
+abbrev pub arrivals : Rules → ℕ → ℕ → List ℕ → Table
+arrivals R n top words = arrival R (seedOf n words) top (budgetOf n words)
 
 -- what cell n gives to its neighbours is in the table already
-abbrev pub Settled : Rules → ℕ → List ℕ → ℕ → Type 0
-Settled R n words cell =
-    (c l : ℕ) → given R (arrivals R n words) cell c l ≤ budgetOf n words c l
+abbrev pub Settled : Rules → ℕ → ℕ → List ℕ → ℕ → Type 0
+Settled R n top words cell =
+    (c l : ℕ) → given R (arrivals R n top words) cell c l ≤ budgetOf n words c l
 
 -- the active list is right in P: what a cell of P that is not listed gives is in the table already
-pub record ActiveIn (R : Rules) (n : ℕ) (P : ℕ → Bool) (words : List ℕ) (active : ℕ) : Type 0 where
+pub record ActiveIn (R : Rules) (n top : ℕ) (P : ℕ → Bool) (words : List ℕ) (active : ℕ) : Type 0 where
   pub listed : Listed n words (n * activeAt) active
-  pub settled : (c : ℕ) → c < n → T (P c) → flagOf n words c ≡ 0 → Settled R n words c
+  pub settled : (c : ℕ) → c < n → T (P c) → flagOf n words c ≡ 0 → Settled R n top words c
 
 -- it is right in every cell
-abbrev pub Active : Rules → ℕ → List ℕ → ℕ → Type 0
-Active R n words active = ActiveIn R n (λ c. true) words active
+abbrev pub Active : Rules → ℕ → ℕ → List ℕ → ℕ → Type 0
+Active R n top words active = ActiveIn R n top (λ c. true) words active
 
 -- some word of the cell's row grew
 pub record Grew (n : ℕ) (old new : List ℕ) (c : ℕ) : Type 0 where
@@ -109,45 +110,45 @@ pub record Offered (n to : ℕ) (costs : List ℕ) (base step : ℕ) (t : Trail)
   pub table : (c l : ℕ) → budgetOf n new c l ≡ max (budgetOf n old c l) (only (isSide n to c) (viaStep n old costs base step l))
   pub arrival : (l : ℕ) → arrivalOf n new l ≡ arrivalOf n old l
 
-pub record SpreadAsks (p : Problem) (marks costs : List ℕ) (cell : ℕ) (next : Grown) (words : List ℕ) : Type 0 where
-  pub ready : Ready p marks
-  pub costed : CostsOf (p .elements) costs
+pub record SpreadAsks (net : Net) (marks costs : List ℕ) (cell : ℕ) (next : Grown) (words : List ℕ) : Type 0 where
+  pub ready : NetReady net marks
+  pub costed : CostsOf (net .problem .elements) (fifoOf net) costs
   pub cellIn : cell < length marks
   pub room : Room (length marks) words
   pub listed : Listed (length marks) words (length marks * nextAt) (next .count)
   pub sound : Sound (length marks) words (next .trail)
 
 -- After `spread`: each neighbour has what the cell gives.
-pub record Spread (R : Rules) (n cell : ℕ) (t : Trail) (old new : List ℕ) (next : Grown) : Type 0 where
+pub record Spread (R : Rules) (n top cell : ℕ) (t : Trail) (old new : List ℕ) (next : Grown) : Type 0 where
   pub raised : Raised n old new (next .count)
   pub follows : Follows n t old (next .trail) new
-  pub table : (c l : ℕ) → budgetOf n new c l ≡ max (budgetOf n old c l) (given R (arrivals R n old) cell c l)
+  pub table : (c l : ℕ) → budgetOf n new c l ≡ max (budgetOf n old c l) (given R (arrivals R n top old) cell c l)
 
 -- no cell is flagged, and no wire joins two cells of the active list
-pub record SpreadAllAsks (p : Problem) (marks costs : List ℕ) (active : ℕ) (t : Trail) (words : List ℕ) : Type 0 where
-  pub ready : Ready p marks
-  pub costed : CostsOf (p .elements) costs
+pub record SpreadAllAsks (net : Net) (marks costs : List ℕ) (active : ℕ) (t : Trail) (words : List ℕ) : Type 0 where
+  pub ready : NetReady net marks
+  pub costed : CostsOf (net .problem .elements) (fifoOf net) costs
   pub room : Room (length marks) words
   pub sound : Sound (length marks) words t
   pub unflagged : (c : ℕ) → c < length marks → flagOf (length marks) words c ≡ 0
   pub short : active ≤ length marks
   pub cells : (i : ℕ) → i < active → getD words (length marks * activeAt + i) 0 < length marks
-  pub unlinked : (i j : ℕ) → i < active → j < active → T (rulesFor p marks .linked (getD words (length marks * activeAt + i) 0) (getD words (length marks * activeAt + j) 0)) → ⊥
+  pub unlinked : (i j : ℕ) → i < active → j < active → T (netRules net marks .linked (getD words (length marks * activeAt + i) 0) (getD words (length marks * activeAt + j) 0)) → ⊥
 
 -- After `spread_all`: each neighbour of a cell on the active list has what that cell gives, and nothing else was added.
-pub record SpreadAll (R : Rules) (n active : ℕ) (t : Trail) (old new : List ℕ) (next : Grown) : Type 0 where
+pub record SpreadAll (R : Rules) (n top active : ℕ) (t : Trail) (old new : List ℕ) (next : Grown) : Type 0 where
   pub raised : Raised n old new (next .count)
   pub follows : Follows n t old (next .trail) new
   pub least : (c l : ℕ) → budgetOf n old c l ≤ budgetOf n new c l
-  pub most : (x c l : ℕ) → budgetOf n old c l ≤ x → ((i : ℕ) → i < active → given R (arrivals R n old) (getD old (n * activeAt + i) 0) c l ≤ x) → budgetOf n new c l ≤ x
-  pub gave : (i : ℕ) → i < active → (c l : ℕ) → given R (arrivals R n old) (getD old (n * activeAt + i) 0) c l ≤ budgetOf n new c l
+  pub most : (x c l : ℕ) → budgetOf n old c l ≤ x → ((i : ℕ) → i < active → given R (arrivals R n top old) (getD old (n * activeAt + i) 0) c l ≤ x) → budgetOf n new c l ≤ x
+  pub gave : (i : ℕ) → i < active → (c l : ℕ) → given R (arrivals R n top old) (getD old (n * activeAt + i) 0) c l ≤ budgetOf n new c l
 
 -- After a layer. Wherever the active list was right: the rows of the cells whose neighbours are all there are the next ones, and the new list is right.
-pub record Layered (R : Rules) (n : ℕ) (t : Trail) (old new : List ℕ) (next : Grown) : Type 0 where
+pub record Layered (R : Rules) (n top : ℕ) (t : Trail) (old new : List ℕ) (next : Grown) : Type 0 where
   pub same : length new ≡ length old
   pub listed : Listed n new (n * activeAt) (next .count)
-  pub table : {P : ℕ → Bool} {active : ℕ} → ActiveIn R n P old active → (c : ℕ) → ((x : ℕ) → T (R .linked c x) → T (P x)) → (l : ℕ) → budgetOf n new c l ≡ layer R (seedOf n old) (R .bound 0 0) (budgetOf n old) c l
-  pub active : {P : ℕ → Bool} {active : ℕ} → ActiveIn R n P old active → ActiveIn R n P new (next .count)
+  pub table : {P : ℕ → Bool} {active : ℕ} → ActiveIn R n top P old active → (c : ℕ) → ((x : ℕ) → T (R .linked c x) → T (P x)) → (l : ℕ) → budgetOf n new c l ≡ layer R (seedOf n old) top (budgetOf n old) c l
+  pub active : {P : ℕ → Bool} {active : ℕ} → ActiveIn R n top P old active → ActiveIn R n top P new (next .count)
   pub grew : (c : ℕ) → c < n → flagOf n new c ≡ 1 → Grew n old new c
   pub quiet : (c : ℕ) → c < n → flagOf n new c ≡ 0 → SameRow n old new c
   -- labels and order

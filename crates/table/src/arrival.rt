@@ -1,21 +1,23 @@
 // The arrival row of one cell: its budget row, raised by what each gate that may stand there gives.
 ghost use mathlib.Core.Path.{_≡_};
 ghost use Prim.Native.Nat.{_+_, _*_};
-ghost use lib.ListN.{length};
+ghost use lib.ListN.{length, getD};
 ghost use Rattle.budget.specs.Table.{arrival};
 ghost use Rattle.layout.specs.Layout.{arrivalAt};
 ghost use Rattle.rows.specs.Words.{Filled};
 ghost use Rattle.costs.specs.Costs.{rowWords};
-ghost use Rattle.table.specs.Problem.{rulesFor, budgetOf, seedOf};
-ghost use Rattle.table.specs.ArrivalRow.{CellReady, RowsReady, takesBuffers, raisedByBuffers};
+ghost use Rattle.table.specs.Problem.{netRules, budgetOf, seedOf, marksSeed};
+ghost use Rattle.table.specs.ArrivalRow.{CellReady, RowsReady, SeedAsks, seeded, takesBuffers, raisedByBuffers};
 use costs::BUFFERS;
 use costs::COSTS;
+use costs::FIFO;
 use costs::NONE;
 use costs::REGISTER;
 use costs::ROW;
 use layout::ARRIVAL;
 use layout::SEEDS;
 use plan::is_blocked;
+use problem::Net;
 use problem::Problem;
 use rows::copy_row;
 use rows::raise_row;
@@ -60,19 +62,53 @@ fn raise_buffers(
     }
 }
 
-// The arrival row of a cell, in the one row that there is for it.
-pub fn fill_arrival(plan: &[u8], scratch: &mut [u16], p: Problem, costs: &[u16; COSTS], cell: usize)
-    requires { ⌜ CellReady p (now plan) (now costs) (now scratch) cell ⌝ }
-    ensures { λ _. ⌜ Filled (arrival (rulesFor p (now (plan .entry))) (seedOf (length (now (plan .entry))) (now (scratch .entry))) (rulesFor p (now (plan .entry)) .bound 0 0) (budgetOf (length (now (plan .entry))) (now (scratch .entry))) cell) (length (now (plan .entry)) * arrivalAt) rowWords (now (scratch .entry)) (now (scratch .exit)) ⌝ }
+// The seed mark has this code: it is the sum of the codes with which a span may close.
+pub fn marks_seed(mark: u16, code: u16) -> bool
+    ensures { λ r. ⌜ r ≡ marksSeed mark code ⌝ }
+{
+    if mark == code {
+        return true;
+    }
+    mark == 15
+}
+
+// Where the word at `mark` says that a span may close with this code, the arrival row at `to` is raised to what the gate's costs at `base` leave of `top`.
+fn raise_seed(
+    scratch: &mut [u16],
+    mark: usize,
+    code: u16,
+    to: usize,
+    top: u16,
+    costs: &[u16; COSTS],
+    base: usize,
+)
+    requires { ⌜ SeedAsks mark to base (now scratch) ⌝ }
+    ensures { λ _. ⌜ Filled (seeded (marksSeed (getD (now (scratch .entry)) mark 0) code) (now (scratch .entry)) to top (now (costs .entry)) base) to rowWords (now (scratch .entry)) (now (scratch .exit)) ⌝ }
+{
+    if marks_seed(scratch[mark], code) {
+        raise_row(scratch, to, top, costs, base);
+    }
+}
+
+// The arrival row of a cell, in the one row that there is for it. A span may close there with a delay below `top`.
+pub fn fill_arrival(
+    plan: &[u8],
+    scratch: &mut [u16],
+    net: Net,
+    top: u16,
+    costs: &[u16; COSTS],
+    cell: usize,
+)
+    requires { ⌜ CellReady net (now plan) (now costs) (now scratch) cell ⌝ }
+    ensures { λ _. ⌜ Filled (arrival (netRules net (now (plan .entry))) (seedOf (length (now (plan .entry))) (now (scratch .entry))) top (budgetOf (length (now (plan .entry))) (now (scratch .entry))) cell) (length (now (plan .entry)) * arrivalAt) rowWords (now (scratch .entry)) (now (scratch .exit)) ⌝ }
 {
     let n = plan.len();
     let to = n * ARRIVAL;
     copy_row(scratch, cell, to, costs, NONE);
-    let elements = p.elements;
-    if takes_buffers(plan[cell], p, cell) {
+    let elements = net.problem.elements;
+    if takes_buffers(plan[cell], net.problem, cell) {
         raise_buffers(scratch, cell, to, elements, costs);
     }
-    if scratch[n * SEEDS + cell] == 1 {
-        raise_row(scratch, to, 2 * elements.period + 1, costs, REGISTER);
-    }
+    raise_seed(scratch, n * SEEDS + cell, 7, to, top, costs, REGISTER);
+    raise_seed(scratch, n * SEEDS + cell, 8, to, top, costs, FIFO);
 }

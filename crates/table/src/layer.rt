@@ -3,10 +3,11 @@
 ghost use Prim.Native.Nat.{_+_, _*_, _≤_, _<_};
 ghost use lib.ListN.{length};
 ghost use Rattle.costs.specs.Costs.{CostsOf};
+ghost use Rattle.problem.specs.Net.{fifoOf};
 ghost use Rattle.layout.specs.Layout.{activeAt, trailAt};
 ghost use Rattle.lists.specs.Lists.{Listed};
 ghost use Rattle.trail.specs.Trail.{Sound};
-ghost use Rattle.table.specs.Problem.{Ready, Room, rulesFor};
+ghost use Rattle.table.specs.Problem.{NetReady, Room, netRules};
 ghost use Rattle.table.specs.Colours.{Unlinked};
 ghost use Rattle.table.specs.Layer.{FlagsCleared, Layered};
 use crate::pushes::Grown;
@@ -15,7 +16,7 @@ use costs::COSTS;
 use layout::ACTIVE;
 use layout::LISTED;
 use lists::take_list;
-use problem::Problem;
+use problem::Net;
 use trail::Trail;
 
 // The flags of the active cells are cleared.
@@ -31,22 +32,23 @@ pub fn clear_flags(scratch: &mut [u16], n: usize, active: usize)
     }
 }
 
-// One layer. The new active list has every cell whose row grew; its count, and the trail with these rows.
+// One layer, where a span closes with a delay below `top`. The new active list has every cell whose row grew; its count, and the trail with these rows.
 // Where a cell is missing on the active list, only the rows of its neighbours may stay too low.
 pub fn next_layer(
     plan: &[u8],
     scratch: &mut [u16],
-    p: Problem,
+    net: Net,
+    top: u16,
     costs: &[u16; COSTS],
     active: usize,
     trail: Trail,
 ) -> Grown
-    requires { ⌜ Ready p (now plan) × (Room (length (now plan)) (now scratch) × (Listed (length (now plan)) (now scratch) (length (now plan) * activeAt) active × (Sound (length (now plan)) (now scratch) trail × (Unlinked (rulesFor p (now plan)) (length (now plan)) (now scratch) × CostsOf (p .elements) (now costs))))) ⌝ }
-    ensures { λ r. ⌜ Layered (rulesFor p (now (plan .entry))) (length (now (plan .entry))) trail (now (scratch .entry)) (now (scratch .exit)) r ⌝ }
+    requires { ⌜ NetReady net (now plan) × (Room (length (now plan)) (now scratch) × (Listed (length (now plan)) (now scratch) (length (now plan) * activeAt) active × (Sound (length (now plan)) (now scratch) trail × (Unlinked (netRules net (now plan)) (length (now plan)) (now scratch) × CostsOf (net .problem .elements) (fifoOf net) (now costs))))) ⌝ }
+    ensures { λ r. ⌜ Layered (netRules net (now (plan .entry))) (length (now (plan .entry))) top trail (now (scratch .entry)) (now (scratch .exit)) r ⌝ }
 {
     let n = plan.len();
     clear_flags(scratch, n, active);
-    let next = spread_all(plan, scratch, p, costs, active, trail);
+    let next = spread_all(plan, scratch, net, top, costs, active, trail);
     take_list(scratch, n, next.count);
     next
 }

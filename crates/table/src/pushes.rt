@@ -1,7 +1,7 @@
 // What the active cells give to their neighbours.
 ghost use Prim.Native.Nat.{_+_, _*_, _<_};
 ghost use lib.ListN.{length};
-ghost use Rattle.table.specs.Problem.{rulesFor};
+ghost use Rattle.table.specs.Problem.{netRules};
 ghost use Rattle.trail.specs.Trail.{TrailAsks};
 ghost use Rattle.table.specs.Layer.{NotedRow, Offered, OfferAsks, Spread, SpreadAsks, SpreadAll, SpreadAllAsks};
 use crate::arrival::fill_arrival;
@@ -15,7 +15,7 @@ use layout::LISTED;
 use layout::NEXT;
 use lists::enlist;
 use plan::neighbours_of;
-use problem::Problem;
+use problem::Net;
 use rows::grows;
 use rows::push_row;
 use trail::Trail;
@@ -72,19 +72,20 @@ fn offer(
 fn spread(
     plan: &[u8],
     scratch: &mut [u16],
-    p: Problem,
+    net: Net,
+    top: u16,
     costs: &[u16; COSTS],
     cell: usize,
     next: Grown,
 ) -> Grown
-    requires { ⌜ SpreadAsks p (now plan) (now costs) cell next (now scratch) ⌝ }
-    ensures { λ r. ⌜ Spread (rulesFor p (now (plan .entry))) (length (now (plan .entry))) cell (next .trail) (now (scratch .entry)) (now (scratch .exit)) r ⌝ }
+    requires { ⌜ SpreadAsks net (now plan) (now costs) cell next (now scratch) ⌝ }
+    ensures { λ r. ⌜ Spread (netRules net (now (plan .entry))) (length (now (plan .entry))) top cell (next .trail) (now (scratch .entry)) (now (scratch .exit)) r ⌝ }
 {
     let n = plan.len();
-    fill_arrival(plan, scratch, p, costs, cell);
-    let near = neighbours_of(plan, p.width, p.height, cell);
-    let horizontal = p.elements.horizontal.load().0 as usize;
-    let vertical = p.elements.vertical.load().0 as usize;
+    fill_arrival(plan, scratch, net, top, costs, cell);
+    let near = neighbours_of(plan, net.problem.width, net.problem.height, cell);
+    let horizontal = net.problem.elements.horizontal.load().0 as usize;
+    let vertical = net.problem.elements.vertical.load().0 as usize;
     let a = offer(scratch, n, near.up, costs, VERTICAL, vertical, next);
     let b = offer(scratch, n, near.left, costs, HORIZONTAL, horizontal, a);
     let c = offer(scratch, n, near.right, costs, HORIZONTAL, horizontal, b);
@@ -95,13 +96,14 @@ fn spread(
 pub fn spread_all(
     plan: &[u8],
     scratch: &mut [u16],
-    p: Problem,
+    net: Net,
+    top: u16,
     costs: &[u16; COSTS],
     active: usize,
     trail: Trail,
 ) -> Grown
-    requires { ⌜ SpreadAllAsks p (now plan) (now costs) active trail (now scratch) ⌝ }
-    ensures { λ r. ⌜ SpreadAll (rulesFor p (now (plan .entry))) (length (now (plan .entry))) active trail (now (scratch .entry)) (now (scratch .exit)) r ⌝ }
+    requires { ⌜ SpreadAllAsks net (now plan) (now costs) active trail (now scratch) ⌝ }
+    ensures { λ r. ⌜ SpreadAll (netRules net (now (plan .entry))) (length (now (plan .entry))) top active trail (now (scratch .entry)) (now (scratch .exit)) r ⌝ }
 {
     let n = plan.len();
     let mut next = Grown {
@@ -111,7 +113,7 @@ pub fn spread_all(
     let mut i = 0;
     while i < active {
         let cell = scratch[n * ACTIVE + i] as usize;
-        next = spread(plan, scratch, p, costs, cell, next);
+        next = spread(plan, scratch, net, top, costs, cell, next);
         i += 1;
     }
     next

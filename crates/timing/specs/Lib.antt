@@ -4,3 +4,4 @@ pub mod Slack
 pub mod Elements
 pub mod Relaxed
 pub mod Valid
+pub mod Clocks

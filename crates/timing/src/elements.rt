@@ -2,7 +2,7 @@
 ghost use mathlib.Core.Path.{_≡_};
 ghost use mathlib.Core.List.{map};
 ghost use Prim.Native.Nat.{_+_, _*_, _≤_};
-ghost use Rattle.timing.specs.Ranges.{loadMax, sumMost};
+ghost use Rattle.timing.specs.Ranges.{loadMax, periodMax, sumMost};
 ghost use Rattle.timing.specs.Valid.{Valid};
 ghost use Rattle.timing.specs.Slack.{slackOf};
 ghost use Rattle.timing.specs.Relaxed.{atPeriod, relaxedWire, relaxedBuffer, relaxedRegister, relaxed};
@@ -72,13 +72,13 @@ impl Elements {
 
     pub const BUFFERS_MAX: usize = 6;
 
-    // The spare half-ticks of a span that comes to a register with this load and delay and closes there. It is in time where they are not below zero.
+    // The spare half-ticks of a span that comes to a register with this load and delay and closes there.
     pub fn slack(self, load: Load, delay: HalfTicks) -> i32
         requires { ⌜ Valid self × ((load .0 ≤ loadMax) × (delay .0 ≤ sumMost)) ⌝ }
         ensures { λ r. ⌜ r ≡ slackOf (2 * self .period) (delay .0 + gateDelay (registerDriver (self .register)) (load .0)) ⌝ }
     {
         let register = self.register;
-        register.driver().after(load, delay).slack(self.period)
+        register.slack(self.period, load, delay)
     }
 
     // The same tables with another period, in ticks.
@@ -336,6 +336,14 @@ impl Register {
             load: self.load.kept(loads),
             setup: 0,
         }
+    }
+
+    // The spare half-ticks of a span that comes here with this load and delay and closes, within this period in ticks. It is in time where they are not below zero.
+    pub fn slack(self, period: u16, load: Load, delay: HalfTicks) -> i32
+        requires { ⌜ RegisterInRange self × ((period ≤ periodMax) × ((load .0 ≤ loadMax) × (delay .0 ≤ sumMost))) ⌝ }
+        ensures { λ r. ⌜ r ≡ slackOf (2 * period) (delay .0 + gateDelay (registerDriver self) (load .0)) ⌝ }
+    {
+        self.driver().after(load, delay).slack(period)
     }
 
     // The delay with which a span starts at this register.

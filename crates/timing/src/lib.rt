@@ -1,9 +1,11 @@
 // Elements and their timing: document 01, "Elements" and the delay formulas of "Legal routes".
 // Only Wire::delay and Driver::delay join a resistance, a load and a delay.
+mod clocks;
 mod elements;
 mod slack;
 mod units;
 
+pub use clocks::Clocks;
 pub use elements::Buffer;
 pub use elements::BufferCheck;
 pub use elements::Driver;

@@ -1,6 +1,8 @@
-// Refusal 5, and the numbers and figures of answers, verdicts, comparisons and reasons.
+// Refusal 5, and the numbers and figures of answers with one clock and two, verdicts, comparisons and reasons.
 use answers::Answer;
 use answers::Comparison;
+use answers::CrossingAnswer;
+use answers::CrossingFigures;
 use answers::Explained;
 use answers::Figures;
 use answers::Reason;
@@ -31,6 +33,22 @@ pub fn answers() {
     expect(Answer::Refused(Refusal::NoRoute).number() == 7);
     expect(Answer::Refused(Refusal::NoRoute).figures().latency == 0);
     expect(Answer::Refused(Refusal::NoRoute).figures().slack == 0);
+}
+
+pub fn crossings() {
+    let figures = CrossingFigures {
+        source: 1,
+        sink: 0,
+        steps: 4,
+        latency: 50,
+        slack: 2,
+    };
+    expect(CrossingAnswer::Found(figures).number() == 0);
+    expect(CrossingAnswer::NoRoom(figures).number() == 8);
+    expect(CrossingAnswer::NoRoom(figures).figures().source == 1);
+    expect(CrossingAnswer::NoRoom(figures).figures().sink == 0);
+    expect(CrossingAnswer::Refused(Refusal::NoRoute).number() == 7);
+    expect(CrossingAnswer::Refused(Refusal::NoRoute).figures().latency == 0);
 }
 
 pub fn verdicts() {

@@ -1,6 +1,6 @@
 // Refusal 4: the limits of T, L and the count, and the order of faults.
 ghost use mathlib.Core.Path.{_≡_};
-ghost use Rattle.timing_check.specs.Faults.{faultNumber, faultWith};
+ghost use Rattle.timing_check.specs.Faults.{faultNumber, tablesWith, listWith, faultWith};
 use answers::BufferList;
 use answers::BufferRecord;
 use answers::ElementFault;
@@ -46,21 +46,17 @@ fn fault(
 ) -> u16
     ensures { λ r. ⌜ r ≡ faultWith period limit horizontal vertical register n buffer ⌝ }
 {
-    let none = BufferRecord {
-        resistance: 0,
-        delay: 0,
-        load: 0,
-    };
-    let second = BufferRecord {
-        resistance: buffer,
-        delay: 1,
-        load: 1,
-    };
-    let list = BufferList {
-        n: n,
-        items: [none, second, none, none, none, none],
-    };
-    let tables = Tables {
+    let read = read_list(list(n, buffer));
+    let checked = check_tables(tables(period, limit, horizontal, vertical, register), read);
+    let f = checked.fault;
+    number(f)
+}
+
+// The strip's tables with these numbers: the period, the limit, and the resistances of the wires and the register.
+pub fn tables(period: u16, limit: u16, horizontal: u16, vertical: u16, register: u16) -> Tables
+    ensures { λ r. ⌜ r ≡ tablesWith period limit horizontal vertical register ⌝ }
+{
+    Tables {
         register: RegisterRecord {
             resistance: register,
             delay: 2,
@@ -77,14 +73,30 @@ fn fault(
         },
         period: period,
         limit: limit,
-    };
-    let read = read_list(list);
-    let checked = check_tables(tables, read);
-    let f = checked.fault;
-    number(f)
+    }
 }
 
-fn number(fault: ElementFault) -> u16
+// This many buffers, the second with this resistance.
+pub fn list(n: usize, buffer: u16) -> BufferList
+    ensures { λ r. ⌜ r ≡ listWith n buffer ⌝ }
+{
+    let none = BufferRecord {
+        resistance: 0,
+        delay: 0,
+        load: 0,
+    };
+    let second = BufferRecord {
+        resistance: buffer,
+        delay: 1,
+        load: 1,
+    };
+    BufferList {
+        n: n,
+        items: [none, second, none, none, none, none],
+    }
+}
+
+pub fn number(fault: ElementFault) -> u16
     ensures { λ r. ⌜ r ≡ faultNumber fault ⌝ }
 {
     match fault {
@@ -96,6 +108,9 @@ fn number(fault: ElementFault) -> u16
             Fault::Vertical => 104,
             Fault::Register => 105,
             Fault::Count => 106,
+            Fault::SourcePeriod => 107,
+            Fault::SinkPeriod => 108,
+            Fault::Fifo => 109,
             Fault::Buffer(place) => place,
         },
     }

@@ -1,5 +1,6 @@
 // Boundary values of the elements, the formulas, the spare figures, the checks of tables and ends, and the answers.
 mod answer;
+mod crossing;
 mod delay;
 mod fault;
 mod range;
@@ -15,8 +16,12 @@ fn main() {
     slack::magnitudes();
     fault::limits();
     fault::order();
+    crossing::periods();
+    crossing::order();
+    crossing::fifos();
     answer::ends();
     answer::answers();
+    answer::crossings();
     answer::verdicts();
     answer::reasons();
 }

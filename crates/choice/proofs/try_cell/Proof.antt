@@ -10,9 +10,8 @@ use mir.Syntax.{w32}
 use mir.Val.{toZ, ofZ}
 use Rattle.timing.specs.Formulas.{wireDelay, wireLoad}
 use Rattle.timing.proofs.Bounds.{wire-delay-max}
-use Rattle.rules.specs.Rules.{registerCode}
-use Rattle.choice.proofs.Codes.{code-small}
-use Rattle.choice.proofs.Visits.{no-neighbour, too-heavy, at-asks, no-code, first-visit}
+use Rattle.rules.specs.Rules.{fifoCode}
+use Rattle.choice.proofs.Visits.{no-neighbour, too-heavy, at-asks, leave-asks, no-code, first-visit}
 use Rattle.choice.proofs.try_cell.Statement.{statement}
 use Rattle.choice.proofs.try_cell.Tie as tie
 
@@ -26,10 +25,10 @@ delays : (c : tie.After-plus2) → let a = c .before .before .before .before .be
 delays c = omega (arith, c .plus2 .ensures, c .before .delay .ensures)
 
 -- the test of the load on arrival
-light : (c : tie.Else2) → c .before .before .plus .result .0 ≤ c .before .before .before .before .before .before .before .args .p .elements .limit .0
+light : (c : tie.Else2) → c .before .before .plus .result .0 ≤ c .before .before .before .before .before .before .before .args .net .problem .elements .limit .0
 light c = leb-true _ _ (sym (c .before .at-most .ensures) ∙ not-false _ (c .if2 .left))
 
-heavy : (c : tie.Then2) → c .before .before .before .before .before .before .before .args .p .elements .limit .0 < c .before .before .plus .result .0
+heavy : (c : tie.Then2) → c .before .before .before .before .before .before .before .args .net .problem .elements .limit .0 < c .before .before .plus .result .0
 heavy c = leb-false _ _ (sym (c .before .at-most .ensures) ∙ not-true _ (c .if2 .taken))
 
 -- the smallest figure so far, handed on
@@ -37,13 +36,13 @@ figure : (c : tie.After-struct-told) → let a = c .before .before .before .befo
 figure c = toZ-ofZ {w = w32} (record { sfits = c .struct-told .given .1 .1 .1 .1 .1 .0 .1 })
 
 -- a code that is not 9
-small : (c : tie.Else3) → c .before .first-code .result ≤ registerCode
-small c = code-small _ _ (c .before .first-code .ensures) (c .if3 .left)
+small : (c : tie.Else3) → c .before .first-code .result ≤ fifoCode
+small c = omega (arith, c .before .first-code .ensures .within, c .if3 .left)
 
 returns : tie.Need-returns
 returns c =
     let start = c .before .before .before in
-    no-neighbour (start .args .p) (start .args .plan .now) (start .args .scratch .now) (start .args .from) (start .args .cell) (start .args .wire) (start .pre) (c .if1 .taken)
+    no-neighbour (start .args .net) (start .args .plan .now) (start .args .exits) (start .args .scratch .now) (start .args .from) (start .args .cell) (start .args .wire) (start .pre) (c .if1 .taken)
 
 load-requires : tie.Need-load-requires
 load-requires c κs = search needs
@@ -61,7 +60,7 @@ returns-2 : tie.Need-returns-2
 returns-2 c =
     let start = c .before .before .before .before .before .before .before in
     let from = start .args .from in
-    too-heavy (start .args .p) (start .args .plan .now) (start .args .scratch .now) (start .args .from) (start .args .cell) (start .args .wire) (start .pre) (inside (c .before .before .before .before)) _ (from .delay .0 + wireDelay (start .args .wire) (from .load .0)) (from .slack) (loads (c .before .before)) refl refl (heavy c)
+    too-heavy (start .args .net) (start .args .plan .now) (start .args .exits) (start .args .scratch .now) (start .args .from) (start .args .cell) (start .args .wire) (start .pre) (inside (c .before .before .before .before)) _ (from .delay .0 + wireDelay (start .args .wire) (from .load .0)) (from .slack) (loads (c .before .before)) refl refl (heavy c)
 
 delay-requires : tie.Need-delay-requires
 delay-requires c κs = search needs
@@ -78,26 +77,25 @@ first-code-requires : tie.Need-first-code-requires
 first-code-requires c κs =
     let told = c in
     let start = told .before .before .before .before .before .before .before .before .before .before .before in
-    at-asks (start .args .p) (start .args .plan .now) (start .args .scratch .now) (start .args .from) (start .args .cell) (start .args .wire) (start .pre) (inside (told .before .before .before .before .before .before .before .before)) _ _ _ (loads (told .before .before .before .before .before .before)) (delays (told .before .before)) (figure told) (light (told .before .before .before .before))
+    at-asks (start .args .net) (start .args .plan .now) (start .args .exits) (start .args .scratch .now) (start .args .from) (start .args .cell) (start .args .wire) (start .pre) (inside (told .before .before .before .before .before .before .before .before)) _ _ _ (loads (told .before .before .before .before .before .before)) (delays (told .before .before)) (figure told) (light (told .before .before .before .before))
 
 returns-3 : tie.Need-returns-3
 returns-3 c =
     let told = c .before .before in
     let start = told .before .before .before .before .before .before .before .before .before .before .before in
-    no-code (start .args .p) (start .args .plan .now) (start .args .scratch .now) (start .args .from) (start .args .cell) (start .args .wire) (start .pre) (inside (told .before .before .before .before .before .before .before .before)) _ _ _ (loads (told .before .before .before .before .before .before)) (delays (told .before .before)) (figure told) (light (told .before .before .before .before)) (rw (c .if3 .taken) at (c .before .first-code .ensures))
+    no-code (start .args .net) (start .args .plan .now) (start .args .exits) (start .args .scratch .now) (start .args .from) (start .args .cell) (start .args .wire) (start .pre) (inside (told .before .before .before .before .before .before .before .before)) _ _ _ (loads (told .before .before .before .before .before .before)) (delays (told .before .before)) (figure told) (light (told .before .before .before .before)) (rw (c .if3 .taken) at (c .before .first-code .ensures))
 
 leave-requires : tie.Need-leave-requires
 leave-requires c κs =
-    let told = c .before .before .before in
+    let told = c .before .before in
     let start = told .before .before .before .before .before .before .before .before .before .before .before in
-    let asks = at-asks (start .args .p) (start .args .plan .now) (start .args .scratch .now) (start .args .from) (start .args .cell) (start .args .wire) (start .pre) (inside (told .before .before .before .before .before .before .before .before)) _ _ _ (loads (told .before .before .before .before .before .before)) (delays (told .before .before)) (figure told) (light (told .before .before .before .before)) in
-    (start .pre .asks .ready .valid, (asks .light, (asks .early, small (c .before))))
+    leave-asks (start .args .net) (start .args .plan .now) (start .args .exits) (start .args .scratch .now) (start .args .from) (start .args .cell) (start .args .wire) (start .pre) (inside (told .before .before .before .before .before .before .before .before)) _ _ _ (loads (told .before .before .before .before .before .before)) (delays (told .before .before)) (figure told) (light (told .before .before .before .before)) _ (small c)
 
 returns-4 : tie.Need-returns-4
 returns-4 c =
-    let told = c .before .before .before .before in
+    let told = c .before .before .before in
     let start = told .before .before .before .before .before .before .before .before .before .before .before in
-    first-visit (start .args .p) (start .args .plan .now) (start .args .scratch .now) (start .args .from) (start .args .cell) (start .args .wire) (start .pre) (inside (told .before .before .before .before .before .before .before .before)) _ _ _ (loads (told .before .before .before .before .before .before)) (delays (told .before .before)) (figure told) (light (told .before .before .before .before)) _ _ (c .leave .ensures) (small (c .before .before)) (c .before .before .before .first-code .ensures)
+    first-visit (start .args .net) (start .args .plan .now) (start .args .exits) (start .args .scratch .now) (start .args .from) (start .args .cell) (start .args .wire) (start .pre) (inside (told .before .before .before .before .before .before .before .before)) _ _ _ (loads (told .before .before .before .before .before .before)) (delays (told .before .before)) (figure told) (light (told .before .before .before .before)) _ _ (c .leave .ensures) (small (c .before)) (c .before .before .first-code .ensures)
 
 pub try-cell-spec : {M : Type 1} → statement M
 try-cell-spec =

@@ -10,14 +10,14 @@ use Rattle.plan.proofs.Truth.{equal}
 use Rattle.layout.specs.Layout.{orderIn, labelWords, activeAt, trailAt}
 use Rattle.lists.specs.Lists.{flagOf, Listed}
 use Rattle.lists.proofs.Lists.{listed-some}
-use Rattle.table.specs.Problem.{seedWord}
+use Rattle.table.specs.Problem.{seedOf}
 use Rattle.labels.specs.Labels.{knownOf, orderOf, LabelBy, Apart, SameLabel, Planted, Arrived}
 use Rattle.labels.proofs.Labels.{known-below, label-kept}
 use Rattle.labels.proofs.arrive.Statement.{statement}
 use Rattle.labels.proofs.arrive.Tie as tie
 
-arrived-none : (n set from k s : ℕ) (words : List ℕ) (active : ℕ) → Listed n words (n * activeAt) active → Arrived n set from from k s words words active
-arrived-none n set from k s words active l =
+arrived-none : (n set code from k s : ℕ) (words : List ℕ) (active : ℕ) → Listed n words (n * activeAt) active → Arrived n set code from from k s words words active
+arrived-none n set code from k s words active l =
     record {
       same = refl;
       forth = omega arith;
@@ -27,6 +27,7 @@ arrived-none n set from k s words active l =
       seeds = λ i h k. absurd (omega arith);
       seedsStay = λ c h e. e;
       otherSeeds = λ c h e. refl;
+      otherCodes = λ a z f c h. refl;
       flags = λ i h k. absurd (omega arith);
       flagsStay = λ c h e. e;
       otherFlags = λ c h e. refl;
@@ -36,7 +37,7 @@ arrived-none n set from k s words active l =
     }
 
 -- the words of the set stay
-module _ {n set from to k s : ℕ} {old new : List ℕ} {active : ℕ} (apart : Apart n set) (a : Arrived n set from to k s old new active) where
+module _ {n set code from to k s : ℕ} {old new : List ℕ} {active : ℕ} (apart : Apart n set) (a : Arrived n set code from to k s old new active) where
   set-stays : (i : ℕ) → set ≤ i → i < set + n * labelWords → getD new i 0 ≡ getD old i 0
   set-stays i lo hi = go (apart .beside)
     where
@@ -51,17 +52,17 @@ module _ {n set from to k s : ℕ} {old new : List ℕ} {active : ℕ} (apart : 
   label-stays = label-kept n set old new (λ i lo hi. set-stays i lo (omega arith))
 
 -- one cell more
-module _ {n set from to k s : ℕ} {old mid new : List ℕ} {active next cell : ℕ} (a : Arrived n set from to k s old mid active) (e : cell ≡ orderOf n set old to) (h : cell < n) (p : Planted n cell mid new next) where
-  seed-stays : (c : ℕ) → c < n → seedWord n mid c ≡ 1 → (c ≡ cell) ⊎ (c ≡ cell → ⊥) → seedWord n new c ≡ 1
+module _ {n set code from to k s : ℕ} {old mid new : List ℕ} {active next cell : ℕ} (a : Arrived n set code from to k s old mid active) (e : cell ≡ orderOf n set old to) (h : cell < n) (p : Planted n cell code mid new next) where
+  seed-stays : (c : ℕ) → c < n → T (seedOf n mid code c) → (c ≡ cell) ⊎ (c ≡ cell → ⊥) → T (seedOf n new code c)
   seed-stays c k o (inl q) = rw q (p .nowSeed)
-  seed-stays c k o (inr q) = p .otherSeeds c k q ∙ o
+  seed-stays c k o (inr q) = rw (p .otherSeeds c k q code) o
 
   flag-stays : (c : ℕ) → c < n → flagOf n mid c ≡ 1 → (c ≡ cell) ⊎ (c ≡ cell → ⊥) → flagOf n new c ≡ 1
   flag-stays c k o (inl q) = rw q (p .nowFlagged)
   flag-stays c k o (inr q) = p .others c k q ∙ o
 
   module _ (cells : (i : ℕ) → i < to → orderOf n set old i < n) where
-    seed : (i : ℕ) → from ≤ i → i < to + 1 → (i ≡ to) ⊎ (i ≡ to → ⊥) → seedWord n new (orderOf n set old i) ≡ 1
+    seed : (i : ℕ) → from ≤ i → i < to + 1 → (i ≡ to) ⊎ (i ≡ to → ⊥) → T (seedOf n new code (orderOf n set old i))
     seed i k j (inl q) = rw (q, ← e) (p .nowSeed)
     seed i k j (inr q) = seed-stays _ (cells i (omega arith)) (a .seeds i k (omega arith)) (equal (orderOf n set old i) cell)
 
@@ -69,7 +70,7 @@ module _ {n set from to k s : ℕ} {old mid new : List ℕ} {active next cell : 
     flag i k j (inl q) = rw (q, ← e) (p .nowFlagged)
     flag i k j (inr q) = flag-stays _ (cells i (omega arith)) (a .flags i k (omega arith)) (equal (orderOf n set old i) cell)
 
-    arrived-more : LabelBy n set old k s (orderOf n set old to) → Arrived n set from (to + 1) k s old new next
+    arrived-more : LabelBy n set old k s (orderOf n set old to) → Arrived n set code from (to + 1) k s old new next
     arrived-more early =
         record {
           same = p .same ∙ a .same;
@@ -80,7 +81,8 @@ module _ {n set from to k s : ℕ} {old mid new : List ℕ} {active next cell : 
           seeds = λ i k j. seed i k j (equal i to);
           seedsStay = λ c k o. seed-stays c k (a .seedsStay c k o) (equal c cell);
           otherSeeds =
-              λ c k o. p .otherSeeds c k (λ q. o to (a .forth) (omega arith) (sym (q ∙ e))) ∙ a .otherSeeds c k (λ i l j. o i l (omega arith));
+              λ c k o. p .otherSeeds c k (λ q. o to (a .forth) (omega arith) (sym (q ∙ e))) code ∙ a .otherSeeds c k (λ i l j. o i l (omega arith));
+          otherCodes = λ b z f c k. p .otherCodes b z f c k ∙ a .otherCodes b z f c k;
           flags = λ i k j. flag i k j (equal i to);
           flagsStay = λ c k o. flag-stays c k (a .flagsStay c k o) (equal c cell);
           otherFlags =
@@ -95,10 +97,10 @@ module _ {n set from to k s : ℕ} {old mid new : List ℕ} {active next cell : 
         time i k j (inr q) = a .inTime i k (omega arith)
 
 abbrev Inv-loop : tie.InvT-loop
-Inv-loop scratch₀ n set at count weight steps active i₀ listed₀ scratch i listed = (i ≤ count) × Arrived n set at i weight steps scratch₀ scratch listed
+Inv-loop scratch₀ n set code at count weight steps active i₀ listed₀ scratch i listed = (i ≤ count) × Arrived n set code at i weight steps scratch₀ scratch listed
 
 abbrev μ-loop : tie.MeasureT-loop
-μ-loop scratch₀ n set at count weight steps active i₀ listed₀ scratch i listed = count - i
+μ-loop scratch₀ n set code at count weight steps active i₀ listed₀ scratch i listed = count - i
 
 -- the cell of the turn
 module _ (c : tie.In-loop Inv-loop μ-loop) where
@@ -118,7 +120,7 @@ module _ (c : tie.In-loop Inv-loop μ-loop) where
   label-same = label-stays (c .before .before .before .pre .apart) (c .before .loop .inv .1) _ cell-below
 
 loop-holds : tie.Need-loop-holds Inv-loop μ-loop
-loop-holds c = (c .before .pre .start, arrived-none _ _ _ _ _ _ _ (c .before .pre .listed))
+loop-holds c = (c .before .pre .start, arrived-none _ _ _ _ _ _ _ _ (c .before .pre .listed))
 
 mul-cell : tie.Need-mul-cell Inv-loop μ-loop
 mul-cell c = omega (arith, c .before .before .before .pre .setIn .small)
@@ -162,7 +164,7 @@ plant-requires : tie.Need-plant-requires Inv-loop μ-loop
 plant-requires c κs =
     let w : tie.In-loop Inv-loop μ-loop = c .before .before .before .before .before in
     let a = w .before .before .before .pre in
-    (w .before .loop .inv .1 .listed, (cell-below w, (a .setIn .small, omega (arith, a .room, w .before .loop .inv .1 .same))))
+    (a .closes, (w .before .loop .inv .1 .listed, (cell-below w, (a .setIn .small, omega (arith, a .room, w .before .loop .inv .1 .same)))))
 
 add-i : tie.Need-add-i Inv-loop μ-loop
 add-i c = omega arith

@@ -1,85 +1,22 @@
--- `question::check_question` meets its contract: refusals 1, 2 and 3, or what follows them.
-use mathlib.Core.Path.{_≡_, sym, _∙_}
+-- `question::check_question` meets its contract: what the check of the tables found, then the other checks.
+use mathlib.Core.Path.{_∙_}
 use borrow.Author.Needs.{needs}
-use Rattle.plan.specs.Plan.{planOf}
-use Rattle.plan.specs.Check.{checkedPlan}
-use Rattle.plan.specs.declared.PlanCheck.{PlanCheck}
-use Rattle.question.specs.Question.{Question, questionOf, passes}
-use Rattle.question.proofs.Checks.{fails-grid, fails-length, fails-mark, checked-fails}
+use Rattle.question.specs.Question.{questionOf}
+use Rattle.question.proofs.Checks.{tables-checked}
 use Rattle.question.proofs.check_question.Statement.{statement}
 use Rattle.question.proofs.check_question.Tie as tie
 
-abbrev start : tie.After-check-plan → tie.Start
-start c = c .before .before
+check-tables-requires : tie.Need-check-tables-requires
+check-tables-requires c κs = c .before .pre
 
-abbrev asked : tie.Start → Question
-asked s = questionOf (s .args .plan .now) (s .args .width) (s .args .height) (s .args .tables) (s .args .read .list) (s .args .source) (s .args .sink)
-
-plan-is : (c : tie.After-check-plan) (k : PlanCheck) → c .check-plan .result ≡ k → checkedPlan (planOf (start c .args .width) (start c .args .height) (start c .args .plan .now)) ≡ k
-plan-is c k e = sym (c .check-plan .ensures) ∙ e
-
-check-plan-requires : tie.Need-check-plan-requires
-check-plan-requires c κs = search needs
-
-enum-told : tie.Need-enum-told
-enum-told c = search needs
-
-refused-requires : tie.Need-refused-requires
-refused-requires c κs = search needs
+check-with-requires : tie.Need-check-with-requires
+check-with-requires c κs = search needs
 
 returns : tie.Need-returns
 returns c =
-    let n = c .before .before .before in
-    let q = asked (start n) in
-    c .refused .ensures ∙ checked-fails q _ (fails-grid q passes (plan-is n _ (c .before .enum-told .given .1)))
-
-enum-told-2 : tie.Need-enum-told-2
-enum-told-2 c = search needs
-
-refused-requires-2 : tie.Need-refused-requires-2
-refused-requires-2 c κs = search needs
-
-returns-2 : tie.Need-returns-2
-returns-2 c =
-    let n = c .before .before .before in
-    let q = asked (start n) in
-    c .refused2 .ensures ∙ checked-fails q _ (fails-length q passes (plan-is n _ (c .before .enum-told2 .given .1)))
-
-enum-told-3 : tie.Need-enum-told-3
-enum-told-3 c = search needs
-
-refused-requires-3 : tie.Need-refused-requires-3
-refused-requires-3 c κs = search needs
-
-returns-3 : tie.Need-returns-3
-returns-3 c =
-    let n = c .before .before .before in
-    let q = asked (start n) in
-    c .refused3 .ensures ∙ checked-fails q _ (fails-mark q passes (plan-is n _ (c .before .enum-told3 .given .1)))
-
-enum-told-4 : tie.Need-enum-told-4
-enum-told-4 c = search needs
-
-after-plan-requires : tie.Need-after-plan-requires
-after-plan-requires c κs = (plan-is (c .before .before) _ (c .enum-told4 .given .1), start (c .before .before) .pre)
-
-returns-4 : tie.Need-returns-4
-returns-4 c = c .after-plan .ensures
+    let t = c .before .before in
+    let s = t .before .before in
+    c .check-with .ensures (s .args .tables) (s .args .read .list) ∙ tables-checked (questionOf (s .args .plan .now) (s .args .width) (s .args .height) (s .args .tables) (s .args .read .list) (s .args .source) (s .args .sink)) (t .check-tables .result) (t .check-tables .ensures)
 
 pub check-question-spec : {M : Type 1} → statement M
-check-question-spec =
-    tie.close
-    (tie.spec
-    check-plan-requires
-    enum-told
-    refused-requires
-    returns
-    enum-told-2
-    refused-requires-2
-    returns-2
-    enum-told-3
-    refused-requires-3
-    returns-3
-    enum-told-4
-    after-plan-requires
-    returns-4)
+check-question-spec = tie.close (tie.spec check-tables-requires check-with-requires returns)

@@ -1,187 +1,36 @@
--- Each refusal is the first fault: the tests passed on the way are collected, and `fault-is` gives the answer.
-use mathlib.Core.Path.{_≡_, sym, ap, _∙_}
+-- The period, then what follows it with a FIFO of zeros.
+use mathlib.Core.Path.{_≡_, refl, sym, ap, _∙_}
 use borrow.Author.Needs.{needs}
-use borrow.Author.Tests.{le-leb, lt-leb}
-use Rattle.timing.proofs.Checked.{wire-valid, wire-out, register-valid, register-out}
-use Rattle.answers.specs.declared.tables.ElementFault.the-variants.{Nothing}
-use Rattle.answers.specs.declared.tables.BuffersRead.{BuffersRead}
-use Rattle.answers.specs.Tables.{periodInRange, wireOk, registerOk, wireFrom, registerFrom, listFault, checkedList, elementsOf}
-use Rattle.answers.proofs.FirstFault.{UpToPeriod, UpToLimit, UpToHorizontal, UpToVertical, UpToRegister, period, limit, horizontal, vertical, register, list-first, read-clean, tables-refused, tables-clean, fault-is}
+use borrow.Author.Tests.{not-true, not-false}
+use Rattle.timing.specs.Elements.{registerInRange}
+use Rattle.answers.specs.Tables.{registerOk}
+use Rattle.answers.proofs.FirstFault.{period-refused}
+use Rattle.answers.proofs.FirstCrossing.{tables-elements}
 use Rattle.answers.proofs.tables.check_tables.Statement.{statement}
 use Rattle.answers.proofs.tables.check_tables.Tie as tie
 
--- the entry, seen from a place on the way
-abbrev start-limit : tie.Else3 → tie.Start
-start-limit c = c .before .before .before .before .before .before
-
-abbrev start-horizontal : tie.After-known-told → tie.Start
-start-horizontal c = start-limit (c .before .before .before .before)
-
-abbrev start-vertical : tie.After-known-told2 → tie.Start
-start-vertical c = start-horizontal (c .before .before .before .before)
-
-abbrev start-register : tie.After-known-told3 → tie.Start
-start-register c = start-vertical (c .before .before .before .before)
-
--- the tests passed there, and the elements made
-period-in : (c : tie.Else2) → UpToPeriod (c .before .before .before .before .args .t)
-unfolding periodInRange
-period-in c = simp (le-leb _ _ (c .before .before .if1 .left), le-leb _ _ (c .if2 .left))
-
-limit-in : (c : tie.Else3) → UpToLimit (start-limit c .args .t)
-limit-in c = (period-in (c .before .before), le-leb _ _ (c .if3 .left))
-
-horizontal-in : (c : tie.After-known-told) → UpToHorizontal (start-horizontal c .args .t) × (c .before .horizontal .given .0 .0 ≡ wireFrom (start-horizontal c .args .t .horizontal))
-unfolding wireOk wireFrom
-horizontal-in c =
-    let v = wire-valid _ _ _ (sym (c .before .before .before .checked .ensures) ∙ c .before .horizontal .given .1) in
-    ((limit-in (c .before .before .before .before), v .0), v .1)
-
-vertical-in : (c : tie.After-known-told2) → UpToVertical (start-vertical c .args .t) × (c .before .vertical .given .0 .0 ≡ wireFrom (start-vertical c .args .t .vertical))
-unfolding wireOk wireFrom
-vertical-in c =
-    let v = wire-valid _ _ _ (sym (c .before .before .before .checked2 .ensures) ∙ c .before .vertical .given .1) in
-    ((horizontal-in (c .before .before .before .before) .0, v .0), v .1)
-
-register-in : (c : tie.After-known-told3) → UpToRegister (start-register c .args .t) × (c .before .register .given .0 .0 ≡ registerFrom (start-register c .args .t .register))
-unfolding registerOk registerFrom
-register-in c =
-    let v = register-valid _ _ _ _ _ (sym (c .before .before .before .checked3 .ensures) ∙ c .before .register .given .1) in
-    ((vertical-in (c .before .before .before .before) .0, v .0), v .1)
-
--- what was read of the list is its check
-fault-in : (c : tie.Start) → c .args .read .fault ≡ listFault (c .args .read .list)
-unfolding checkedList
-fault-in c = ap (λ (r : BuffersRead). r .fault) (c .pre)
+period-in-range-requires : tie.Need-period-in-range-requires
+period-in-range-requires c κs = search needs
 
 refused-requires : tie.Need-refused-requires
 refused-requires c κs = search needs
 
 returns : tie.Need-returns
-unfolding periodInRange
-returns c = c .refused .ensures ∙ tables-refused _ _ _ (period (simp (lt-leb _ _ (c .before .if1 .taken))))
+returns c =
+    let p = c .before .before in
+    c .refused .ensures ∙ period-refused _ _ (sym (p .period-in-range .ensures) ∙ not-true _ (c .before .if1 .taken))
 
-refused-requires-2 : tie.Need-refused-requires-2
-refused-requires-2 c κs = search needs
+check-elements-requires : tie.Need-check-elements-requires
+check-elements-requires c κs = c .before .before .pre
 
 returns-2 : tie.Need-returns-2
-unfolding periodInRange
+unfolding registerOk registerInRange
 returns-2 c =
-    c .refused2 .ensures ∙ tables-refused _ _ _ (period (simp (le-leb _ _ (c .before .before .before .if1 .left), lt-leb _ _ (c .before .if2 .taken))))
-
-refused-requires-3 : tie.Need-refused-requires-3
-refused-requires-3 c κs = search needs
-
-returns-3 : tie.Need-returns-3
-returns-3 c =
-    c .refused3 .ensures ∙ tables-refused _ _ _ (limit (period-in (c .before .before .before)) (lt-leb _ _ (c .before .if3 .taken)))
-
-checked-requires : tie.Need-checked-requires
-checked-requires c κs = search needs
-
-enum-known-horizontal : tie.Need-enum-known-horizontal
-enum-known-horizontal c = search needs
-
-enum-told : tie.Need-enum-told
-enum-told c = search needs
-
-refused-requires-4 : tie.Need-refused-requires-4
-refused-requires-4 c κs = search needs
-
-returns-4 : tie.Need-returns-4
-unfolding wireOk
-returns-4 c =
-    let a = c .before .before .before in
-    c .refused4 .ensures ∙ tables-refused _ _ _ (horizontal (limit-in (a .before)) (wire-out _ _ (sym (a .checked .ensures) ∙ c .before .enum-told .given .1)))
-
-checked-requires-2 : tie.Need-checked-requires-2
-checked-requires-2 c κs = search needs
-
-enum-known-vertical : tie.Need-enum-known-vertical
-enum-known-vertical c = search needs
-
-enum-told-2 : tie.Need-enum-told-2
-enum-told-2 c = search needs
-
-refused-requires-5 : tie.Need-refused-requires-5
-refused-requires-5 c κs = search needs
-
-returns-5 : tie.Need-returns-5
-unfolding wireOk
-returns-5 c =
-    let a = c .before .before .before in
-    c .refused5 .ensures ∙ tables-refused _ _ _ (vertical (horizontal-in (a .before) .0) (wire-out _ _ (sym (a .checked2 .ensures) ∙ c .before .enum-told2 .given .1)))
-
-checked-requires-3 : tie.Need-checked-requires-3
-checked-requires-3 c κs = search needs
-
-enum-known-register : tie.Need-enum-known-register
-enum-known-register c = search needs
-
-enum-told-3 : tie.Need-enum-told-3
-enum-told-3 c = search needs
-
-refused-requires-6 : tie.Need-refused-requires-6
-refused-requires-6 c κs = search needs
-
-returns-6 : tie.Need-returns-6
-unfolding registerOk
-returns-6 c =
-    let a = c .before .before .before in
-    c .refused6 .ensures ∙ tables-refused _ _ _ (register (vertical-in (a .before) .0) (register-out _ _ _ _ (sym (a .checked3 .ensures) ∙ c .before .enum-told3 .given .1)))
-
-enum-known-fault : tie.Need-enum-known-fault
-enum-known-fault c = search needs
-
-refused-requires-7 : tie.Need-refused-requires-7
-refused-requires-7 c κs = search needs
-
-returns-7 : tie.Need-returns-7
-returns-7 c =
-    let r = c .before .before .before .before in
-    c .refused7 .ensures ∙ tables-refused _ _ _ (list-first _ _ _ (register-in r .0) (sym (fault-in (start-register r)) ∙ c .before .before .fault .given .1))
-
-enum-told-4 : tie.Need-enum-told-4
-enum-told-4 c = search needs
-
-returns-8 : tie.Need-returns-8
-unfolding elementsOf
-returns-8 c =
-    let r = c .before .before .before in
-    let start = start-register r in
-    let e : listFault (start .args .read .list) ≡ Nothing = sym (fault-in start) ∙ c .before .enum-told4 .given .1 in
-    let v = r .before .before .before .before in
-    let h = v .before .before .before .before in
-    simp (horizontal-in h .1, vertical-in v .1, register-in r .1, ap (λ (b : BuffersRead). b .buffers) (start .pre), read-clean _ e)
-    (sym (tables-clean _ _ (fault-is _ _ (list-first _ _ _ (register-in r .0) e))))
+    let e = c .before in
+    let p = e .before .before in
+    rw (e .check-elements .ensures) (tables-elements _ _ _ (sym (p .period-in-range .ensures) ∙ not-false _ (e .before .if1 .left)) refl)
 
 pub check-tables-spec : {M : Type 1} → statement M
 check-tables-spec =
     tie.close
-    (tie.spec
-    refused-requires
-    returns
-    refused-requires-2
-    returns-2
-    refused-requires-3
-    returns-3
-    checked-requires
-    enum-known-horizontal
-    enum-told
-    refused-requires-4
-    returns-4
-    checked-requires-2
-    enum-known-vertical
-    enum-told-2
-    refused-requires-5
-    returns-5
-    checked-requires-3
-    enum-known-register
-    enum-told-3
-    refused-requires-6
-    returns-6
-    enum-known-fault
-    refused-requires-7
-    returns-7
-    enum-told-4
-    returns-8)
+    (tie.spec period-in-range-requires refused-requires returns check-elements-requires returns-2)

@@ -1,4 +1,4 @@
--- `labels::sites::fresh_in`: the word that it reads is the table's, and both stages start with the register's load and setup.
+-- `labels::sites::fresh_in`: the word that it reads is the table's, where a span starts with the gate's load and setup.
 use Prim.Native.Nat.{ℕ, _+_, _*_, _<_, _≤_}
 use mathlib.Core.Path.{_≡_}
 use mathlib.Core.List.{List}
@@ -6,33 +6,26 @@ use native.Mathlib.Omega.{arith}
 use borrow.Author.Needs.{needs}
 use lib.Dec.{ltb}
 use lib.ListN.{length, getD}
-use Rattle.timing.specs.declared.elements.Elements.{Elements}
+use Rattle.timing.specs.declared.elements.Register.{Register}
 use Rattle.timing.specs.Ranges.{loadMax, setupMax}
 use Rattle.timing.specs.Formulas.{registerLoad, setupDelay}
-use Rattle.timing.specs.Valid.{Valid}
-use Rattle.rules.specs.Rules.{rulesOf}
+use Rattle.timing.specs.Elements.{RegisterInRange}
 use Rattle.costs.specs.Costs.{rowWords}
-use Rattle.problem.specs.declared.Problem.{Problem}
-use Rattle.table.specs.Problem.{rulesFor, budgetOf}
 use Rattle.table.proofs.Views.{budget-at}
 use Rattle.labels.specs.Additions.{FreshIn}
 use Rattle.labels.proofs.sites.fresh_in.Statement.{statement}
 use Rattle.labels.proofs.sites.fresh_in.Tie as tie
 
-load-most : {e : Elements} → Valid e → registerLoad (e .register) ≤ loadMax
+load-most : {gate : Register} → RegisterInRange gate → registerLoad gate ≤ loadMax
 unfolding registerLoad
-load-most v = v .register .load
+load-most v = v .load
 
-delay-most : {e : Elements} → Valid e → setupDelay (e .register) ≤ 2 * setupMax
+delay-most : {gate : Register} → RegisterInRange gate → setupDelay gate ≤ 2 * setupMax
 unfolding setupDelay
-delay-most v = omega (arith, v .register .setup)
+delay-most v = omega (arith, v .setup)
 
-fresh-word : (p : Problem) → Valid (p .elements) → (words : List ℕ) (cell delay load : ℕ) → delay ≡ setupDelay (p .elements .register) → load ≡ registerLoad (p .elements .register) → FreshIn p words cell (ltb delay (getD words (cell * rowWords + load) 0))
-unfolding rulesFor rulesOf
-fresh-word p v words cell delay load d l = record { fresh = same; start = same }
-  where
-    same : (marks : List ℕ) → cell < length marks → ltb delay (getD words (cell * rowWords + load) 0) ≡ ltb (setupDelay (p .elements .register)) (budgetOf (length marks) words cell (registerLoad (p .elements .register)))
-    same marks h = rw (d, l, budget-at (length marks) words cell (registerLoad (p .elements .register)) h (omega (arith, load-most v)))
+fresh-word : (gate : Register) → RegisterInRange gate → (words : List ℕ) (cell delay load : ℕ) → delay ≡ setupDelay gate → load ≡ registerLoad gate → FreshIn gate words cell (ltb delay (getD words (cell * rowWords + load) 0))
+fresh-word gate v words cell delay load d l n h = rw (d, l, budget-at n words cell (registerLoad gate) h (omega (arith, load-most v)))
 
 load-requires : tie.Need-load-requires
 load-requires c κs = search needs
@@ -44,16 +37,16 @@ start-delay-requires : tie.Need-start-delay-requires
 start-delay-requires c κs = search needs
 
 cast-start : tie.Need-cast-start
-cast-start c = omega (arith, c .before .start-delay .ensures, delay-most (c .before .before .before .before .before .before .before .pre .0))
+cast-start c = omega (arith, c .before .start-delay .ensures, delay-most (c .before .before .before .before .before .pre .0))
 
 view-requires : tie.Need-view-requires
 view-requires c κs =
-    (omega (arith, c .before .before .before .load .ensures, load-most (c .before .before .before .before .before .before .before .pre .0)), omega arith)
+    (omega (arith, c .before .before .before .load .ensures, load-most (c .before .before .before .before .before .pre .0)), omega arith)
 
 returns : tie.Need-returns
 returns c =
-    let s = c .before .before .before .before .before .before .before .before in
-    rw (c .view .ensures) (fresh-word (s .args .p) (s .pre .0) _ (s .args .cell) _ _ (c .before .before .start-delay .ensures) (c .before .before .before .before .load .ensures))
+    let s = c .before .before .before .before .before .before in
+    rw (c .view .ensures) (fresh-word (s .args .gate) (s .pre .0) _ (s .args .cell) _ _ (c .before .before .start-delay .ensures) (c .before .before .before .before .load .ensures))
 
 pub fresh-in-spec : {M : Type 1} → statement M
 fresh-in-spec =

@@ -13,7 +13,7 @@ use Rattle.rules.specs.Legal.{isEnd, mayStand}
 use Rattle.plan.proofs.Truth.{is-false}
 use Rattle.rules.proofs.Document01.{RegisterSite, register-site, site-register}
 use Rattle.problem.specs.declared.Problem.{Problem}
-use Rattle.table.specs.Problem.{Ready, planFor, rulesFor}
+use Rattle.problem.specs.Problem.{Ready, planFor, rulesFor}
 use Rattle.labels.proofs.sites.may_register.Statement.{statement}
 use Rattle.labels.proofs.sites.may_register.Tie as tie
 

@@ -7,7 +7,7 @@ use borrow.Author.Tests.{lt-leb}
 use lib.Dec.{leb, leb→le, le→leb}
 use Rattle.plan.specs.Apart.{apartBy}
 use Rattle.budget.specs.Cone.{inCone}
-use Rattle.search.proofs.Seeds.{bool-same}
+use Rattle.labels.proofs.Seeds.{bool-same}
 use Rattle.reach.proofs.cone.in_cone.Statement.{statement}
 use Rattle.reach.proofs.cone.in_cone.Tie as tie
 

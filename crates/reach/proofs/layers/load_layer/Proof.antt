@@ -12,7 +12,7 @@ held-by-requires c κs = c .before .before .pre .held .wide
 rewind-requires : tie.Need-rewind-requires
 rewind-requires c κs =
     let s = c .before .before .before .before .before in
-    record { sound = s .pre .held .past .sound; few = few-cells _ _ (s .pre .ready); room = s .pre .room }
+    record { sound = s .pre .held .past .sound; few = few-cells _ _ (s .pre .ready .ready); room = s .pre .room }
 
 same-length : tie.Need-same-length
 same-length c = c .before .before .rewind .ensures .same
@@ -21,8 +21,8 @@ returns : tie.Need-returns
 returns c =
     let t = c .before .before .before .before in
     let s = t .before .before .before .before in
-    let held = held-parts (s .args .layers) (s .args .cell) (s .args .weight) (s .args .steps) (of-true _ (sym (t .before .held-by .ensures) ∙ t .if1 .taken)) in
-    back-loaded _ _ _ _ _ _ (s .pre .held) (held .low) (held .high) _ _ (c .before .before .rewind .ensures) _ _ (held .span) (held .near)
+    let held = held-parts (s .args .layers) (s .args .side) (s .args .cell) (s .args .weight) (s .args .steps) (of-true _ (sym (t .before .held-by .ensures) ∙ t .if1 .taken)) in
+    back-loaded _ _ _ _ _ _ _ _ (s .pre .held) (held .low) (held .high) _ _ (c .before .before .rewind .ensures) (held .own) _ _ (held .span) (held .near)
 
 run-span-requires : tie.Need-run-span-requires
 run-span-requires c κs = c .before .before .before .before .before .pre

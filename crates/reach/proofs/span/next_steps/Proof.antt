@@ -1,7 +1,5 @@
 -- `reach::span::next_steps`: the lesser of the next label's steps and `steps`.
 use Prim.Native.Nat.{_<_}
-use mathlib.Core.Path.{refl}
-use mathlib.Core.Logic.{inl, inr}
 use native.Mathlib.Omega.{arith}
 use Rattle.labels.specs.Labels.{weightWord, orderOf}
 use Rattle.labels.proofs.Labels.{known-word, ordered-count}
@@ -53,18 +51,18 @@ returns : tie.Need-returns
 returns c =
     record {
       within = omega arith;
-      early = λ h. omega (arith, c .before .steps-of .ensures);
-      met = inr ((c .before .before .before .before .before .if1 .taken, omega (arith, c .before .before .if2 .taken, c .before .before .before .weight-word .ensures)), c .before .steps-of .ensures);
+      early = λ h e. omega (arith, c .before .steps-of .ensures);
+      most = λ u h head. omega (arith, c .before .steps-of .ensures, head (c .before .before .before .before .before .if1 .taken) (omega (arith, c .before .before .if2 .taken, c .before .before .before .weight-word .ensures)));
     }
 
 returns-2 : tie.Need-returns-2
-returns-2 c = record { within = omega arith; early = λ h. omega (arith, c .if3 .left, c .before .steps-of .ensures); met = inl refl }
+returns-2 c = record { within = omega arith; early = λ h e. omega (arith, c .if3 .left, c .before .steps-of .ensures); most = λ u h head. h }
 
 returns-3 : tie.Need-returns-3
-returns-3 c = record { within = omega arith; early = λ h. absurd (omega (arith, c .if2 .left, c .before .weight-word .ensures, h .1)); met = inl refl }
+returns-3 c = record { within = omega arith; early = λ h e. absurd (omega (arith, c .if2 .left, c .before .weight-word .ensures, e)); most = λ u h head. h }
 
 returns-4 : tie.Need-returns-4
-returns-4 c = record { within = omega arith; early = λ h. absurd (omega (arith, c .if1 .left, h .0)); met = inl refl }
+returns-4 c = record { within = omega arith; early = λ h e. absurd (omega (arith, c .if1 .left, h)); most = λ u h head. h }
 
 pub next-steps-spec : {M : Type 1} → statement M
 next-steps-spec =

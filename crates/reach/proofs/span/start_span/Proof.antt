@@ -1,38 +1,47 @@
--- `reach::span::start_span`: the labels of the span are in the order from the first of their weight on; those with no steps become seeds.
+-- `reach::span::start_span`: the labels of the span are in the orders from the first of their weight on; those with no steps become seeds.
 use native.Mathlib.Omega.{arith}
 use borrow.Author.Needs.{needs}
 use mathlib.Core.Bool.{true}
-use Rattle.table.specs.Problem.{rulesFor}
+use Rattle.table.specs.Problem.{netRules}
 use Rattle.problem.proofs.Sizes.{few-cells}
-use Rattle.labels.proofs.Labels.{ordered-kept, set-in}
-use Rattle.reach.proofs.Turns.{arrive-asks}
-use Rattle.reach.proofs.Start.{labels-start, labels-started}
+use Rattle.labels.proofs.Labels.{ordered-kept, set-in, exits-in}
+use Rattle.reach.proofs.Turns.{both-ask}
+use Rattle.reach.proofs.Start.{start-near, start-far, labels-start, labels-started}
 use Rattle.reach.proofs.span.start_span.Statement.{statement}
 use Rattle.reach.proofs.span.start_span.Tie as tie
 
 clear-span-requires : tie.Need-clear-span-requires
 clear-span-requires c κs =
     let s = c .before .before .before in
-    (s .pre .past, (few-cells _ _ (s .pre .ready), s .pre .room))
+    (s .pre .past, (few-cells _ _ (s .pre .ready .ready), s .pre .room))
 
 mul-first-with : tie.Need-mul-first-with
-mul-first-with c = omega (arith, few-cells _ _ (c .before .before .before .before .before .before .before .pre .ready))
+mul-first-with c = search needs
 
 first-with-requires : tie.Need-first-with-requires
 first-with-requires c κs =
-    let s = c .before .before .before .before .before .before .before in
-    let z = c .before .before .before .clear-span .ensures in
-    (ordered-kept (s .pre .ordered) _ (λ i lo hi. z .kept i (omega arith) (omega arith)), set-in _ _ (few-cells _ _ (s .pre .ready)) (omega (arith, s .pre .room, z .same)))
+    let z = c .before .before .before in
+    let s = z .before .before .before .before in
+    let R = netRules (s .args .net) (s .args .plan .now) in
+    (ordered-kept (s .pre .ordered) _ (start-near R _ _ _ (z .clear-span .ensures)), set-in _ _ (few-cells _ _ (s .pre .ready .ready)) (omega (arith, s .pre .room, z .clear-span .ensures .same)))
 
-mul-arrive : tie.Need-mul-arrive
-mul-arrive c = omega (arith, few-cells _ _ (c .before .before .before .before .before .before .before .before .before .pre .ready))
+first-exit-requires : tie.Need-first-exit-requires
+first-exit-requires c κs =
+    let z = c .before .before .before .before .before in
+    let s = z .before .before .before .before in
+    let R = netRules (s .args .net) (s .args .plan .now) in
+    λ h. (ordered-kept (s .pre .exitsOrdered h) _ (start-far R _ _ _ (z .clear-span .ensures)), exits-in _ _ (few-cells _ _ (s .pre .ready .ready)) (omega (arith, s .pre .exitsIn h, z .clear-span .ensures .same)))
 
-arrive-requires : tie.Need-arrive-requires
-arrive-requires c κs =
-    let s = c .before .before .before .before .before .before .before .before .before in
-    let z = c .before .before .before .before .before .clear-span .ensures in
-    let f = labels-start (rulesFor (s .args .p) (s .args .plan .now)) _ _ _ z _ _ (s .pre .ordered) (s .pre .inStep) _ (c .before .first-with .ensures) (λ u x. true) in
-    arrive-asks (rulesFor (s .args .p) (s .args .plan .now)) _ _ _ _ _ _ _ _ _ f (few-cells _ _ (s .pre .ready)) (omega (arith, s .pre .room, z .same))
+arrive-both-requires : tie.Need-arrive-both-requires
+arrive-both-requires c κs =
+    let y = c .before in
+    let x = y .before .before in
+    let z = x .before .before .before .before in
+    let s = z .before .before .before .before in
+    let R = netRules (s .args .net) (s .args .plan .now) in
+    let same = z .clear-span .ensures .same in
+    let r = labels-start R _ _ _ (z .clear-span .ensures) _ _ _ (s .pre .ordered) (s .pre .exitsOrdered) (s .pre .inStep) _ _ (x .first-with .ensures) (y .first-exit .ensures) 0 (λ u x. true) in
+    both-ask R _ _ _ _ _ _ _ _ _ _ _ _ r (few-cells _ _ (s .pre .ready .ready)) (omega (arith, s .pre .room, same)) (λ h. omega (arith, s .pre .exitsIn h, same))
 
 same-length : tie.Need-same-length
 same-length c = search needs
@@ -40,10 +49,12 @@ same-length c = search needs
 returns : tie.Need-returns
 returns c =
     let a = c .before .before in
-    let f = a .before .before in
-    let z = f .before .before .before .before in
+    let y = a .before .before in
+    let x = y .before .before in
+    let z = x .before .before .before .before in
     let s = z .before .before .before .before in
-    labels-started (rulesFor (s .args .p) (s .args .plan .now)) _ _ _ (z .clear-span .ensures) _ _ (s .pre .ordered) (s .pre .inStep) _ (f .first-with .ensures) _ _ _ (a .arrive .ensures)
+    let R = netRules (s .args .net) (s .args .plan .now) in
+    labels-started R _ _ _ (z .clear-span .ensures) _ _ _ (s .pre .ordered) (s .pre .exitsOrdered) (s .pre .inStep) _ _ (x .first-with .ensures) (y .first-exit .ensures) _ _ _ _ (a .arrive-both .ensures)
 
 pub start-span-spec : {M : Type 1} → statement M
 start-span-spec =
@@ -52,7 +63,7 @@ start-span-spec =
     clear-span-requires
     mul-first-with
     first-with-requires
-    mul-arrive
-    arrive-requires
+    first-exit-requires
+    arrive-both-requires
     same-length
     returns)

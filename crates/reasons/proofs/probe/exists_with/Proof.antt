@@ -1,13 +1,13 @@
 -- `reasons::probe::exists_with` meets its contract: the best route's figures are there, or there is none.
 use mathlib.Core.Path.{sym, _∙_}
 use borrow.Author.Needs.{needs}
-use Rattle.table.specs.Problem.{planFor, rulesFor}
+use Rattle.problem.specs.Problem.{planFor, rulesFor}
 use Rattle.reasons.proofs.Probes.{routed-of, routed-nothing, ready-with}
 use Rattle.reasons.proofs.probe.exists_with.Statement.{statement}
 use Rattle.reasons.proofs.probe.exists_with.Tie as tie
 
 costs-of-requires : tie.Need-costs-of-requires
-costs-of-requires c κs = c .before .before .pre .1 .1
+costs-of-requires c κs = let valid = c .before .before .pre .1 .1 in (valid, valid .register)
 
 least-ready-requires : tie.Need-least-ready-requires
 least-ready-requires c κs =

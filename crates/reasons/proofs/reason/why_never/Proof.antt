@@ -7,7 +7,7 @@ use borrow.Author.Needs.{needs}
 use Rattle.timing.specs.Relaxed.{relaxed}
 use Rattle.timing.proofs.Relaxed.{relaxed-valid}
 use Rattle.rules.specs.Rules.{rulesOf}
-use Rattle.table.specs.Problem.{planFor}
+use Rattle.problem.specs.Problem.{planFor}
 use Rattle.reasons.specs.Reasons.{routed}
 use Rattle.reasons.specs.Probe.{Told, smallestFor, reasonOf}
 use Rattle.reasons.proofs.Order.{light-routed}

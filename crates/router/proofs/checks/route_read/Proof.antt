@@ -45,7 +45,8 @@ costs-of-requires : tie.Need-costs-of-requires
 costs-of-requires c κs =
     let k = c .before .before .before .before .before in
     let f = told-passes (asked (start k)) _ (k .check-question .ensures) (c .before .before .before .enum-told .given .1) in
-    rw (f .1) (passed-ready (asked (start k)) passes (f .0) .valid)
+    let valid = passed-ready (asked (start k)) passes (f .0) .valid in
+    rw (f .1) (valid, valid .register)
 
 route-ready-requires : tie.Need-route-ready-requires
 route-ready-requires c κs =

@@ -9,7 +9,7 @@ use Rattle.plan.proofs.Truth.{of-true, of-false}
 use Rattle.timing.specs.Formulas.{registerDriver}
 use Rattle.rules.specs.Rules.{registerCode}
 use Rattle.rules.specs.Legal.{mayStand}
-use Rattle.table.specs.Problem.{rulesFor}
+use Rattle.problem.specs.Problem.{rulesFor}
 use Rattle.spans.specs.Opens.{MayClose}
 use Rattle.spans.proofs.Eases.{ground-space, limit-row}
 use Rattle.costs.proofs.Checked.{register-driver-fits}

@@ -7,7 +7,7 @@ use lib.ListN.{getD}
 use Rattle.plan.specs.Joined.{neighboursOf}
 use Rattle.costs.specs.Costs.{rowWords}
 use Rattle.problem.proofs.Sizes.{cells-product}
-use Rattle.table.specs.Problem.{planFor}
+use Rattle.problem.specs.Problem.{planFor}
 use Rattle.delays.specs.Delays.{never}
 use Rattle.spans.specs.Eases.{Eases}
 use Rattle.spans.proofs.Eases.{eases-self}

@@ -20,7 +20,7 @@ unfolding planFor
 neighbours-of-requires c κs =
     let f = c .before .before in
     let s = f .before .before .before .before in
-    (s .pre .ready .sized, omega (arith, cells-product _ _ (s .pre .ready), s .pre .cellIn))
+    (s .pre .ready .ready .sized, omega (arith, cells-product _ _ (s .pre .ready .ready), s .pre .cellIn))
 
 load-requires : tie.Need-load-requires
 load-requires c κs = search needs
@@ -39,17 +39,17 @@ unfolding planFor
 offer-requires c κs =
     let f = c .before .before .before .before .before .before .before .before in
     let s = f .before .before .before .before in
-    offer-asks (s .args .p) (s .args .plan .now) (s .args .costs .now) (s .args .cell) (s .args .next) (s .args .scratch .now) (s .pre) _ verticalAt _ _ _ (rw (c .before .before .load2 .ensures) (step-row (s .args .p) (s .args .plan .now) (s .args .costs .now) (s .args .cell) (s .args .next) (s .args .scratch .now) (s .pre) (s .args .p .elements .vertical) verticalAt (omega arith) (s .pre .ready .valid .vertical) (s .pre .costed .vertical)))
-    (rw (c .before .before .before .before .before .neighbours-of .ensures .is) (ascending _ (s .pre .ready .sized) (s .args .cell) (omega (arith, cells-are _ _ (s .pre .ready), s .pre .cellIn)) .up-most))
-    (f .fill-arrival .ensures .same) (filled-listed (s .args .p) (s .args .plan .now) (s .args .costs .now) (s .args .cell) (s .args .next) (s .args .scratch .now) (s .pre) _ (f .fill-arrival .ensures)) (filled-follows (s .args .p) (s .args .plan .now) (s .args .costs .now) (s .args .cell) (s .args .next) (s .args .scratch .now) (s .pre) _ (f .fill-arrival .ensures) .sound)
+    offer-asks (s .args .net) (s .args .plan .now) (s .args .costs .now) (s .args .cell) (s .args .next) (s .args .scratch .now) (s .pre) _ verticalAt _ _ _ (rw (c .before .before .load2 .ensures) (step-row (s .args .net) (s .args .plan .now) (s .args .costs .now) (s .args .cell) (s .args .next) (s .args .scratch .now) (s .pre) (s .args .net .problem .elements .vertical) verticalAt (omega arith) (s .pre .ready .ready .valid .vertical) (s .pre .costed .vertical)))
+    (rw (c .before .before .before .before .before .neighbours-of .ensures .is) (ascending _ (s .pre .ready .ready .sized) (s .args .cell) (omega (arith, cells-are _ _ (s .pre .ready .ready), s .pre .cellIn)) .up-most))
+    (f .fill-arrival .ensures .same) (filled-listed (s .args .net) (s .args .plan .now) (s .args .costs .now) (s .args .cell) (s .args .next) (s .args .scratch .now) (s .pre) _ _ (f .fill-arrival .ensures)) (filled-follows (s .args .net) (s .args .plan .now) (s .args .costs .now) (s .args .cell) (s .args .next) (s .args .scratch .now) (s .pre) _ _ (f .fill-arrival .ensures) .sound)
 
 offer-requires-2 : tie.Need-offer-requires-2
 unfolding planFor
 offer-requires-2 c κs =
     let f = c .before .before .before .before .before .before .before .before .before .before .before .before in
     let s = f .before .before .before .before in
-    offer-asks (s .args .p) (s .args .plan .now) (s .args .costs .now) (s .args .cell) (s .args .next) (s .args .scratch .now) (s .pre) _ horizontalAt _ _ _ (rw (c .before .before .before .before .before .before .before .before .load .ensures) (step-row (s .args .p) (s .args .plan .now) (s .args .costs .now) (s .args .cell) (s .args .next) (s .args .scratch .now) (s .pre) (s .args .p .elements .horizontal) horizontalAt (omega arith) (s .pre .ready .valid .horizontal) (s .pre .costed .horizontal)))
-    (rw (c .before .before .before .before .before .before .before .before .before .neighbours-of .ensures .is) (ascending _ (s .pre .ready .sized) (s .args .cell) (omega (arith, cells-are _ _ (s .pre .ready), s .pre .cellIn)) .left-most))
+    offer-asks (s .args .net) (s .args .plan .now) (s .args .costs .now) (s .args .cell) (s .args .next) (s .args .scratch .now) (s .pre) _ horizontalAt _ _ _ (rw (c .before .before .before .before .before .before .before .before .load .ensures) (step-row (s .args .net) (s .args .plan .now) (s .args .costs .now) (s .args .cell) (s .args .next) (s .args .scratch .now) (s .pre) (s .args .net .problem .elements .horizontal) horizontalAt (omega arith) (s .pre .ready .ready .valid .horizontal) (s .pre .costed .horizontal)))
+    (rw (c .before .before .before .before .before .before .before .before .before .neighbours-of .ensures .is) (ascending _ (s .pre .ready .ready .sized) (s .args .cell) (omega (arith, cells-are _ _ (s .pre .ready .ready), s .pre .cellIn)) .left-most))
     ((c .before .before .before .offer .ensures .raised .same) ∙ f .fill-arrival .ensures .same) (c .before .before .before .offer .ensures .raised .listed) (c .before .before .before .offer .ensures .follows .sound)
 
 offer-requires-3 : tie.Need-offer-requires-3
@@ -57,8 +57,8 @@ unfolding planFor
 offer-requires-3 c κs =
     let f = c .before .before .before .before .before .before .before .before .before .before .before .before .before .before .before .before in
     let s = f .before .before .before .before in
-    offer-asks (s .args .p) (s .args .plan .now) (s .args .costs .now) (s .args .cell) (s .args .next) (s .args .scratch .now) (s .pre) _ horizontalAt _ _ _ (rw (c .before .before .before .before .before .before .before .before .before .before .before .before .load .ensures) (step-row (s .args .p) (s .args .plan .now) (s .args .costs .now) (s .args .cell) (s .args .next) (s .args .scratch .now) (s .pre) (s .args .p .elements .horizontal) horizontalAt (omega arith) (s .pre .ready .valid .horizontal) (s .pre .costed .horizontal)))
-    (rw (c .before .before .before .before .before .before .before .before .before .before .before .before .before .neighbours-of .ensures .is) (ascending _ (s .pre .ready .sized) (s .args .cell) (omega (arith, cells-are _ _ (s .pre .ready), s .pre .cellIn)) .right-most))
+    offer-asks (s .args .net) (s .args .plan .now) (s .args .costs .now) (s .args .cell) (s .args .next) (s .args .scratch .now) (s .pre) _ horizontalAt _ _ _ (rw (c .before .before .before .before .before .before .before .before .before .before .before .before .load .ensures) (step-row (s .args .net) (s .args .plan .now) (s .args .costs .now) (s .args .cell) (s .args .next) (s .args .scratch .now) (s .pre) (s .args .net .problem .elements .horizontal) horizontalAt (omega arith) (s .pre .ready .ready .valid .horizontal) (s .pre .costed .horizontal)))
+    (rw (c .before .before .before .before .before .before .before .before .before .before .before .before .before .neighbours-of .ensures .is) (ascending _ (s .pre .ready .ready .sized) (s .args .cell) (omega (arith, cells-are _ _ (s .pre .ready .ready), s .pre .cellIn)) .right-most))
     ((c .before .before .before .offer2 .ensures .raised .same) ∙ (c .before .before .before .before .before .before .before .offer .ensures .raised .same) ∙ f .fill-arrival .ensures .same) (c .before .before .before .offer2 .ensures .raised .listed) (c .before .before .before .offer2 .ensures .follows .sound)
 
 offer-requires-4 : tie.Need-offer-requires-4
@@ -66,8 +66,8 @@ unfolding planFor
 offer-requires-4 c κs =
     let f = c .before .before .before .before .before .before .before .before .before .before .before .before .before .before .before .before .before .before .before .before in
     let s = f .before .before .before .before in
-    offer-asks (s .args .p) (s .args .plan .now) (s .args .costs .now) (s .args .cell) (s .args .next) (s .args .scratch .now) (s .pre) _ verticalAt _ _ _ (rw (c .before .before .before .before .before .before .before .before .before .before .before .before .before .before .load2 .ensures) (step-row (s .args .p) (s .args .plan .now) (s .args .costs .now) (s .args .cell) (s .args .next) (s .args .scratch .now) (s .pre) (s .args .p .elements .vertical) verticalAt (omega arith) (s .pre .ready .valid .vertical) (s .pre .costed .vertical)))
-    (rw (c .before .before .before .before .before .before .before .before .before .before .before .before .before .before .before .before .before .neighbours-of .ensures .is) (ascending _ (s .pre .ready .sized) (s .args .cell) (omega (arith, cells-are _ _ (s .pre .ready), s .pre .cellIn)) .down-most))
+    offer-asks (s .args .net) (s .args .plan .now) (s .args .costs .now) (s .args .cell) (s .args .next) (s .args .scratch .now) (s .pre) _ verticalAt _ _ _ (rw (c .before .before .before .before .before .before .before .before .before .before .before .before .before .before .load2 .ensures) (step-row (s .args .net) (s .args .plan .now) (s .args .costs .now) (s .args .cell) (s .args .next) (s .args .scratch .now) (s .pre) (s .args .net .problem .elements .vertical) verticalAt (omega arith) (s .pre .ready .ready .valid .vertical) (s .pre .costed .vertical)))
+    (rw (c .before .before .before .before .before .before .before .before .before .before .before .before .before .before .before .before .before .neighbours-of .ensures .is) (ascending _ (s .pre .ready .ready .sized) (s .args .cell) (omega (arith, cells-are _ _ (s .pre .ready .ready), s .pre .cellIn)) .down-most))
     ((c .before .before .before .offer3 .ensures .raised .same) ∙ (c .before .before .before .before .before .before .before .offer2 .ensures .raised .same) ∙ (c .before .before .before .before .before .before .before .before .before .before .before .offer .ensures .raised .same) ∙ f .fill-arrival .ensures .same) (c .before .before .before .offer3 .ensures .raised .listed) (c .before .before .before .offer3 .ensures .follows .sound)
 
 same-length : tie.Need-same-length
@@ -81,7 +81,7 @@ returns c =
     let e = c .before .before .before .before .before .before .before .before .before .before .before .before .before .before .before .before .before .before .before .before .neighbours-of .ensures .is in
     let h = c .before .before .before .before .before .before .before .before .before .before .before .before .before .before .before .before .before .before .before .load .ensures in
     let v = c .before .before .before .before .before .before .before .before .before .before .before .before .before .before .before .before .before .load2 .ensures in
-    spread-whole (s .args .p) (s .args .plan .now) (s .args .costs .now) (s .args .cell) (s .args .next) (s .args .scratch .now) (s .pre) _ (f .fill-arrival .ensures) _ _ _ _ _ _ _ _
+    spread-whole (s .args .net) (s .args .plan .now) (s .args .costs .now) (s .args .cell) (s .args .next) (s .args .scratch .now) (s .pre) _ _ (f .fill-arrival .ensures) _ _ _ _ _ _ _ _
     (rw (e, v) at (c .before .before .before .before .before .before .before .before .before .before .before .before .before .before .offer .ensures)) (rw (e, h) at (c .before .before .before .before .before .before .before .before .before .before .offer2 .ensures)) (rw (e, h) at (c .before .before .before .before .before .before .offer3 .ensures)) (rw (e, v) at (c .before .before .offer4 .ensures))
 
 pub spread-spec : {M : Type 1} → statement M

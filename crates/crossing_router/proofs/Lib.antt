@@ -1,0 +1,3 @@
+pub mod FarSide
+pub mod BestCrossing
+pub mod Outcomes
