@@ -1,3 +1,4 @@
 pub mod FarSide
 pub mod BestCrossing
 pub mod Outcomes
+pub mod Refusals
