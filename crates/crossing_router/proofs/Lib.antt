@@ -2,3 +2,4 @@ pub mod FarSide
 pub mod BestCrossing
 pub mod Outcomes
 pub mod Refusals
+pub mod Demand2

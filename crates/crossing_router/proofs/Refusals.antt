@@ -23,12 +23,15 @@ use Rattle.question.specs.Checked.{problemAsked, checkedWith}
 use Rattle.question.specs.declared.Checked.{Checked}
 use Rattle.question.specs.declared.QuestionCheck.{QuestionCheck}
 use Rattle.question.proofs.Crossing.{crossing-passed, crossing-first-five, crossing-five-fail, crossing-ready, crossing-clocks, crossing-cells, crossing-checked, crossing-made, crossing-told-fails, crossing-told-passes}
-use Rattle.crossing_router.specs.Route.{CrossingQuestion, rulesCrossed, crossingWords, passes, fails, crossingChecks, checks, answerAfter, crossingAnswerOf, scratchAfter, crossingScratchOf, visitsAfter, crossingVisitsOf, Crossed}
+use Rattle.crossing_router.specs.Route.{CrossingQuestion, rulesCrossed, crossingWords, Check, passes, fails, crossingChecks, checks, answerAfter, crossingAnswerOf, scratchAfter, crossingScratchOf, visitsAfter, crossingVisitsOf, Crossed}
 use Rattle.crossing_router.specs.Sides.{TwoAsks, CrossingDone}
 
 -- the net asked about
 abbrev pub netAsked : CrossingQuestion → Net
 netAsked c = record { problem = problemAsked (c .question); clocks = clocksOf (c .crossing) }
+
+apart : (r : Refusal) → _≡_ {A = Check} passes (fails r) → ⊥
+apart r e = let z : _≡_ {A = ℕ} 0 1 = cc in omega arith
 
 module _ (c : CrossingQuestion) (scratch visits : List ℕ) where
   -- a refusal leaves everything as it is
@@ -39,6 +42,15 @@ module _ (c : CrossingQuestion) (scratch visits : List ℕ) where
   pub refused-five : (r : Refusal) → crossingChecks c passes ≡ fails r → checks c (length scratch) ≡ fails r
   unfolding checks
   refused-five r e = crossing-five-fail c r _ e
+
+  -- passed checks have passed the first five
+  pub first-five : checks c (length scratch) ≡ passes → crossingChecks c passes ≡ passes
+  unfolding checks
+  first-five e = go (crossingChecks c passes) refl
+    where
+      go : (x : Check) → crossingChecks c passes ≡ x → crossingChecks c passes ≡ passes
+      go passes h = h
+      go (fails r) h = absurd (apart r (sym e ∙ crossing-five-fail c r _ h))
 
   module _ (five : crossingChecks c passes ≡ passes) where
     pub net-ready : NetReady (netAsked c) (c .question .marks)

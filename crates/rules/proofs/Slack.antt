@@ -124,15 +124,16 @@ figures-most R low a (v ∷ vs) i h = go (isClosing (v .code)) i h (figures-most
     go true (suc k) h rest = rest k (omega arith)
     go false k h rest = rest k h
 
--- The route's figure is the smallest of its spans': no close has less, and one has it.
-pub slack-smallest : (p : Plan) (e : Elements) (from to : ℕ) (r : Route) → Valid e → T (legal (rulesOf p e from to) r) → Smallest (leastSlack (rulesOf p e from to) r) (slacks (rulesOf p e from to) r)
+-- The route's figure is the smallest of its spans': no close has less, and one has it. For any rules with periods in range, and for document 01's.
+pub legal-smallest : (R : Rules) → ((k f : ℕ) → R .bound k f ≤ 60001) → (r : Route) → T (legal R r) → Smallest (leastSlack R r) (slacks R r)
 unfolding leastSlack slacks legal
-slack-smallest p e from to [] valid h = absurd h
-slack-smallest p e from to (v ∷ vs) valid h =
-    least-smallest (slacksFrom R (startPlace R v) vs) (omega (arith, slacks-count R (v ∷ vs) h)) (figures-most R (λ k f. rw (rules-bound p e from to k f) (omega (arith, valid .most))) (startPlace R v) vs)
-  where
-    R : Rules
-    R = rulesOf p e from to
+legal-smallest R low [] h = absurd h
+legal-smallest R low (v ∷ vs) h =
+    least-smallest (slacksFrom R (startPlace R v) vs) (omega (arith, slacks-count R (v ∷ vs) h)) (figures-most R low (startPlace R v) vs)
+
+pub slack-smallest : (p : Plan) (e : Elements) (from to : ℕ) (r : Route) → Valid e → T (legal (rulesOf p e from to) r) → Smallest (leastSlack (rulesOf p e from to) r) (slacks (rulesOf p e from to) r)
+slack-smallest p e from to r valid =
+    legal-smallest (rulesOf p e from to) (λ k f. rw (rules-bound p e from to k f) (omega (arith, valid .most))) r
 
 -- A legal route's spans close in time: none of its figures is below zero.
 

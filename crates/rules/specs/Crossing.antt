@@ -24,7 +24,7 @@ gateFor e x code = cond (isFifo x code) (x .fifo) (e .register)
 unfoldable pub periodOn : Elements → Clocks → ℕ → ℕ
 periodOn e x f = cond (leb 1 (x .fifos) && leb 1 f) (x .period) (e .period)
 
--- The rules with these clocks: document 01's but for the FIFO, the periods, and the ranking by latency. With one clock they are document 01's (`one-clock` in proofs/Crossing.antt).
+-- The rules with these clocks: document 01's but for the FIFO, the periods, and the ranking by latency. With one clock they are document 01's (`one-clock` in proofs/Clocks.antt).
 unfoldable pub rulesBetween : Plan → Elements → Clocks → ℕ → ℕ → Rules
 rulesBetween p e x from to =
     let R : Rules = rulesOf p e from to in
@@ -68,3 +68,23 @@ sourceRegisters r = codeSevens (sourceSide r) - 1
 -- "Latency is the source period times (registers on the source side + 1) plus the sink period times (registers on the sink side + 1)."
 unfoldable pub crossingLatency : ℕ → ℕ → Route → ℕ
 crossingLatency source sink r = source * (sourceRegisters r + 1) + sink * (sinkRegisters r + 1)
+
+-- these rules with any period for each span, by its number from the sink
+unfoldable pub byNumber : Rules → (ℕ → ℕ) → Rules
+byNumber R period =
+    record {
+      cellCount = R .cellCount;
+      source = R .source;
+      sink = R .sink;
+      limit = R .limit;
+      linked = R .linked;
+      wire = R .wire;
+      site = R .site;
+      buffer = R .buffer;
+      start = R .start;
+      fresh = R .fresh;
+      closer = R .closer;
+      fifos = R .fifos;
+      bound = λ span f. 2 * period span + 1;
+      weight = R .weight;
+    }
