@@ -125,7 +125,7 @@ fn crossing(r: &mut Random) -> Problem {
 
 // Taps on branches from both ends of one path, k on each side, of which each is reached only from the one before it, by
 // the whole path: tests/printer/long.txt tells how. Then something may be changed.
-fn ratchet(r: &mut Random) -> Problem {
+pub fn ratchet(r: &mut Random) -> Problem {
     let (k, b) = r.pick(&[(3, 3), (3, 4), (4, 4)]);
     let mut p = sized(k + 3, 2 * b - k + 4);
     let w = p.width;
@@ -182,7 +182,7 @@ fn ratchet(r: &mut Random) -> Problem {
     p
 }
 
-fn plan(r: &mut Random, shape: usize) -> Problem {
+pub fn plan(r: &mut Random, shape: usize) -> Problem {
     let d = density(r);
     match shape {
         0 => {

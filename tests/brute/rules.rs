@@ -29,6 +29,12 @@ pub struct Register {
     pub setup: u32,
 }
 
+impl Register {
+    pub fn out_of_range(&self) -> bool {
+        self.r > 255 || self.k > 1_000 || self.c > 63 || self.setup > 30_000
+    }
+}
+
 // A job's numbers, in range or not.
 #[derive(Clone, Debug, Default, PartialEq)]
 pub struct Problem {
@@ -120,8 +126,7 @@ impl Problem {
         if wire_fails(self.vertical) {
             return Some(Fault::Vertical);
         }
-        let g = self.register;
-        if g.r > 255 || g.k > 1_000 || g.c > 63 || g.setup > 30_000 {
+        if self.register.out_of_range() {
             return Some(Fault::Register);
         }
         if self.buffers.len() > 6 {

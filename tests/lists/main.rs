@@ -37,6 +37,7 @@ mod judge;
 mod lists;
 mod misses;
 mod mix;
+#[allow(dead_code)]
 mod played;
 mod script;
 mod tuning;

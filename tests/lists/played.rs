@@ -2,6 +2,7 @@
 
 use crate::program::printed;
 
+pub const LONGEST: usize = 65_000; // bytes of a script; the program reads fewer than 65,536
 const SHORT: usize = 2_000; // bytes of a script that is shown whole
 
 pub struct Entry {
@@ -21,6 +22,17 @@ impl Script {
     pub fn push(&mut self, command: String, lines: Vec<String>, before: usize, lays: bool) {
         self.bytes += command.len() + 1;
         self.entries.push(Entry { command, lines, before, lays });
+    }
+
+    // Adds a block of commands with their lines; gives the script that is full.
+    pub fn add(&mut self, block: &[(String, Vec<String>)]) -> Option<Script> {
+        let size: usize = block.iter().map(|(command, _)| command.len() + 1).sum();
+        let full = (self.bytes + size > LONGEST).then(|| std::mem::take(self));
+        let start = self.entries.len();
+        for (command, lines) in block {
+            self.push(command.clone(), lines.clone(), start, true);
+        }
+        full
     }
 
     pub fn text(&self) -> String {

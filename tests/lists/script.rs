@@ -4,12 +4,10 @@ use crate::blocks::Block;
 use crate::commands::Command;
 use crate::mix::Mix;
 use crate::plan;
-use crate::played::Script;
+use crate::played::{Script, LONGEST};
 use crate::question::Tables;
 use crate::random::Random;
 use crate::rules::Problem;
-
-const LONGEST: usize = 65_000; // bytes; the program reads fewer than 65,536
 
 // The plan and the tables, and no session.
 pub fn as_it_is(p: &Problem) -> String {

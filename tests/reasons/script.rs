@@ -1,14 +1,11 @@
 // Jobs as scripts: crates/session_player/src/main.rt tells the format.
 
-use crate::commands::{shown_words, Command};
+use crate::commands::{shown, Command};
 use crate::explained::Explained;
 use crate::jobs::Job;
 use crate::played::Script;
-use crate::question::{answer, Question, Tables, SCRATCH};
+use crate::question::{answer, Question, Tables, VISITS};
 use crate::rules::Problem;
-
-const LONGEST: usize = 65_000; // bytes; the program reads fewer than 65,536
-const VISITS: u32 = 2_048; // visit words that there are
 
 type Entry = (Command, Vec<String>); // with the lines that are printed for it
 
@@ -32,18 +29,6 @@ fn route(job: &Job) -> (Entry, Vec<u16>) {
     ((Command::Route(q), vec![line]), given.filled().iter().map(|&word| word as u16).collect())
 }
 
-// What is shown: the journal as it was, for no session was opened; the words as the calls left them.
-fn shown(p: &Problem, zeroed: u32, visits: &[u16]) -> Entry {
-    let list = |name: &str, bytes: &[u8]| bytes.iter().fold(name.to_string(), |text, byte| text + &format!(" {byte}"));
-    let lines = vec![
-        list("plan", &plan(p)),
-        list("journal", &[7; 1_024]),
-        shown_words("scratch", &vec![0; zeroed as usize], SCRATCH as usize),
-        shown_words("visits", visits, VISITS as usize),
-    ];
-    (Command::Show, lines)
-}
-
 pub fn entries(job: &Job, answer: &Explained) -> Vec<Entry> {
     let p = &job.problem;
     let (tables, lent) = (Command::Tables(Tables::from(p)), Command::Scratch(job.lent));
@@ -53,7 +38,9 @@ pub fn entries(job: &Job, answer: &Explained) -> Vec<Entry> {
     let reason = (Command::Reason(asked(p)), vec![line]);
     if job.shown {
         let (route, visits) = route(job);
-        out.extend([route, reason, shown(p, answer.zeroed(p), &visits)]);
+        let journal = [7; 1_024]; // as it was: no session was opened
+        let lines = shown(&plan(p), &journal, answer.zeroed(p), &visits);
+        out.extend([route, reason, (Command::Show, lines)]);
     } else {
         out.push(reason);
     }
@@ -62,11 +49,6 @@ pub fn entries(job: &Job, answer: &Explained) -> Vec<Entry> {
 
 // Adds a job; gives the script that is full.
 pub fn add(script: &mut Script, entries: &[Entry]) -> Option<Script> {
-    let size: usize = entries.iter().map(|(command, _)| command.text().len() + 1).sum();
-    let full = (script.bytes + size > LONGEST).then(|| std::mem::take(script));
-    let start = script.entries.len();
-    for (command, lines) in entries {
-        script.push(command.text(), lines.clone(), start, true);
-    }
-    full
+    let block: Vec<_> = entries.iter().map(|(command, lines)| (command.text(), lines.clone())).collect();
+    script.add(&block)
 }

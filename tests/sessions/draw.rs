@@ -1,8 +1,9 @@
 // Random numbers for commands: mostly such as the calls take, some that they refuse.
 
 use crate::calls::Session;
+use crate::crossed;
 use crate::plan::{invalid_mark, BELOW, RIGHT};
-use crate::question::{Question, Tables, SCRATCH};
+use crate::question::{self, Question, Tables, SCRATCH};
 use crate::random::Random;
 use crate::script::Command;
 
@@ -141,9 +142,31 @@ pub fn spoilt(r: &mut Random, good: &Tables) -> Tables {
     t
 }
 
-// How many scratch words are lent: about as many as the question needs, or all.
+// The source's period and a FIFO for tables: about the sink's period, about the register.
+pub fn clocks(r: &mut Random, t: &Tables) -> [u32; 5] {
+    let (n, sink) = (&t.numbers, t.numbers[8]);
+    let near = (sink + r.below(5)).saturating_sub(2);
+    let source = r.pick(&[sink, sink, 2 * sink, sink.div_ceil(2), near, near, 3 * sink]).clamp(1, 30_000);
+    let small = [r.below(4), r.below(4), r.below(4), r.below(3)];
+    let [a, b, c, d] = r.pick(&[[n[0], n[1], n[2], n[3]], [n[0], n[1], n[2], n[3]], small]);
+    [source, a, b, c, d]
+}
+
+// One number outside its range, or two.
+pub fn spoilt_clocks(r: &mut Random, good: [u32; 5]) -> [u32; 5] {
+    const BEYOND: [(usize, u32); 8] =
+        [(0, 0), (0, 30_001), (0, 65_535), (1, 256), (2, 1_001), (3, 64), (4, 30_001), (4, 65_535)];
+    let mut list = good;
+    for _ in 0..r.pick(&[1, 1, 2]) {
+        let (at, number) = r.pick(&BEYOND);
+        list[at] = number;
+    }
+    list
+}
+
+// How many scratch words are lent: about as many as a question needs, or all.
 pub fn scratch(r: &mut Random, q: &Question) -> u32 {
-    let need = 256 * (q.width * q.height).min(1_024);
+    let need = r.pick(&[question::EACH, crossed::EACH]) * (q.width * q.height).min(1_024);
     let any = r.below(need + 1);
     r.pick(&[need, need, need.saturating_sub(1), need.saturating_sub(1), need + 1, any, 0, 1, SCRATCH]).min(SCRATCH)
 }
@@ -216,7 +239,7 @@ const NO_NUMBER: &str = "a number is missing";
 const TOO_LARGE: &str = "a number is too large";
 
 // Commands that are wrong at their last word, and what is said of them.
-pub const BAD: [(&str, &str); 27] = [
+pub const BAD: [(&str, &str); 36] = [
     ("jump", NO_COMMAND),
     ("Move", NO_COMMAND),
     ("moves", NO_COMMAND),
@@ -237,13 +260,22 @@ pub const BAD: [(&str, &str); 27] = [
     ("buffers 1 2 3 show", NO_NUMBER),
     ("buffers 7 1 1 1 1 1 1 1 1 1 1 1 1 1 1 1 1 1 1 1 1 show", NO_NUMBER),
     ("tables 1 1 1 1 1 1 1 1 1 show", NO_NUMBER),
-    ("scratch 262145", TOO_LARGE),
+    ("scratch 524289", TOO_LARGE),
     ("scratch 1000000", TOO_LARGE),
     ("scratch show", NO_NUMBER),
     ("route 1 1 0 0 2049", TOO_LARGE),
     ("reasons", NO_COMMAND),
     ("reason 3 1 0 show", NO_NUMBER),
     ("reason 3 1 0 65536", TOO_LARGE),
+    ("clock", NO_COMMAND),
+    ("clocks 1 1 1 1 show", NO_NUMBER),
+    ("clocks 65536", TOO_LARGE),
+    ("clocks 1 1 1 1 65536", TOO_LARGE),
+    ("crossings", NO_COMMAND),
+    ("cross", NO_COMMAND),
+    ("crossing 3 1 0 2 show", NO_NUMBER),
+    ("crossing 1 1 0 0 2049", TOO_LARGE),
+    ("crossing 3 1 0 65536", TOO_LARGE),
 ];
 
 pub fn bad_command(r: &mut Random) -> Command {

@@ -5,7 +5,7 @@
 //   sessions text < SCRIPT          what the model gives for a script of good commands
 
 // The route question's answer is the brute force's: its random numbers, rules and search, as they are. The reason's is
-// that of the reference of reasons.
+// that of the reference of reasons, the crossing's that of the search of routes between two clocks.
 #[path = "../brute/random.rs"]
 mod random;
 #[allow(dead_code)]
@@ -20,6 +20,14 @@ mod explained;
 mod sides;
 #[path = "../reasons/why.rs"]
 mod why;
+
+#[allow(dead_code)]
+#[path = "../crossing/best.rs"]
+mod best;
+#[path = "../crossing/crossed.rs"]
+mod crossed;
+#[path = "../crossing/net.rs"]
+mod net;
 
 mod calls;
 mod draw;

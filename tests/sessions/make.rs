@@ -1,5 +1,6 @@
 // Random scripts: each command is drawn with the model's state in view, and played on the model at once.
 
+use crate::crossed::Crossed;
 use crate::draw;
 use crate::explained::{Explained, LONGEST};
 use crate::mix::Mix;
@@ -80,7 +81,13 @@ impl Maker<'_> {
     pub fn new_tables(&mut self) -> Made {
         self.asked = None;
         let tables = draw::tables(&mut self.r);
-        self.put(Command::Tables(tables))
+        self.put(Command::Tables(tables))?;
+        self.new_clocks()
+    }
+
+    fn new_clocks(&mut self) -> Made {
+        let clocks = draw::clocks(&mut self.r, &self.player.tables);
+        self.put(Command::Clocks(clocks))
     }
 
     // The period taken down below what the best route needs, some times over: then few marks decide the answer.
@@ -111,18 +118,25 @@ impl Maker<'_> {
         self.put(Command::Tables(tables))
     }
 
-    // Room for the visits: ample, or about as much as they need.
+    // Room for the visits: ample, or about as much as those of a route or of a crossing need.
     fn room(&mut self, q: &mut Question) {
         if self.r.chance(65) {
             return;
         }
         let ample = Question { room: 2_048, ..*q };
-        q.room = match self.player.answer(&ample) {
-            Ok(Answer::Found(best)) => {
-                let need = 2 * best.route.len() as u32;
+        let visits = match self.player.crossed(&ample) {
+            Ok(Crossed::Found(route, _)) if self.r.chance(50) => Some(route.len()),
+            _ => match self.player.answer(&ample) {
+                Ok(Answer::Found(best)) => Some(best.route.len()),
+                _ => None,
+            },
+        };
+        q.room = match visits {
+            Some(visits) => {
+                let need = 2 * visits as u32;
                 self.r.pick(&[need, need, need - 1, need - 2, need + 1, 0, need / 2])
             }
-            _ => self.r.below(2_049),
+            None => self.r.below(2_049),
         };
     }
 
@@ -130,6 +144,12 @@ impl Maker<'_> {
     fn look(&mut self, q: &Question, percent: u32) {
         self.asked = Some(*q);
         self.path.clear();
+        let crossed = self.player.crossed(q).ok();
+        let crossed = crossed.as_ref().and_then(|crossed| crossed.route()).filter(|_| self.r.chance(50));
+        if let Some((route, _)) = crossed {
+            self.path = route.iter().map(|visit| visit.0).collect();
+            return;
+        }
         match self.player.answer(q) {
             Ok(Answer::Found(best) | Answer::NoRoom(best)) => self.path = best.route.iter().map(|v| v.0).collect(),
             _ if self.r.chance(percent) => {}
@@ -137,14 +157,17 @@ impl Maker<'_> {
         }
     }
 
-    // A route question, why there is none, or both.
+    // A route question, why there is none, a route between two clocks, or some of them.
     fn ask(&mut self, q: Question) -> Made {
-        let turn = self.r.below(10);
+        let turn = self.r.below(14);
         if turn < 8 {
             self.put(Command::Route(q))?;
         }
-        if turn > 4 {
+        if 4 < turn && turn < 10 {
             self.put(Command::Reason(q))?;
+        }
+        if turn < 2 || turn > 6 {
+            self.put(Command::Crossing(q))?;
         }
         Ok(())
     }
@@ -165,6 +188,9 @@ impl Maker<'_> {
             12 | 13 => self.lengthen(&q)?,
             _ => {}
         }
+        if self.r.chance(60) {
+            self.new_clocks()?; // about the period of now
+        }
         self.room(&mut q);
         if self.r.chance(20) {
             let n = draw::scratch(&mut self.r, &q);
@@ -175,7 +201,7 @@ impl Maker<'_> {
         if self.player.lent < SCRATCH && self.r.chance(80) {
             self.put(Command::Scratch(SCRATCH))?;
         }
-        if self.r.chance(8) {
+        if self.r.chance(12) {
             return self.spoilt_tables(q);
         }
         Ok(())
@@ -183,12 +209,19 @@ impl Maker<'_> {
 
     // A number outside its range, the question (its ends spoilt too, now and then), and the number put right.
     fn spoilt_tables(&mut self, q: Question) -> Made {
-        let good = self.player.tables.clone();
-        let bad = draw::spoilt(&mut self.r, &good);
-        self.put(Command::Tables(bad))?;
+        let (good, clocks) = (self.player.tables.clone(), self.player.clocks);
+        if self.r.chance(80) {
+            let bad = draw::spoilt(&mut self.r, &good);
+            self.put(Command::Tables(bad))?;
+        }
+        if self.r.chance(35) {
+            let bad = draw::spoilt_clocks(&mut self.r, clocks);
+            self.put(Command::Clocks(bad))?;
+        }
         let sink = if self.r.chance(30) { q.source } else { q.sink };
         self.ask(Question { sink, ..q })?;
-        self.put(Command::Tables(good))
+        self.put(Command::Tables(good))?;
+        self.put(Command::Clocks(clocks))
     }
 }
 

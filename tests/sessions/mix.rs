@@ -1,7 +1,9 @@
 // What a run's calls were, so that a poor mix shows.
 
 use crate::calls::Record;
+use crate::crossed::Crossed;
 use crate::explained::{Explained, Reason, LONGEST};
+use crate::net::Net;
 use crate::plan::{Fault, BELOW, RIGHT};
 use crate::question::{Answer, Question};
 use crate::rules::{registers, Problem, Visit};
@@ -17,21 +19,23 @@ pub struct Mix {
 }
 
 // Every number of document 01 that a script can bring about.
-const NUMBERS: [(&str, &[u32]); 5] = [
+const NUMBERS: [(&str, &[u32]); 6] = [
     ("open", &[0, 1, 2, 3, 9]),
     ("move", &[0, 1, 2, 3, 9, 10, 11, 14]),
     ("undo", &[0, 1, 2, 3, 9, 10, 12, 13]),
     ("route", &[0, 1, 2, 3, 4, 5, 6, 7, 8]),
     ("reason", &[0, 1, 2, 3, 4, 5, 6, 19]),
+    ("crossing", &[0, 1, 2, 3, 4, 5, 6, 7, 8]),
 ];
 
 // What may be at fault, in the order of the call; two at once show the order.
-const ORDERS: [(&str, &[&str]); 5] = [
+const ORDERS: [(&str, &[&str]); 6] = [
     ("open", &["grid", "length", "plan", "journal"]),
     ("move", &["grid", "length", "plan", "journal", "depth", "cell", "marks", "full"]),
     ("undo", &["grid", "length", "plan", "journal", "depth", "empty", "corrupt"]),
     ("route", &["grid", "length", "plan", "element", "ends", "scratch"]),
     ("reason", &["grid", "length", "plan", "element", "ends", "scratch"]),
+    ("crossing", &["grid", "length", "plan", "element", "ends", "scratch"]),
 ];
 
 // Two that cannot hold at once: depths that differ.
@@ -41,7 +45,7 @@ const SLACKS: [&str; 4] = ["spare 0", "spare 1", "spare 2 to 9", "spare 10 and m
 
 const FAULTS: [&str; 12] = ["1", "2", "3", "4", "5", "6", "7 1", "7 2", "7 3", "7 4", "7 5", "7 6"];
 
-const KINDS: [(&str, &[&str]); 16] = [
+const KINDS: [(&str, &[&str]); 22] = [
     (
         "move",
         &[
@@ -70,20 +74,48 @@ const KINDS: [(&str, &[&str]); 16] = [
     ("route", &["with registers", "with buffers", "that passes a cell twice", "on sides not the session's"]),
     ("route 0:", &SLACKS),
     ("route 8:", &SLACKS),
-    ("route 8:", &["no words lent", "one word too few", "two words or more too few"]),
+    ("route 8:", &SHORT),
     ("reason 0:", &["walled", "load", "period T + 1", "period up to 29,999", "period 30,000", "short"]),
     ("reason", &["seen from both sides", "where no route is at 30,000", "on sides not the session's"]),
     ("reason 4: fault", &FAULTS),
+    (
+        "crossing",
+        &[
+            "with no register",
+            "with registers on the source's side",
+            "with registers on the sink's side",
+            "with registers on both sides",
+            "with buffers",
+            "that passes a cell twice",
+            "with one period",
+            "with a FIFO like the register",
+            "with a FIFO unlike it",
+            "on sides not the session's",
+        ],
+    ),
+    ("crossing 0:", &SLACKS),
+    ("crossing 8:", &SHORT),
+    ("crossing 4: fault", &["1", "2", "3", "4", "5", "6", "7", "8", "9 1", "9 2", "9 3", "9 4", "9 5", "9 6"]),
     ("route asked again,", &ASKED),
     ("reason asked again,", &ASKED),
+    ("crossing asked again,", &ASKED),
     ("route scratch words:", &WORDS),
     ("reason scratch words:", &WORDS),
+    ("crossing scratch words:", &WORDS),
     (
         "show of",
-        &["more than 1,024 journal bytes", "zeroed scratch words", "filled visits", "filled visits after a reason"],
+        &[
+            "more than 1,024 journal bytes",
+            "zeroed scratch words",
+            "filled visits",
+            "filled visits after a reason",
+            "filled visits of a crossing",
+        ],
     ),
     ("", &["1 by 1", "32 by 32", "1 by 32", "32 by 1", "second sessions", "bad scripts", "free layout", "restored"]),
 ];
+
+const SHORT: [&str; 3] = ["no words lent", "one word too few", "two words or more too few"];
 
 const ASKED: [&str; 2] = ["the same answer", "another answer"];
 
@@ -91,6 +123,10 @@ const WORDS: [&str; 4] = ["one too few", "just enough", "more than enough", "non
 
 const PLACES: [&str; 4] =
     ["before any opening", "after a refused opening", "in step with the reference model", "after tampering"];
+
+fn slack_name(slack: u64) -> &'static str {
+    SLACKS[[1, 2, 10].iter().filter(|&&from| from <= slack).count()]
+}
 
 fn pairs() -> Vec<String> {
     let mut out = Vec::new();
@@ -113,7 +149,7 @@ fn numbers(call: &str, list: &[u32]) -> Vec<String> {
 }
 
 fn places() -> Vec<String> {
-    ["move", "undo", "route", "reason"].iter().flat_map(|call| kinds(call, &PLACES)).collect()
+    ["move", "undo", "route", "reason", "crossing"].iter().flat_map(|call| kinds(call, &PLACES)).collect()
 }
 
 impl Mix {
@@ -170,24 +206,55 @@ impl Mix {
     }
 
     pub fn route(&mut self, q: &Question, record: Record, route: &[Visit]) {
+        self.add_if(registers(route) > 0, "route with registers");
+        self.list("route", q, record, route);
+    }
+
+    // What a route question and a crossing have in common.
+    fn list(&mut self, call: &str, q: &Question, record: Record, route: &[Visit]) {
         let mut cells: Vec<u32> = route.iter().map(|visit| visit.0).collect();
         cells.sort();
-        self.add_if(registers(route) > 0, "route with registers");
-        self.add_if(route.iter().any(|visit| (1..7).contains(&visit.1)), "route with buffers");
-        self.add_if(cells.windows(2).any(|two| two[0] == two[1]), "route that passes a cell twice");
-        self.add_if((q.width, q.height) != (record.width, record.height), "route on sides not the session's");
+        let mut add = |holds: bool, class: &str| self.add_if(holds, &format!("{call} {class}"));
+        add(route.iter().any(|visit| (1..7).contains(&visit.1)), "with buffers");
+        add(cells.windows(2).any(|two| two[0] == two[1]), "that passes a cell twice");
+        add((q.width, q.height) != (record.width, record.height), "on sides not the session's");
+    }
+
+    pub fn crossing(&mut self, q: &Question, net: &Net, answer: &Crossed, record: Record) {
+        if let Some(place) = answer.fault() {
+            self.add(&format!("crossing 4: fault {place}"));
+        }
+        let Some((route, figures)) = answer.route() else { return };
+        self.list("crossing", q, record, route);
+        let (source, sink) = (figures.source_registers > 0, figures.sink_registers > 0);
+        let sides = match (source, sink) {
+            (false, false) => "no register",
+            (true, false) => "registers on the source's side",
+            (false, true) => "registers on the sink's side",
+            (true, true) => "registers on both sides",
+        };
+        self.add(&format!("crossing with {sides}"));
+        let like = net.fifo == net.problem.register;
+        self.add(if like { "crossing with a FIFO like the register" } else { "crossing with a FIFO unlike it" });
+        self.add_if(net.source_period == net.problem.period, "crossing with one period");
+        match answer {
+            Crossed::NoRoom(..) => self.short("crossing", q.room, 2 * route.len() as u32),
+            _ => self.add(&format!("crossing 0: {}", slack_name(figures.slack))),
+        }
     }
 
     // A best route's spare half-ticks, and what it lacks in room.
     pub fn slack(&mut self, q: &Question, answer: &Answer, slack: u64) {
-        let name = SLACKS[[1, 2, 10].iter().filter(|&&from| from <= slack).count()];
-        self.add(&format!("route {}: {name}", answer.number()));
+        self.add(&format!("route {}: {}", answer.number(), slack_name(slack)));
         if let Answer::NoRoom(best) = answer {
-            let lacks = 2 * best.route.len() as u32 - q.room;
-            self.add_if(q.room == 0, "route 8: no words lent");
-            self.add_if(q.room > 0 && lacks == 1, "route 8: one word too few");
-            self.add_if(q.room > 0 && lacks > 1, "route 8: two words or more too few");
+            self.short("route", q.room, 2 * best.route.len() as u32);
         }
+    }
+
+    // Fewer visit words are lent than are needed.
+    fn short(&mut self, call: &str, room: u32, need: u32) {
+        let name = SHORT[if room == 0 { 0 } else { 2.min(need - room) as usize }];
+        self.add(&format!("{call} 8: {name}"));
     }
 
     pub fn reason(&mut self, p: &Problem, answer: &Explained, seen: &Seen, record: Record) {
@@ -210,9 +277,9 @@ impl Mix {
         self.add_if((p.width, p.height) != (record.width, record.height), "reason on sides not the session's");
     }
 
-    // A route or reason call with its number; so many scratch words are lent.
-    pub fn words(&mut self, call: &str, q: &Question, lent: u32, number: u32) {
-        let need = 256 * q.width as u64 * q.height as u64;
+    // A question with its number; `each` scratch words are needed for a cell, so many are lent.
+    pub fn words(&mut self, call: &str, q: &Question, each: u32, lent: u32, number: u32) {
+        let need = each as u64 * q.width as u64 * q.height as u64;
         let lent = lent as u64;
         let mut add = |holds: bool, class: &str| self.add_if(holds, &format!("{call} scratch words: {class}"));
         match number {

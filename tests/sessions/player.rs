@@ -1,17 +1,20 @@
 // What the program prints for each command: by the calls' own rules, and by the reference model while nothing was tampered with.
 
+use crate::best;
 use crate::calls::{number, Record, Session};
+use crate::crossed::{Crossed, EACH};
 use crate::explained::Explained;
 use crate::reference::Reference;
 use crate::mix::Mix;
+use crate::net::Net;
 use crate::question::{self, Answer, Question, Tables, SCRATCH};
-use crate::script::{shown_words, Command};
+use crate::rules::Register;
+use crate::script::{shown, Command};
 use crate::search::TooLarge;
 use crate::sides;
 use std::collections::BTreeMap;
 
 const FILL: u8 = 7; // the journal's bytes before the first call
-const VISITS: usize = 2_048; // visit words that there are
 
 pub enum Trouble {
     TooLarge,       // a question that the search cannot answer within its bound: it is left out
@@ -33,10 +36,12 @@ pub struct Player {
     pub reference: Option<Reference>, // of the last opening that answered 0
     pub in_step: bool,          // record, plan and journal are the reference model's
     pub tables: Tables,
-    pub lent: u32,    // scratch words
-    zeroed: usize,    // scratch words that the last route or reason call left zero
-    filled: Vec<u16>, // visit words that the last route call filled
-    explained: bool,  // a reason call came after it
+    pub clocks: [u32; 5], // the source's period, FIFO R K C setup
+    pub lent: u32,        // scratch words
+    zeroed: u32,          // scratch words that the last question left zero
+    filled: Vec<u16>,     // visit words that the last route or crossing call filled
+    explained: bool,      // a reason call came after it
+    crossed: bool,        // it was a crossing call
     refused: bool, // the last opening was
     opened: bool,
     asked: BTreeMap<String, String>, // questions since the last opening, with their answers
@@ -50,10 +55,12 @@ impl Player {
             reference: None,
             in_step: false,
             tables: Tables::default(),
+            clocks: [0; 5],
             lent: SCRATCH,
             zeroed: 0,
             filled: Vec::new(),
             explained: false,
+            crossed: false,
             refused: false,
             opened: false,
             asked: BTreeMap::new(),
@@ -162,17 +169,22 @@ impl Player {
             mix.route(q, self.session.record, &best.route);
             mix.slack(q, &answer, best.slack);
         }
-        self.zeroed = answer.zeroed(q) as usize;
-        self.filled = answer.filled().iter().map(|&word| word as u16).collect();
-        self.explained = false;
-        mix.words("route", q, self.lent, answer.number());
+        self.zeroed = answer.zeroed(q);
+        self.fill(&answer.filled());
+        mix.words("route", q, question::EACH, self.lent, answer.number());
         let text = answer.text(&self.tables, q);
         Ok(self.told("route", q, answer.number(), text, mix))
     }
 
+    // A route or crossing call writes the visits.
+    fn fill(&mut self, words: &[u32]) {
+        self.filled = words.iter().map(|&word| word as u16).collect();
+        (self.explained, self.crossed) = (false, false);
+    }
+
     // A question's line; and whether it was asked before.
     fn told(&mut self, name: &str, q: &Question, number: u32, text: String, mix: &mut Mix) -> Vec<String> {
-        let question = format!("{name} {q:?} {:?} {}", self.tables, self.lent);
+        let question = format!("{name} {q:?} {:?} {:?} {}", self.tables, self.clocks, self.lent);
         if let Some(before) = self.asked.insert(question, text.clone()) {
             mix.add(&format!("{name} asked again, {} answer", if before == text { "the same" } else { "another" }));
         }
@@ -189,10 +201,39 @@ impl Player {
             mix.faults("reason", faults);
         }
         mix.reason(&p, &answer, &seen, self.session.record);
-        self.zeroed = answer.zeroed(&p) as usize;
+        self.zeroed = answer.zeroed(&p);
         self.explained = true;
-        mix.words("reason", q, self.lent, answer.number());
+        mix.words("reason", q, question::EACH, self.lent, answer.number());
         Ok(self.told("reason", q, answer.number(), answer.text(&p), mix))
+    }
+
+    fn crossing(&mut self, q: &Question, mix: &mut Mix) -> Result<Vec<String>, Trouble> {
+        let answer = self.crossed(q)?;
+        self.note_place("crossing", mix);
+        match &answer {
+            Crossed::Refused(faults, _) => mix.faults("crossing", faults),
+            other => mix.add(&format!("crossing {}", other.number())),
+        }
+        let net = self.net(q);
+        mix.crossing(q, &net, &answer, self.session.record);
+        self.zeroed = answer.zeroed(&net);
+        self.fill(&answer.filled());
+        self.crossed = true;
+        mix.words("crossing", q, EACH, self.lent, answer.number());
+        Ok(self.told("crossing", q, answer.number(), answer.text(&net), mix))
+    }
+
+    // The question's net; the tables' period is the sink's.
+    pub fn net(&self, q: &Question) -> Net {
+        let [source_period, r, k, c, setup] = self.clocks;
+        let problem = question::problem(&self.session.plan, &self.tables, q);
+        Net { problem, source_period, fifo: Register { r, k, c, setup } }
+    }
+
+    pub fn crossed(&self, q: &Question) -> Result<Crossed, Trouble> {
+        let net = self.net(q);
+        let best = || best::best(&net, question::STATES);
+        Crossed::of(&net, self.lent, q.room, best).map_err(|_: TooLarge| Trouble::TooLarge)
     }
 
     pub fn answer(&self, q: &Question) -> Result<Answer, Trouble> {
@@ -200,18 +241,13 @@ impl Player {
     }
 
     fn show(&self, mix: &mut Mix) -> Vec<String> {
-        let list = |name: &str, bytes: &[u8]| bytes.iter().fold(name.to_string(), |text, b| text + &format!(" {b}"));
         let s = &self.session;
         mix.add_if(s.lent > 1_024, "show of more than 1,024 journal bytes");
         mix.add_if(self.zeroed > 0, "show of zeroed scratch words");
         mix.add_if(!self.filled.is_empty(), "show of filled visits");
         mix.add_if(!self.filled.is_empty() && self.explained, "show of filled visits after a reason");
-        vec![
-            list("plan", &s.plan),
-            list("journal", &s.journal[..s.lent]),
-            shown_words("scratch", &vec![0; self.zeroed], SCRATCH as usize),
-            shown_words("visits", &self.filled, VISITS),
-        ]
+        mix.add_if(!self.filled.is_empty() && self.crossed, "show of filled visits of a crossing");
+        shown(&s.plan, &s.journal[..s.lent], self.zeroed, &self.filled)
     }
 
     // Plays one command: the lines that it prints.
@@ -222,10 +258,12 @@ impl Player {
             Command::Undo => return self.undo(mix),
             Command::Route(q) => return self.route(q, mix),
             Command::Reason(q) => return self.reason(q, mix),
+            Command::Crossing(q) => return self.crossing(q, mix),
             Command::Show => return Ok(self.show(mix)),
             Command::Bad(_, reason) => return Ok(vec![reason.to_string()]),
             Command::Scratch(n) => self.lent = *n,
             Command::Tables(t) => self.tables = t.clone(),
+            Command::Clocks(list) => self.clocks = *list,
             Command::Plan(marks) => {
                 self.session.plan = marks.clone();
                 self.asked.clear();

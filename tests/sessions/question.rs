@@ -7,7 +7,11 @@ use crate::search::{self, TooLarge};
 
 pub const STATES: usize = 10_000; // the most states that one search may follow
 
-pub const SCRATCH: u32 = 262_144; // scratch words that there are
+pub const SCRATCH: u32 = 524_288; // scratch words that there are: 512 a cell of the largest plan
+
+pub const VISITS: u32 = 2_048; // visit words that there are
+
+pub const EACH: u32 = 256; // scratch words that a route needs for a cell
 
 #[derive(Clone, Debug, Default)]
 pub struct Tables {
@@ -22,6 +26,17 @@ pub struct Question {
     pub source: u32,
     pub sink: u32,
     pub room: u32, // visit words lent
+}
+
+impl Question {
+    // Its numbers as a script has them.
+    pub fn numbers(&self) -> [u32; 5] {
+        [self.width, self.height, self.source, self.sink, self.room]
+    }
+
+    pub fn of([width, height, source, sink, room]: [u32; 5]) -> Question {
+        Question { width, height, source, sink, room }
+    }
 }
 
 pub enum Answer {
@@ -64,11 +79,11 @@ impl From<&Problem> for Tables {
     }
 }
 
-// Refusals 1 to 5: all that is at fault, in order.
-pub fn faults(p: &Problem) -> Vec<Fault> {
+// Refusals 1 to 5: all that is at fault, in order. `element`: a number of the tables is.
+pub fn faults_by(p: &Problem, element: bool) -> Vec<Fault> {
     let plan: Vec<u8> = p.marks.iter().map(|&marks| marks as u8).collect();
     let mut out = plan::faults(p.width, p.height, &plan);
-    if p.fault().is_some() {
+    if element {
         out.push((4, "element"));
     }
     if p.ends_fail() {
@@ -77,13 +92,18 @@ pub fn faults(p: &Problem) -> Vec<Fault> {
     out
 }
 
-// And 6: so many scratch words are lent.
+pub fn faults(p: &Problem) -> Vec<Fault> {
+    faults_by(p, p.fault().is_some())
+}
+
+// Refusal 6: so many scratch words are lent, `each` are needed for a cell.
+pub fn scratch_fault(p: &Problem, scratch: u32, each: u32) -> Option<Fault> {
+    let need = each as u64 * p.width as u64 * p.height as u64;
+    ((scratch as u64) < need).then_some((6, "scratch"))
+}
+
 pub fn faults_with(p: &Problem, scratch: u32) -> Vec<Fault> {
-    let mut out = faults(p);
-    if (scratch as u64) < 256 * p.width as u64 * p.height as u64 {
-        out.push((6, "scratch"));
-    }
-    out
+    faults(p).into_iter().chain(scratch_fault(p, scratch, EACH)).collect()
 }
 
 // `scratch` words are lent.
@@ -98,6 +118,20 @@ pub fn answer(plan: &[u8], t: &Tables, scratch: u32, q: &Question) -> Result<Ans
     let fits = 2 * route.len() <= q.room as usize;
     let best = Best { route, slack };
     Ok(if fits { Answer::Found(best) } else { Answer::NoRoom(best) })
+}
+
+// What the program prints of a route after the depth: the fault, the figures, the visits and the scratch words zeroed.
+pub fn told(fault: Option<String>, figures: &[u64], filled: &[u32], zeroed: u32) -> String {
+    let joined = |list: &mut dyn Iterator<Item = u64>| list.map(|n| format!(" {n}")).collect::<String>();
+    let fault = fault.map_or(String::new(), |place| format!("fault {place} "));
+    let figures = joined(&mut figures.iter().copied());
+    let visits = joined(&mut filled.iter().map(|&word| word as u64));
+    format!("{fault}figures{figures} visits{visits} zeroed {zeroed}")
+}
+
+// The words of a route list.
+pub fn words(route: &[Visit]) -> Vec<u32> {
+    route.iter().flat_map(|visit| [visit.0, visit.1]).collect()
 }
 
 // The least period with which the best route of now stays legal, where there is one.
@@ -141,32 +175,27 @@ impl Answer {
         if let Answer::Refused(..) = self {
             0
         } else {
-            256 * q.width * q.height
+            EACH * q.width * q.height
         }
     }
 
     // The visit words that are filled.
     pub fn filled(&self) -> Vec<u32> {
         match self {
-            Answer::Found(best) => best.route.iter().flat_map(|visit| [visit.0, visit.1]).collect(),
+            Answer::Found(best) => words(&best.route),
             _ => Vec::new(),
         }
     }
 
     // What the program prints after the depth.
     pub fn text(&self, t: &Tables, q: &Question) -> String {
-        let mut text = self.fault().map_or(String::new(), |place| format!("fault {place} "));
-        text += &match self {
+        let figures = match self {
             Answer::Found(Best { route, slack }) | Answer::NoRoom(Best { route, slack }) => {
-                let k = registers(route);
-                format!("figures {k} {} {} {slack}", route.len() - 1, t.numbers[8] * (k + 1))
+                let k = registers(route) as u64;
+                [k, route.len() as u64 - 1, t.numbers[8] as u64 * (k + 1), *slack]
             }
-            _ => "figures 0 0 0 0".to_string(),
+            _ => [0; 4],
         };
-        text += " visits";
-        for word in self.filled() {
-            text += &format!(" {word}");
-        }
-        text + &format!(" zeroed {}", self.zeroed(q))
+        told(self.fault(), &figures, &self.filled(), self.zeroed(q))
     }
 }

@@ -1,6 +1,6 @@
 // A script's commands as text; crates/session_player/src/main.rt tells the format.
 
-use crate::question::{Question, Tables};
+use crate::question::{Question, Tables, SCRATCH, VISITS};
 use crate::random::Random;
 
 #[derive(Clone, Debug)]
@@ -13,9 +13,11 @@ pub enum Command {
     Depth(u32),
     Byte(u32, u32),
     Tables(Tables), // two commands: tables, buffers
+    Clocks([u32; 5]), // the source's period, FIFO R K C setup
     Scratch(u32),
     Route(Question),
     Reason(Question), // its room is of no account
+    Crossing(Question),
     Show,
     Bad(&'static str, &'static str), // a command that is no command, its wrong word comes last; and what is said of it
 }
@@ -41,16 +43,19 @@ impl Command {
                 let buffers = numbers(&format!("buffers {}", t.buffers.len()), &t.buffers.concat());
                 format!("{} {buffers}", numbers("tables", &t.numbers))
             }
+            Command::Clocks(list) => numbers("clocks", list),
             Command::Scratch(n) => numbers("scratch", &[*n]),
-            Command::Route(q) => numbers("route", &[q.width, q.height, q.source, q.sink, q.room]),
-            Command::Reason(q) => numbers("reason", &[q.width, q.height, q.source, q.sink]),
+            Command::Route(q) => numbers("route", &q.numbers()),
+            Command::Reason(q) => numbers("reason", &q.numbers()[..4]),
+            Command::Crossing(q) => numbers("crossing", &q.numbers()),
             Command::Show => "show".to_string(),
             Command::Bad(text, _) => text.to_string(),
         }
     }
 
     pub fn is_call(&self) -> bool {
-        matches!(self, Command::Open(..) | Command::Move(..) | Command::Undo | Command::Route(_) | Command::Reason(_))
+        use Command::*;
+        matches!(self, Open(..) | Move(..) | Undo | Route(_) | Reason(_) | Crossing(_))
     }
 }
 
@@ -83,21 +88,11 @@ pub fn read(text: &str) -> Option<Vec<Command>> {
                 tables.buffers = (0..n).map(|_| Some([next()?, next()?, next()?])).collect::<Option<_>>()?;
                 Command::Tables(tables.clone())
             }
+            "clocks" => Command::Clocks([next()?, next()?, next()?, next()?, next()?]),
             "scratch" => Command::Scratch(next()?),
-            "route" => Command::Route(Question {
-                width: next()?,
-                height: next()?,
-                source: next()?,
-                sink: next()?,
-                room: next()?,
-            }),
-            "reason" => Command::Reason(Question {
-                width: next()?,
-                height: next()?,
-                source: next()?,
-                sink: next()?,
-                room: 0,
-            }),
+            "route" => Command::Route(Question::of([next()?, next()?, next()?, next()?, next()?])),
+            "reason" => Command::Reason(Question::of([next()?, next()?, next()?, next()?, 0])),
+            "crossing" => Command::Crossing(Question::of([next()?, next()?, next()?, next()?, next()?])),
             "show" => Command::Show,
             _ => return None,
         });
@@ -138,11 +133,22 @@ pub fn write(commands: &[Command], free: bool, r: &mut Random) -> (String, Vec<u
 const UNUSED: u16 = 65_535; // what words hold that no call has written
 
 // So many words as `show` prints them, the first of them written: a run of N equal words W is `W * N`.
-pub fn shown_words(name: &str, written: &[u16], n: usize) -> String {
+fn shown_words(name: &str, written: &[u16], n: usize) -> String {
     let mut words = written.to_vec();
     words.resize(n, UNUSED);
     words.chunk_by(|a, b| a == b).fold(name.to_string(), |text, run| match run.len() {
         1 => text + &format!(" {}", run[0]),
         n => text + &format!(" {} * {n}", run[0]),
     })
+}
+
+// The four lines of `show`; so many scratch words are zero.
+pub fn shown(plan: &[u8], journal: &[u8], zeroed: u32, visits: &[u16]) -> Vec<String> {
+    let list = |name: &str, bytes: &[u8]| bytes.iter().fold(name.to_string(), |text, byte| text + &format!(" {byte}"));
+    vec![
+        list("plan", plan),
+        list("journal", journal),
+        shown_words("scratch", &vec![0; zeroed as usize], SCRATCH as usize),
+        shown_words("visits", visits, VISITS as usize),
+    ]
 }

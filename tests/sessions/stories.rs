@@ -176,6 +176,7 @@ impl Maker<'_> {
         for q in asked {
             self.put(Command::Route(*q))?;
             self.put(Command::Reason(*q))?;
+            self.put(Command::Crossing(*q))?;
         }
         Ok(())
     }

@@ -23,7 +23,7 @@ fn journal(entries: &[[u8; 4]]) -> String {
 }
 
 // Words that no call has touched.
-const UNTOUCHED: &str = "scratch 65535 * 262144\nvisits 65535 * 2048\n";
+const UNTOUCHED: &str = "scratch 65535 * 524288\nvisits 65535 * 2048\n";
 
 const STRIP: &str = "plan 3 0 2 0 tables 1 2 1 1 2 3 2 3 25 63 open 3 1 ";
 
@@ -81,6 +81,53 @@ fn reasons() -> Case {
     case("reasons, by moves", &script, lines)
 }
 
+// The strip of five, and what moves make of it: the tables' period is the sink's. Before `clocks` the source's is 0.
+fn crossings() -> Case {
+    let script = "plan 5 0 2 2 2 0 tables 1 2 1 1 2 3 2 3 26 63 open 5 1 crossing 5 1 0 4 10 ".to_string()
+        + "clocks 12 1 2 1 1 crossing 5 1 0 4 10 crossing 5 1 0 4 9 move 2 0 crossing 5 1 0 4 10 move 1 0 "
+        + "crossing 5 1 0 4 10 undo undo crossing 5 1 0 4 10 crossing 5 1 4 0 10 move 1 0 crossing 5 1 4 0 10 "
+        + "clocks 12 256 2 1 1 crossing 5 1 0 4 10 route 5 1 0 4 10";
+    let lines = "open 0 depth 0\n\
+        crossing 4 depth 0 fault 1 figures 0 0 0 0 0 visits zeroed 0\n\
+        crossing 0 depth 0 figures 1 0 4 50 0 visits 4 7 3 0 2 8 1 7 0 7 zeroed 2560\n\
+        crossing 8 depth 0 figures 1 0 4 50 0 visits zeroed 2560\n\
+        move 0 depth 1\n\
+        crossing 0 depth 1 figures 0 1 4 64 0 visits 4 7 3 7 2 0 1 8 0 7 zeroed 2560\n\
+        move 0 depth 2\n\
+        crossing 7 depth 2 figures 0 0 0 0 0 visits zeroed 2560\n\
+        undo 0 depth 1\n\
+        undo 0 depth 0\n\
+        crossing 0 depth 0 figures 1 0 4 50 0 visits 4 7 3 0 2 8 1 7 0 7 zeroed 2560\n\
+        crossing 0 depth 0 figures 1 0 4 50 0 visits 0 7 1 0 2 8 3 7 4 7 zeroed 2560\n\
+        move 0 depth 1\n\
+        crossing 0 depth 1 figures 1 0 4 50 0 visits 0 7 1 0 2 8 3 7 4 7 zeroed 2560\n\
+        crossing 4 depth 1 fault 7 figures 0 0 0 0 0 visits zeroed 0\n\
+        route 0 depth 1 figures 1 4 52 0 visits 4 7 3 0 2 7 1 0 0 7 zeroed 1280\n";
+    case("a route between two clocks, by moves", &script, lines)
+}
+
+// What a crossing leaves in the words: zeros in the first 1,536 of three cells after an answer, 7 and 8.
+fn crossing_words() -> Case {
+    let script = STRIP.to_string()
+        + "clocks 12 1 2 1 1 scratch 1535 crossing 3 1 0 2 6 show scratch 1536 crossing 3 1 0 2 6 show "
+        + "crossing 3 1 0 2 5 show move 1 0 crossing 3 1 0 2 6 show route 3 1 0 2 6 show";
+    let plan = |middle: u8, entries: &[[u8; 4]]| format!("plan 0 {middle} 0\n{}", journal(entries));
+    let (before, after) = (plan(2, &[]), plan(0, &[[1, 0, 2, 0]]));
+    let zeroed = "scratch 0 * 1536 65535 * 522752\n";
+    let lines = format!(
+        "open 0 depth 0\n\
+         crossing 6 depth 0 figures 0 0 0 0 0 visits zeroed 0\n{before}{UNTOUCHED}\
+         crossing 0 depth 0 figures 0 0 2 37 0 visits 2 7 1 8 0 7 zeroed 1536\n\
+         {before}{zeroed}visits 2 7 1 8 0 7 65535 * 2042\n\
+         crossing 8 depth 0 figures 0 0 2 37 0 visits zeroed 1536\n{before}{zeroed}visits 65535 * 2048\n\
+         move 0 depth 1\n\
+         crossing 7 depth 1 figures 0 0 0 0 0 visits zeroed 1536\n{after}{zeroed}visits 65535 * 2048\n\
+         route 7 depth 1 figures 0 0 0 0 visits zeroed 768\n\
+         {after}scratch 0 * 768 65535 * 523520\nvisits 65535 * 2048\n"
+    );
+    case("scratch and visit words of a crossing", &script, &lines)
+}
+
 // 256 moves and one more, all undone and one more.
 fn full() -> Case {
     let mut script = STRIP.to_string();
@@ -114,7 +161,7 @@ fn words() -> Case {
         + "scratch 0 route 3 1 2 2 6 show scratch 768 route 3 1 0 2 6 scratch 767 reason 3 1 0 2 show "
         + "scratch 768 reason 3 1 0 2 show tables 1 2 1 1 2 3 2 3 11 63 scratch 769 reason 3 1 0 2 show";
     let plan = format!("plan 0 2 0\n{}", journal(&[]));
-    let zeroed = "scratch 0 * 768 65535 * 261376\n";
+    let zeroed = "scratch 0 * 768 65535 * 523520\n";
     let lines = format!(
         "open 0 depth 0\n\
          route 6 depth 0 figures 0 0 0 0 visits zeroed 0\n{plan}{UNTOUCHED}\
@@ -123,7 +170,7 @@ fn words() -> Case {
          route 8 depth 0 figures 1 2 50 26 visits zeroed 768\n{plan}{zeroed}visits 65535 * 2048\n\
          route 5 depth 0 figures 0 0 0 0 visits zeroed 0\n{plan}{UNTOUCHED}\
          route 0 depth 0 figures 1 2 50 26 visits 2 7 1 7 0 7 zeroed 768\n\
-         reason 6 depth 0 zeroed 0\n{plan}scratch 65535 * 262144\nvisits 2 7 1 7 0 7 65535 * 2042\n\
+         reason 6 depth 0 zeroed 0\n{plan}scratch 65535 * 524288\nvisits 2 7 1 7 0 7 65535 * 2042\n\
          reason 19 depth 0 zeroed 768\n{plan}{zeroed}visits 2 7 1 7 0 7 65535 * 2042\n\
          reason 0 depth 0 period 12 zeroed 768\n{plan}{zeroed}visits 2 7 1 7 0 7 65535 * 2042\n"
     );
@@ -160,6 +207,8 @@ pub fn cases() -> Vec<Case> {
     vec![
         routes(),
         reasons(),
+        crossings(),
+        crossing_words(),
         full(),
         words(),
         buffers(),

@@ -4,17 +4,14 @@ use Prim.Native.Nat.{ℕ, _+_, _*_, _≤_, _<_}
 use mathlib.Core.Path.{_≡_, refl}
 use mathlib.Core.Bool.{not, cond}
 use mathlib.Core.List.{List, _++_}
-use mathlib.Core.Logic.{_⊎_, inl, inr, _↔_}
+use mathlib.Core.Logic.{_⊎_, inl, inr}
 use native.Mathlib.Omega.{arith}
 use lib.Dec.{T, leb}
 use lib.ListN.{length, drop}
-use Rattle.plan.specs.Plan.{planOf}
 use Rattle.plan.proofs.Truth.{decided, is-true, is-false}
-use Rattle.rules.specs.Rules.{Rules}
 use Rattle.rules.specs.Legal.{Route, legal}
 use Rattle.rules.specs.Ranking.{steps, written, IsBest}
-use Rattle.rules.specs.Slack.{slacks, leastSlack, Smallest}
-use Rattle.rules.specs.Crossing.{crossingLatency}
+use Rattle.rules.specs.Slack.{slacks, Smallest}
 use Rattle.rules.proofs.Slack.{legal-smallest}
 use Rattle.budget.proofs.Clocks.{period-most}
 use Rattle.best.specs.Best.{Outcome, found, none, best}
@@ -27,16 +24,11 @@ use Rattle.problem.specs.Problem.{planFor}
 use Rattle.problem.specs.Net.{netRules}
 use Rattle.problem.proofs.Clocks.{net-bound}
 use Rattle.question.specs.Checked.{problemAsked}
-use Rattle.question.proofs.Crossing.{crossing-first-five}
-use Rattle.crossing_router.specs.Route.{CrossingQuestion, rulesCrossed, Check, checks, crossingChecks, passes, figuresOf, answerFor, answerAfter, crossingAnswerOf, visitsFor, visitsAfter, crossingVisitsOf}
-use Rattle.crossing_router.proofs.BestCrossing.{crossed-best, crossed-none}
-use Rattle.crossing_router.proofs.Refusals.{netAsked, net-ready, first-five}
+use Rattle.crossing_router.specs.Route.{CrossingQuestion, rulesCrossed, checks, passes, figuresOf, answerFor, answerAfter, crossingAnswerOf, visitsFor, visitsAfter, crossingVisitsOf}
+use Rattle.crossing_router.proofs.Refusals.{netAsked}
+use Rattle.crossing_router.proofs.Passed.{latencyAsked, passed-ready, asked-best, asked-none}
 
--- what a route of the question costs, and its figures
-
-abbrev pub latencyAsked : CrossingQuestion → Route → ℕ
-latencyAsked c = crossingLatency (c .crossing .period) (c .question .tables .period)
-
+-- a route's figures; the tables' period is the sink's
 abbrev pub figuresAsked : CrossingQuestion → Route → CrossingFigures
 figuresAsked c = figuresOf (rulesCrossed c) (c .crossing .period) (c .question .tables .period)
 
@@ -50,39 +42,26 @@ pub data Demand2Crossing (c : CrossingQuestion) (visits after : List ℕ) : Cros
   noRoute : ((r : Route) → T (legal (rulesCrossed c) r) → ⊥) → after ≡ visits → Demand2Crossing c visits after (CrossingAnswer.Refused Refusal.NoRoute)
 
 module _ (c : CrossingQuestion) (scratch visits : List ℕ) (pass : checks c (length scratch) ≡ passes) where
-  five : crossingChecks c passes ≡ passes
-  five = first-five c scratch visits pass
-
-  -- the executable best route of the question's rules is the best legal route, and there is none exactly where no route is legal
-
-  pub asked-best : (r : Route) → (best (rulesCrossed c) ≡ found r) ↔ IsBest (latencyAsked c) (rulesCrossed c) r
-  unfolding netRules planFor rulesCrossed elementsOf problemAsked clocksOf
-  asked-best = crossed-best (netAsked c) (c .question .marks) (net-ready c scratch visits five) refl
-
-  pub asked-none : (best (rulesCrossed c) ≡ none) ↔ ((r : Route) → T (legal (rulesCrossed c) r) → ⊥)
-  unfolding netRules planFor rulesCrossed elementsOf problemAsked clocksOf
-  asked-none = crossed-none (netAsked c) (c .question .marks) (net-ready c scratch visits five) refl
-
   low : (k f : ℕ) → rulesCrossed c .bound k f ≤ 60001
   unfolding netRules planFor rulesCrossed elementsOf problemAsked clocksOf
   low k f =
-      let ready = net-ready c scratch visits five in
+      let ready = passed-ready c (length scratch) pass in
       let net = netAsked c in
       omega (arith, net-bound net (c .question .marks) k f, period-most (planFor (net .problem) (c .question .marks)) (net .problem .elements) (net .clocks) (net .problem .source) (net .problem .sink) (ready .ready .valid) (ready .clocks) f)
 
   smallest : (r : Route) → best (rulesCrossed c) ≡ found r → Smallest (figuresAsked c r .slack) (slacks (rulesCrossed c) r)
   unfolding figuresOf
-  smallest r e = legal-smallest (rulesCrossed c) low r (asked-best r .0 e .isLegal)
+  smallest r e = legal-smallest (rulesCrossed c) low r (asked-best c (length scratch) pass r .0 e .isLegal)
 
   -- the outcome decides the answer and the visits
   by-outcome : (o : Outcome) → best (rulesCrossed c) ≡ o → Demand2Crossing c visits (visitsFor o visits) (answerFor (rulesCrossed c) (c .crossing .period) (c .question .tables .period) (length visits) o)
   unfolding answerFor visitsFor
-  by-outcome none e = Demand2Crossing.noRoute (asked-none .0 e) refl
+  by-outcome none e = Demand2Crossing.noRoute (asked-none c (length scratch) pass .0 e) refl
   by-outcome (found r) e = go (decided (leb (2 * (steps r + 1)) (length visits)))
     where
       go : T (leb (2 * (steps r + 1)) (length visits)) ⊎ T (not (leb (2 * (steps r + 1)) (length visits))) → Demand2Crossing c visits (cond (leb (2 * (steps r + 1)) (length visits)) (written r ++ drop (length (written r)) visits) visits) (cond (leb (2 * (steps r + 1)) (length visits)) (CrossingAnswer.Found (figuresAsked c r)) (CrossingAnswer.NoRoom (figuresAsked c r)))
-      go (inl h) = rw (is-true (leb (2 * (steps r + 1)) (length visits)) h) (Demand2Crossing.isFound r (asked-best r .0 e) (smallest r e) (lib.Dec.leb→le _ _ h) refl)
-      go (inr h) = rw (is-false (leb (2 * (steps r + 1)) (length visits)) h) (Demand2Crossing.noRoom r (asked-best r .0 e) (smallest r e) (lib.Dec.nleb→lt _ _ h) refl)
+      go (inl h) = rw (is-true (leb (2 * (steps r + 1)) (length visits)) h) (Demand2Crossing.isFound r (asked-best c (length scratch) pass r .0 e) (smallest r e) (lib.Dec.leb→le _ _ h) refl)
+      go (inr h) = rw (is-false (leb (2 * (steps r + 1)) (length visits)) h) (Demand2Crossing.noRoom r (asked-best c (length scratch) pass r .0 e) (smallest r e) (lib.Dec.nleb→lt _ _ h) refl)
 
   -- Demand 2, for every net between two clocks that the checks pass.
   pub demand-2-crossing : Demand2Crossing c visits (crossingVisitsOf c scratch visits) (crossingAnswerOf c scratch visits)
@@ -92,4 +71,4 @@ module _ (c : CrossingQuestion) (scratch visits : List ℕ) (pass : checks c (le
   -- 7 if no legal route exists
   pub demand-2-crossing-none : ((r : Route) → T (legal (rulesCrossed c) r) → ⊥) → crossingAnswerOf c scratch visits ≡ CrossingAnswer.Refused Refusal.NoRoute
   unfolding crossingAnswerOf answerAfter answerFor
-  demand-2-crossing-none f = rw (pass, answerAfter, asked-none .1 f)
+  demand-2-crossing-none f = rw (pass, answerAfter, asked-none c (length scratch) pass .1 f)

@@ -1,5 +1,5 @@
 // The planner's calls for outsiders. Nothing is required of what they lend; every answer is stated for every input.
-// The calls on route lists, `judge`, `compare` and `better`, are in route_lists.rt; `explain` is in explaining.rt.
+// The calls on route lists, `judge`, `compare` and `better`, are in route_lists.rt; `explain` is in explaining.rt, `route_crossing` in two_clocks.rt.
 ghost use Rattle.answers.specs.Lists.{listOf};
 ghost use Rattle.router.specs.Route.{questionOf, Routed};
 ghost use Rattle.session.specs.Steps.{stateOf, Opened, Moved, Undone};
@@ -12,10 +12,14 @@ use session::undo_at;
 mod buffers;
 mod explaining;
 mod route_lists;
+mod two_clocks;
 
 pub use answers::Answer;
 pub use answers::BufferRecord;
 pub use answers::Comparison;
+pub use answers::Crossing;
+pub use answers::CrossingAnswer;
+pub use answers::CrossingFigures;
 pub use answers::Explained;
 pub use answers::Fault;
 pub use answers::Figures;
@@ -33,6 +37,7 @@ pub use route_lists::judge;
 pub use session::Session;
 pub use session::SessionAnswer;
 pub use session::SessionStep;
+pub use two_clocks::route_crossing;
 
 // The best route from source to sink: its figures in the answer, its visits in `visits`.
 // `Routed` says the answer and what is left in the lent words, refusals included.

@@ -1,9 +1,11 @@
-// The commands that only lend: plan, journal, scratch, tables and buffers, and what is put into the session.
+// The commands that only lend: plan, journal, scratch, tables, clocks and buffers, and what is put into the session.
+use crate::fresh::SCRATCH_WORDS;
 use crate::state::Player;
 use crate::state::Turn;
 use crate::state::next;
 use answers::BufferList;
 use answers::BufferRecord;
+use answers::Crossing;
 use answers::RegisterRecord;
 use answers::Tables;
 use answers::WireRecord;
@@ -43,7 +45,7 @@ pub fn set_journal(src: &[u8], c: Cursor, p: Player) -> Turn {
 
 // scratch N
 pub fn set_scratch(src: &[u8], c: Cursor, p: Player) -> Turn {
-    let n = read_large(src, c, 262144);
+    let n = read_large(src, c, SCRATCH_WORDS as u32);
     let mut q = p;
     q.scratch = n.value as usize;
     next(n.cursor, q)
@@ -73,25 +75,42 @@ pub fn set_byte(src: &[u8], c: Cursor, p: Player, journal: &mut [u8]) -> Turn {
     next(value.cursor, p)
 }
 
-// tables R K C S R C R C T L
-pub fn set_tables(src: &[u8], c: Cursor, p: Player) -> Turn {
+// The numbers of a register or a FIFO, and where to read on.
+pub struct RegisterRead {
+    pub register: RegisterRecord,
+    pub cursor: Cursor,
+}
+
+// R K C S
+fn read_register(src: &[u8], c: Cursor) -> RegisterRead {
     let r = read_number(src, c, MAX);
     let k = read_number(src, r.cursor, MAX);
     let l = read_number(src, k.cursor, MAX);
     let s = read_number(src, l.cursor, MAX);
-    let hr = read_number(src, s.cursor, MAX);
-    let hl = read_number(src, hr.cursor, MAX);
-    let vr = read_number(src, hl.cursor, MAX);
-    let vl = read_number(src, vr.cursor, MAX);
-    let period = read_number(src, vl.cursor, MAX);
-    let limit = read_number(src, period.cursor, MAX);
-    let tables = Tables {
+    let cursor = s.cursor;
+    RegisterRead {
         register: RegisterRecord {
             resistance: r.value,
             delay: k.value,
             load: l.value,
             setup: s.value,
         },
+        cursor: cursor,
+    }
+}
+
+// tables R K C S R C R C T L
+pub fn set_tables(src: &[u8], c: Cursor, p: Player) -> Turn {
+    let read = read_register(src, c);
+    let register = read.register;
+    let hr = read_number(src, read.cursor, MAX);
+    let hl = read_number(src, hr.cursor, MAX);
+    let vr = read_number(src, hl.cursor, MAX);
+    let vl = read_number(src, vr.cursor, MAX);
+    let period = read_number(src, vl.cursor, MAX);
+    let limit = read_number(src, period.cursor, MAX);
+    let tables = Tables {
+        register: register,
         horizontal: WireRecord {
             resistance: hr.value,
             load: hl.value,
@@ -106,6 +125,20 @@ pub fn set_tables(src: &[u8], c: Cursor, p: Player) -> Turn {
     let mut q = p;
     q.tables = tables;
     next(limit.cursor, q)
+}
+
+// clocks TS R K C S
+pub fn set_clocks(src: &[u8], c: Cursor, p: Player) -> Turn {
+    let period = read_number(src, c, MAX);
+    let read = read_register(src, period.cursor);
+    let fifo = read.register;
+    let crossing = Crossing {
+        period: period.value,
+        fifo: fifo,
+    };
+    let mut q = p;
+    q.crossing = crossing;
+    next(read.cursor, q)
 }
 
 // buffers N R K C ..: the call is told how many there are, and the first six.

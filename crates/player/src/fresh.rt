@@ -1,4 +1,10 @@
-// What the words that are lent hold before a call.
+// The words that are lent, and what they hold before a call.
+
+// The scratch words: 512 a cell of the largest plan.
+pub const SCRATCH_WORDS: usize = 524288;
+
+// The visit words.
+pub const VISIT_WORDS: usize = 2048;
 
 // No cell, no code.
 pub const UNUSED: u16 = 65535;

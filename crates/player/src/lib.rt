@@ -5,7 +5,9 @@ mod net;
 mod state;
 mod words;
 
+pub use fresh::SCRATCH_WORDS;
 pub use fresh::UNUSED;
+pub use fresh::VISIT_WORDS;
 pub use fresh::refill;
 pub use net::Net;
 pub use net::read_net;

@@ -1,6 +1,8 @@
 // What a player holds beside the lent bytes and words.
+use crate::fresh::SCRATCH_WORDS;
 use answers::BufferList;
 use answers::BufferRecord;
+use answers::Crossing;
 use answers::RegisterRecord;
 use answers::Tables;
 use answers::WireRecord;
@@ -13,13 +15,14 @@ pub const UNKNOWN: u8 = 3;
 // A line of output was not written: why a play ends, beside what is wrong with a script.
 pub const UNWRITTEN: u8 = 4;
 
-// The record, the lengths of plan, journal and scratch, and the tables of the next call.
+// The record, the lengths of plan, journal and scratch, and the tables of the next call, of one clock or two.
 pub struct Player {
     pub session: Session,
     pub plan: usize,
     pub journal: usize,
     pub scratch: usize,
     pub tables: Tables,
+    pub crossing: Crossing,
     pub list: BufferList,
 }
 
@@ -39,6 +42,12 @@ pub fn new_player() -> Player {
         delay: 0,
         load: 0,
     };
+    let register = RegisterRecord {
+        resistance: 0,
+        delay: 0,
+        load: 0,
+        setup: 0,
+    };
     Player {
         session: Session {
             width: 0,
@@ -47,18 +56,17 @@ pub fn new_player() -> Player {
         },
         plan: 0,
         journal: 1024,
-        scratch: 262144,
+        scratch: SCRATCH_WORDS,
         tables: Tables {
-            register: RegisterRecord {
-                resistance: 0,
-                delay: 0,
-                load: 0,
-                setup: 0,
-            },
+            register: register,
             horizontal: wire,
             vertical: wire,
             period: 0,
             limit: 0,
+        },
+        crossing: Crossing {
+            period: 0,
+            fifo: register,
         },
         list: BufferList {
             n: 0,

@@ -1,6 +1,7 @@
 // Which lending command a word names.
 use crate::commands::set_buffers;
 use crate::commands::set_byte;
+use crate::commands::set_clocks;
 use crate::commands::set_depth;
 use crate::commands::set_journal;
 use crate::commands::set_plan;
@@ -28,6 +29,9 @@ pub fn lend(
     }
     if is_word(src, start, end, b"tables") {
         return set_tables(src, c, p);
+    }
+    if is_word(src, start, end, b"clocks") {
+        return set_clocks(src, c, p);
     }
     if is_word(src, start, end, b"buffers") {
         return set_buffers(src, c, p);

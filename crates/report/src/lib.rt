@@ -13,6 +13,7 @@ pub use crossing::crossed;
 pub use crossing::write_crossing_fault;
 pub use crossing::write_crossing_figures;
 pub use words::smaller;
+pub use words::write_left;
 pub use words::write_runs;
 pub use words::write_words;
 pub use words::write_zeroed;

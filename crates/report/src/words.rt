@@ -58,6 +58,11 @@ pub fn write_zeroed(scratch: &[u16]) -> bool {
     write_text(b" zeroed") && write_number(zeros(scratch) as u64) && write_text(b"\n")
 }
 
+// The same after the visit words before `end`, which the call filled.
+pub fn write_left(visits: &[u16], end: usize, scratch: &[u16]) -> bool {
+    write_text(b" visits") && write_words(visits, end) && write_zeroed(scratch)
+}
+
 // A run: its word, and after a star how many there are if there is more than one.
 fn write_run(word: u16, times: usize) -> bool {
     if !write_number(word as u64) {

@@ -4,6 +4,7 @@ use crate::lines::write_line;
 use crate::lines::write_route;
 use player::Player;
 use player::Turn;
+use player::VISIT_WORDS;
 use player::ended;
 use player::next;
 use player::read_net;
@@ -95,7 +96,7 @@ pub fn route(
     visits: &mut [u16],
 ) -> Turn {
     let net = read_net(src, c);
-    let v = read_number(src, net.cursor, 2048);
+    let v = read_number(src, net.cursor, VISIT_WORDS as u16);
     let cursor = v.cursor;
     if cursor.bad != 0 {
         return next(cursor, p);

@@ -5,9 +5,8 @@ use report::smaller;
 use report::write_call;
 use report::write_fault;
 use report::write_figures;
+use report::write_left;
 use report::write_runs;
-use report::write_words;
-use report::write_zeroed;
 use script::NO_NUMBER;
 use script::TOO_LARGE;
 use streams::write_number;
@@ -40,9 +39,7 @@ pub fn write_route(answer: Answer, depth: u16, scratch: &[u16], visits: &[u16]) 
         && write_fault(answer)
         && write_text(b" figures")
         && write_figures(answer)
-        && write_text(b" visits")
-        && write_words(visits, filled(answer))
-        && write_zeroed(scratch)
+        && write_left(visits, filled(answer), scratch)
 }
 
 fn write_reason(bad: u8) -> bool {

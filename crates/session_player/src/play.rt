@@ -5,6 +5,7 @@ use crate::calls::set_marks;
 use crate::calls::show;
 use crate::calls::undo;
 use crate::lines::write_bad;
+use crossing_call::crossing;
 use explain_call::reason;
 use list_calls::better;
 use list_calls::judge;
@@ -78,6 +79,9 @@ fn one_command(
     let c = Cursor { at: end, bad: 0 };
     if is_word(src, start, end, b"route") {
         return route(src, c, p, plan, scratch, visits);
+    }
+    if is_word(src, start, end, b"crossing") {
+        return crossing(src, c, p, plan, scratch, visits);
     }
     if is_word(src, start, end, b"reason") {
         return reason(src, c, p, plan, scratch);

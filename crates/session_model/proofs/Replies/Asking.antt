@@ -12,8 +12,7 @@ use Rattle.plan.specs.Check.{gridFault, lengthFault, checkedPlan}
 use Rattle.answers.specs.declared.answer.Refusal.{Refusal}
 use Rattle.question.specs.Question.{Question, cellsAsked, Check, passes, fails, afterPlan, orElse, questionChecks}
 use Rattle.question.proofs.Checks.{passed}
-use Rattle.layout.specs.Layout.{cellWords}
-use Rattle.router.specs.Route.{zeroed, scratchAfter}
+use Rattle.router.specs.Route.{zeroed}
 use Rattle.session_model.specs.Asks.Asking.{Asking, asked, listChecks, zeroedWords, zeros}
 
 -- sides that are no sides of the plan's bytes: refused with 2, whatever the checks after it
@@ -31,6 +30,6 @@ lists-good q bad e = go bad (passed q _ e .after)
     go true h = absurd (let z : _≡_ {A = ℕ} 0 1 = cc in omega arith)
 
 -- after the checks, the words taken as zeroed are all zero, whatever the scratch words held
-pub zeros-taken : (q : Question) (scratch : List ℕ) → take (zeroedWords passes q) (scratchAfter passes q scratch) ≡ zeros q
-unfolding zeroedWords scratchAfter zeroed zeros
-zeros-taken q scratch = take-at (replicate (cellsAsked q * cellWords) 0) _ (zeroedWords passes q) (length-replicate {A = ℕ} (cellsAsked q * cellWords) 0)
+pub zeros-taken : (words : ℕ) (q : Question) (scratch : List ℕ) → take (zeroedWords words passes q) (zeroed (cellsAsked q * words) scratch) ≡ zeros words q
+unfolding zeroedWords zeroed zeros
+zeros-taken words q scratch = take-at (replicate (cellsAsked q * words) 0) _ (zeroedWords words passes q) (length-replicate {A = ℕ} (cellsAsked q * words) 0)

@@ -5,7 +5,7 @@ use mathlib.Core.Path.{_≡_, refl}
 use lib.ListN.{length}
 use Rattle.question.specs.Question.{Question, Check, passes, fails}
 use Rattle.answers.specs.declared.answer.Refusal.{Refusal}
-use Rattle.router.specs.Route.{checks, scratchAfter, scratchOf}
+use Rattle.router.specs.Route.{cellWords, checks, scratchAfter, scratchOf}
 use Rattle.reasons.specs.Reasons.{explainedAfter, explainedOf}
 use Rattle.reasons.proofs.Explained.{explained-true, explained-only}
 use Rattle.session_model.specs.Asks.Asking.{asked, zeroedWords, zeros}
@@ -24,10 +24,10 @@ module _ (q : Question) (scratch : List ℕ) where
   refused-answered r e = rw e (notExplained r e)
 
   passed-answered : checks q (length scratch) ≡ passes → ExplainAnswered q (length scratch) (explainGives q scratch)
-  unfolding explainGives scratchOf
+  unfolding explainGives scratchOf scratchAfter
   passed-answered pass =
-      let x : ExplainAnswered q (length scratch) (record { answer = explainedOf q (length scratch); zeroed = zeros q }) = isExplained pass (explained-true q (length scratch) pass) in
-      rw (pass, zeros-taken q scratch) x
+      let x : ExplainAnswered q (length scratch) (record { answer = explainedOf q (length scratch); zeroed = zeros cellWords q }) = isExplained pass (explained-true q (length scratch) pass) in
+      rw (pass, zeros-taken cellWords q scratch) x
 
   -- What the call hands back and zeroes is that reply.
   pub explain-answered : ExplainAnswered q (length scratch) (explainGives q scratch)

@@ -15,7 +15,7 @@ use Rattle.answers.specs.declared.answer.Answer.{Answer}
 use Rattle.answers.specs.declared.answer.Refusal.{Refusal}
 use Rattle.emission.proofs.Visits.{written-length}
 use Rattle.verdict.proofs.Accepted.{legal-visits}
-use Rattle.router.specs.Route.{Question, rulesAsked, Check, passes, fails, checks, figuresOf, answerAfter, answerUnder, answerOf, visitsAfter, visitsUnder, visitsOf, scratchAfter, scratchOf}
+use Rattle.router.specs.Route.{cellWords, Question, rulesAsked, Check, passes, fails, checks, figuresOf, answerAfter, answerUnder, answerOf, visitsAfter, visitsUnder, visitsOf, scratchAfter, scratchOf}
 use Rattle.router.proofs.Passed.{asked-best, asked-none}
 use Rattle.router.proofs.Demand2.{Demand2, demand-2}
 use Rattle.session_model.specs.Asks.Asking.{asked, zeroedWords, zeros}
@@ -43,7 +43,7 @@ module _ (q : Question) (scratch visits : List ℕ) where
   refused-answered r e = rw e (isRefused r e)
 
   module _ (pass : checks q (length scratch) ≡ passes) where
-    by-demand : {after : List ℕ} {a : Answer} → Demand2 q visits after a → RouteAnswered q (length scratch) (length visits) (record { answer = a; filled = take (filledWords a) after; zeroed = zeros q })
+    by-demand : {after : List ℕ} {a : Answer} → Demand2 q visits after a → RouteAnswered q (length scratch) (length visits) (record { answer = a; filled = take (filledWords a) after; zeroed = zeros cellWords q })
     unfolding figuresOf
     by-demand (Demand2.isFound r b z fits e) =
         rw (e, take-at (written r) _ _ (written-words (rulesAsked q) r (b .isLegal))) (isFound r pass b fits)
@@ -51,8 +51,8 @@ module _ (q : Question) (scratch visits : List ℕ) where
     by-demand (Demand2.noRoute n e) = noRoute pass n
 
     passed-answered : RouteAnswered q (length scratch) (length visits) (routeGives q scratch visits)
-    unfolding routeGives scratchOf
-    passed-answered = rw (pass, zeros-taken q scratch) (by-demand (demand-2 q scratch visits pass))
+    unfolding routeGives scratchOf scratchAfter
+    passed-answered = rw (pass, zeros-taken cellWords q scratch) (by-demand (demand-2 q scratch visits pass))
 
   pub route-answered : RouteAnswered q (length scratch) (length visits) (routeGives q scratch visits)
   route-answered = go (checks q (length scratch)) refl

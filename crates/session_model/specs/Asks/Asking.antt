@@ -8,7 +8,6 @@ use Rattle.answers.specs.declared.records.Tables.{Tables}
 use Rattle.answers.specs.declared.records.BufferRecord.{BufferRecord}
 use Rattle.answers.specs.declared.answer.Refusal.{Refusal}
 use Rattle.question.specs.Question.{Question, questionOf, cellsAsked, Check, passes, fails, orElse, questionChecks}
-use Rattle.layout.specs.Layout.{cellWords}
 
 -- the sides are the caller's words too, for the calls have no record
 pub record Asking : Type 0 where
@@ -27,10 +26,10 @@ asked a marks = questionOf marks (a .width) (a .height) (a .tables) (listOf (a .
 unfoldable pub listChecks : Question → Bool → Check
 listChecks q bad = questionChecks q (orElse bad Refusal.RouteList passes)
 
--- scratch words that a route call or a reason zeroes: once the checks have passed, whatever the answer
-unfoldable pub zeroedWords : Check → Question → ℕ
-zeroedWords passes q = cellsAsked q * cellWords
-zeroedWords (fails r) q = 0
+-- scratch words that a call zeroes, so many a cell: once the checks have passed, whatever the answer
+unfoldable pub zeroedWords : ℕ → Check → Question → ℕ
+zeroedWords words passes q = cellsAsked q * words
+zeroedWords words (fails r) q = 0
 
-unfoldable pub zeros : Question → List ℕ
-zeros q = replicate (cellsAsked q * cellWords) 0
+unfoldable pub zeros : ℕ → Question → List ℕ
+zeros words q = replicate (cellsAsked q * words) 0

@@ -6,7 +6,7 @@ use lib.ListN.{length, take}
 use Rattle.answers.specs.declared.answer.Refusal.{Refusal}
 use Rattle.answers.specs.declared.explained.Explained.{Explained}
 use Rattle.question.specs.Question.{Question, Check, passes, fails}
-use Rattle.router.specs.Route.{checks, scratchOf}
+use Rattle.router.specs.Route.{cellWords, checks, scratchOf}
 use Rattle.reasons.specs.Explains.{Explains}
 use Rattle.reasons.specs.Reasons.{explainedAfter, explainedOf}
 use Rattle.session_model.specs.Asks.Asking.{Asking, zeroedWords, zeros}
@@ -31,12 +31,12 @@ unfoldable pub explainGives : Question → List ℕ → ExplainReply
 explainGives q scratch =
     record {
       answer = explainedOf q (length scratch);
-      zeroed = take (zeroedWords (checks q (length scratch)) q) (scratchOf q scratch);
+      zeroed = take (zeroedWords cellWords (checks q (length scratch)) q) (scratchOf q scratch);
     }
 
 -- what the model gives: from the length of what is lent alone
 unfoldable pub explainAfter : Check → Question → ExplainReply
-explainAfter passes q = record { answer = explainedAfter passes q; zeroed = zeros q }
+explainAfter passes q = record { answer = explainedAfter passes q; zeroed = zeros cellWords q }
 explainAfter (fails r) q = record { answer = Explained.Refused r; zeroed = [] }
 
 unfoldable pub explainReply : Question → ℕ → ExplainReply
@@ -47,4 +47,4 @@ pub data ExplainAnswered (q : Question) (scratch : ℕ) : ExplainReply → Type 
   -- 1 to 6, the first in its order: nothing is zeroed
   notExplained : (r : Refusal) → checks q scratch ≡ fails r → ExplainAnswered q scratch (record { answer = Explained.Refused r; zeroed = [] })
   -- 19, or the reason; the scratch words are zeroed
-  isExplained : {x : Explained} → checks q scratch ≡ passes → Explains q x → ExplainAnswered q scratch (record { answer = x; zeroed = zeros q })
+  isExplained : {x : Explained} → checks q scratch ≡ passes → Explains q x → ExplainAnswered q scratch (record { answer = x; zeroed = zeros cellWords q })

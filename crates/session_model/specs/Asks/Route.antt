@@ -11,7 +11,7 @@ use Rattle.best.specs.Best.{Outcome, found, none, best}
 use Rattle.answers.specs.Numbers.{filledWords}
 use Rattle.answers.specs.declared.answer.Answer.{Answer}
 use Rattle.answers.specs.declared.answer.Refusal.{Refusal}
-use Rattle.router.specs.Route.{Question, rulesAsked, Check, passes, fails, checks, figuresOf, answerOf, scratchOf, visitsOf}
+use Rattle.router.specs.Route.{cellWords, Question, rulesAsked, Check, passes, fails, checks, figuresOf, answerOf, scratchOf, visitsOf}
 use Rattle.session_model.specs.Asks.Asking.{Asking, zeroedWords, zeros}
 
 -- the call is lent scratch words and visits, too
@@ -39,7 +39,7 @@ routeGives q scratch visits =
     record {
       answer = answerOf q scratch visits;
       filled = take (filledWords (answerOf q scratch visits)) (visitsOf q scratch visits);
-      zeroed = take (zeroedWords (checks q (length scratch)) q) (scratchOf q scratch);
+      zeroed = take (zeroedWords cellWords (checks q (length scratch)) q) (scratchOf q scratch);
     }
 
 -- What the model gives: from the lengths of what is lent alone, by the executable definition of the best route. `scratch` and `room`: the words lent for scratch and visits.
@@ -47,9 +47,9 @@ routeGives q scratch visits =
 unfoldable pub bestReply : Question → ℕ → Outcome → RouteReply
 bestReply q room (found r) =
     cond (leb (2 * (steps r + 1)) room)
-    (record { answer = Answer.Found (figuresOf (rulesAsked q) (q .tables .period) r); filled = written r; zeroed = zeros q })
-    (record { answer = Answer.NoRoom (figuresOf (rulesAsked q) (q .tables .period) r); filled = []; zeroed = zeros q })
-bestReply q room none = record { answer = Answer.Refused Refusal.NoRoute; filled = []; zeroed = zeros q }
+    (record { answer = Answer.Found (figuresOf (rulesAsked q) (q .tables .period) r); filled = written r; zeroed = zeros cellWords q })
+    (record { answer = Answer.NoRoom (figuresOf (rulesAsked q) (q .tables .period) r); filled = []; zeroed = zeros cellWords q })
+bestReply q room none = record { answer = Answer.Refused Refusal.NoRoute; filled = []; zeroed = zeros cellWords q }
 
 unfoldable pub checkedReply : Check → Question → ℕ → RouteReply
 checkedReply passes q room = bestReply q room (best (rulesAsked q))
@@ -63,8 +63,8 @@ pub data RouteAnswered (q : Question) (scratch room : ℕ) : RouteReply → Type
   -- 1 to 6, the first in its order: nothing is filled, nothing zeroed
   isRefused : (r : Refusal) → checks q scratch ≡ fails r → RouteAnswered q scratch room (record { answer = Answer.Refused r; filled = []; zeroed = [] })
   -- 7: no legal route exists; the scratch words are zeroed
-  noRoute : checks q scratch ≡ passes → ((r : Route) → T (legal (rulesAsked q) r) → ⊥) → RouteAnswered q scratch room (record { answer = Answer.Refused Refusal.NoRoute; filled = []; zeroed = zeros q })
+  noRoute : checks q scratch ≡ passes → ((r : Route) → T (legal (rulesAsked q) r) → ⊥) → RouteAnswered q scratch room (record { answer = Answer.Refused Refusal.NoRoute; filled = []; zeroed = zeros cellWords q })
   -- 8: the best legal route's figures, counted off it, its smallest spare figure among them; its visits need more words than lent, and none is filled
-  noRoom : (r : Route) → checks q scratch ≡ passes → IsBest registers (rulesAsked q) r → room < 2 * (steps r + 1) → RouteAnswered q scratch room (record { answer = Answer.NoRoom (figuresOf (rulesAsked q) (q .tables .period) r); filled = []; zeroed = zeros q })
+  noRoom : (r : Route) → checks q scratch ≡ passes → IsBest registers (rulesAsked q) r → room < 2 * (steps r + 1) → RouteAnswered q scratch room (record { answer = Answer.NoRoom (figuresOf (rulesAsked q) (q .tables .period) r); filled = []; zeroed = zeros cellWords q })
   -- 0: the best legal route, its figures counted off it and its visits filled in
-  isFound : (r : Route) → checks q scratch ≡ passes → IsBest registers (rulesAsked q) r → 2 * (steps r + 1) ≤ room → RouteAnswered q scratch room (record { answer = Answer.Found (figuresOf (rulesAsked q) (q .tables .period) r); filled = written r; zeroed = zeros q })
+  isFound : (r : Route) → checks q scratch ≡ passes → IsBest registers (rulesAsked q) r → 2 * (steps r + 1) ≤ room → RouteAnswered q scratch room (record { answer = Answer.Found (figuresOf (rulesAsked q) (q .tables .period) r); filled = written r; zeroed = zeros cellWords q })
