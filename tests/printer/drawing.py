@@ -29,4 +29,9 @@ taps = of("path", "fill", "#2e7d32")
 blocked = [e for e in cells if e.get("fill") == "url(#blocked)"]
 cuts = of("line", "class", "cut")
 # one tap and one cut stand in the legend
-print(f"{len(order)} visits, {len(points)} points, {len(taps) - 1} taps, {len(blocked)} blocked, {len(cuts) - 1} cuts")
+counts = f"{len(order)} visits, {len(points)} points, {len(taps) - 1} taps, {len(blocked)} blocked, {len(cuts) - 1} cuts"
+# with two clocks a FIFO, too: its top corner is 12 above its point
+fifos = [e.get("d").split(" l ")[0][2:].split() for e in of("path", "class", "fifo")]
+shown = [f"{x} {float(y) + 12:.1f}" for x, y in fifos[:-1]]
+assert all(p in points for p in shown), shown
+print(counts + (f", {len(shown)} FIFOs" if fifos else ""))

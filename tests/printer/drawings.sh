@@ -5,13 +5,13 @@ picture() { # STATUS NAME TEXT: the program's own lines, an empty one, the store
     told "the picture $2" "$1" "$(cat "$work/whole")" "" tools/route --picture "$3"
     same_file "the picture $2" "$work/whole" "$work/out"
 }
-picture 0 crossing examples/crossing.txt
+picture 0 detour examples/detour.txt
 picture 0 twice examples/twice.txt
 picture 0 fits $here/fits.txt
 picture 0 wide $here/wide.txt
 edited 's/^period .*/period 20/'
 picture 1 none "$work/bad.txt"
-same "the widest line of the picture of 16 by 8" 101 "$(wc -L <$here/crossing.picture)"
+same "the widest line of the picture of 16 by 8" 101 "$(wc -L <$here/detour.picture)"
 
 # A drawing is XML, shows each visit in its order, and lies where the cells lie.
 drawing() { # STATUS NAME TEXT VISITS
@@ -22,8 +22,8 @@ drawing() { # STATUS NAME TEXT VISITS
 title() { # WORDS, of the last drawing
     same "the title of a drawing" "$1" "$(sed -n 's|^<title>\(.*\)</title>$|\1|p' "$work/drawing.svg")"
 }
-drawing 0 crossing examples/crossing.txt "22 visits, 22 points, 8 taps, 49 blocked, 20 cuts"
-title "examples/crossing.txt: registers 2, steps 21, latency 375 ticks, spare 0 half-ticks"
+drawing 0 detour examples/detour.txt "22 visits, 22 points, 8 taps, 49 blocked, 20 cuts"
+title "examples/detour.txt: registers 2, steps 21, latency 375 ticks, spare 0 half-ticks"
 drawing 0 wide $here/wide.txt "38 visits, 38 points, 9 taps, 16 blocked, 4 cuts"
 title "$here/wide.txt: registers 4, steps 37, latency 300 ticks, spare 1 half-tick"
 drawing 0 twice examples/twice.txt "5 visits, 5 points, 1 taps, 1 blocked, 0 cuts"

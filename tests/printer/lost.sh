@@ -2,20 +2,20 @@
 
 full="No space left on device"
 onto_full() { "$@" >/dev/full; }
-told "job write on a full disk" 4 "" "standard output: $full (os error 28)" onto_full $job write examples/crossing.txt
-told "job read on a full disk" 4 "" "standard output: $full (os error 28)" onto_full $job read examples/crossing.job
+told "job write on a full disk" 4 "" "standard output: $full (os error 28)" onto_full $job write examples/detour.txt
+told "job read on a full disk" 4 "" "standard output: $full (os error 28)" onto_full $job read examples/detour.job
 told "job --help on a full disk" 4 "" "standard output: $full (os error 28)" onto_full $job --help
 told "job --version on a full disk" 4 "" "standard output: $full (os error 28)" onto_full $job --version
-told "tools/route on a full disk" 4 "" "standard output: $full (os error 28)" onto_full tools/route examples/crossing.txt
-told "a picture on a full disk" 4 "" "standard output: $full (os error 28)" onto_full tools/route --picture examples/crossing.txt
+told "tools/route on a full disk" 4 "" "standard output: $full (os error 28)" onto_full tools/route examples/detour.txt
+told "a picture on a full disk" 4 "" "standard output: $full (os error 28)" onto_full tools/route --picture examples/detour.txt
 told "none on a full disk" 4 "" "standard output: $full (os error 28)" onto_full tools/route examples/slow.txt
 told "a drawing of none on a full disk" 4 "$(tools/route examples/slow.txt)" "/dev/full: $full (os error 28)" \
     tools/route --svg /dev/full examples/slow.txt
 edited 's/^limit .*/limit 64/'
 told "a refusal on a full disk" 4 "" "standard output: $full (os error 28)" onto_full tools/route "$work/bad.txt"
-told "a drawing on a full disk" 4 "$(tools/route examples/crossing.txt)" "/dev/full: $full (os error 28)" tools/route --svg /dev/full examples/crossing.txt
-told "a drawing into no folder" 4 "$(tools/route examples/crossing.txt)" "missing/a.svg: No such file or directory (os error 2)" \
-    tools/route --svg "$work/missing/a.svg" examples/crossing.txt
+told "a drawing on a full disk" 4 "$(tools/route examples/detour.txt)" "/dev/full: $full (os error 28)" tools/route --svg /dev/full examples/detour.txt
+told "a drawing into no folder" 4 "$(tools/route examples/detour.txt)" "missing/a.svg: No such file or directory (os error 2)" \
+    tools/route --svg "$work/missing/a.svg" examples/detour.txt
 onto_full tools/route --help 2>"$work/err"
 same "status of tools/route --help on a full disk" 4 $?
 grep -q "$full" "$work/err" || fail "tools/route --help on a full disk says nothing"
@@ -23,10 +23,10 @@ onto_full tools/route --version 2>"$work/err"
 same "status of tools/route --version on a full disk" 4 $?
 grep -q "$full" "$work/err" || fail "tools/route --version on a full disk says nothing"
 # a Rattle program's status is 0; its line on standard error tells
-printer_full() { $printer <examples/crossing.job >/dev/full; }
+printer_full() { $printer <examples/detour.job >/dev/full; }
 told "the program on a full disk" 0 "" "route_printer: standard output: $full" printer_full
 
-closed() { tools/route examples/crossing.txt >&-; }
+closed() { tools/route examples/detour.txt >&-; }
 told "tools/route with its output closed" 4 "" "tools/route: standard output is closed" closed
 
 # A reader that goes away: no word, status 0 or 4, never a panic.
@@ -40,13 +40,13 @@ closed_pipe() { # COMMAND..
     done
 }
 closed_pipe $job --help
-closed_pipe $job write examples/crossing.txt
-closed_pipe $job read examples/crossing.job
+closed_pipe $job write examples/detour.txt
+closed_pipe $job read examples/detour.job
 closed_pipe tools/route --help
-closed_pipe tools/route --picture examples/crossing.txt
+closed_pipe tools/route --picture examples/detour.txt
 # the pipe has no reader at all when the tool starts
 late() { (sleep 0.2; exec "$@") | true; return "${PIPESTATUS[0]}"; }
 told "job --help without a reader" 4 "" "" late $job --help
-told "tools/route without a reader" 4 "" "" late tools/route examples/crossing.txt
+told "tools/route without a reader" 4 "" "" late tools/route examples/detour.txt
 told "none without a reader" 4 "" "" late tools/route examples/slow.txt
 told "tools/route --help without a reader" 4 "" "" late tools/route --help

@@ -4,7 +4,7 @@ message() { # MESSAGE SED
     edited "$2"
     told "the example with '$2'" 2 "" "bad.txt:$1" $job write "$work/bad.txt"
 }
-last=$(wc -l <examples/crossing.txt)
+last=$(wc -l <examples/detour.txt)
 message "$(line '^period'): '12x' is not a whole number" 's/^period .*/period 12x/'
 message "$(line '^period'): '-5' is not a whole number" 's/^period .*/period -5/'
 message "$(line '^period'): 65536 is above 65535, the largest number taken" 's/^period .*/period 65536/'
@@ -13,7 +13,7 @@ message "$(line '^period'): one number is expected here, not 0" 's/^period .*/pe
 message "$(line '^period'): one number is expected here, not 2" 's/^period .*/period 1 2/'
 message "$last: the text ends without the line 'period'" 's/^period .*//'
 message "$(($(line '^limit') + 1)): limit is given already in line $(line '^limit')" 's/^limit.*/&\n&/'
-message "$(line '^limit'): 'limmit' is not the name of a line; the names are row, size, register, horizontal, vertical, period, limit, source, sink, buffer" 's/^limit/limmit/'
+message "$(line '^limit'): 'limmit' is not the name of a line; the names are row, size, register, horizontal, vertical, period, clocks, fifo, limit, source, sink, buffer" 's/^limit/limmit/'
 message "$(line '^register'): setup is missing; the form is: R NUMBER K NUMBER C NUMBER setup NUMBER" 's/ setup 6//'
 message "$(line '^register'): setup has no number; the form is: R NUMBER K NUMBER C NUMBER setup NUMBER" 's/ setup 6/ setup/'
 message "$(line '^horizontal'): 'K' is not expected here; the form is: R NUMBER C NUMBER" 's/^horizontal R 1/horizontal K 1/'
@@ -28,7 +28,7 @@ message "$(line '^sink'): the form is: size WIDTH HEIGHT" 's/^sink.*/size 8/'
 message "$(line '^source'): the plan's width is 0 and its height 9; each must be 1 to 32" 's/^row.*//; s/^source.*/size 0 9\nsource 0 0/'
 message "$(line '^source'): the plan's width is 60000 and its height 60000; each must be 1 to 32" 's/^row.*//; s/^source.*/size 60000 60000\nsource 0/'
 message "$(line '# row 0'): the plan's width is 16 and its height 48; each must be 1 to 32" 's/^row[^#]*/&\n&\n&\n&\n&\n&/; s/^sink.*/sink 48 0/'
-{ grep -v '^row\|^sink' examples/crossing.txt; echo "sink 299 299"; row=$(printf ' .%.0s' {1..300}); for _ in {1..300}; do echo "row$row"; done; } >"$work/bad.txt"
+{ grep -v '^row\|^sink' examples/detour.txt; echo "sink 299 299"; row=$(printf ' .%.0s' {1..300}); for _ in {1..300}; do echo "row$row"; done; } >"$work/bad.txt"
 told "a plan of 300 by 300" 2 "" "bad.txt:$(grep -n -m 1 '^row' "$work/bad.txt" | cut -d: -f1): the plan's width is 300 and its height 300; each must be 1 to 32" \
     $job write "$work/bad.txt"
 
@@ -43,7 +43,7 @@ message "$(line '# row 2'): cell '...x': '.' stands only at the start of a cell;
 message "$(line '# row 2'): cell 'x.': '.' stands only at the start of a cell; cells are set apart by spaces" 's/\.\( *# row 2\)/x.\1/'
 message "$(line '# row 2'): $comment" "$(line '# row 2')s/x .*/#   #   #   x   .   ./"
 message "$(line '# row 2'): $comment" "$(line '# row 2')s/\. *# row 2/#/"
-sed 's/ *# row.*//' examples/crossing.txt >"$work/plain.txt"
+sed 's/ *# row.*//' examples/detour.txt >"$work/plain.txt"
 sed "$(line '# row 3')s/\$/ ./" "$work/plain.txt" >"$work/bad.txt"
 told "a row that is too long, without comments" 2 "" "bad.txt:$(line '# row 3'): this row has 17 cells, the first row (line $(line '# row 0')) has 16" \
     $job write "$work/bad.txt"
@@ -55,18 +55,18 @@ message "1: a carriage return stands within the line; save the text with a line 
 message "$(line '^limit'): a control character (\\u{1b}) is no text (is it a job? 'job read' prints one)" 's/^limit/limit \x1b[31m/'
 message "$(line '^limit'): '\\u{202e}24' is not a whole number" 's/^limit 24/limit \xe2\x80\xae24/'
 message "$(line '^limit'): this is no text (is it a job? 'job read' prints one)" 's/^limit/limit \xff/'
-tr '\n' '\r' <examples/crossing.txt >"$work/bad.txt"
+tr '\n' '\r' <examples/detour.txt >"$work/bad.txt"
 told "lines that end with a carriage return" 2 "" "bad.txt:1: a carriage return stands within the line; save the text with a line feed at each line's end" \
     $job write "$work/bad.txt"
-told "a job as a text" 2 "" "examples/crossing.job:1: a control character (\\u{10}) is no text (is it a job? 'job read' prints one)" \
-    $job write examples/crossing.job
+told "a job as a text" 2 "" "examples/detour.job:1: a control character (\\u{10}) is no text (is it a job? 'job read' prints one)" \
+    $job write examples/detour.job
 told "an empty text" 2 "" "/dev/null:1: the text ends without a row of the plan, and without its size" $job write /dev/null
 
 # ---- long words are cut, and endless texts not read
 long=$(head -c 100000 /dev/zero | tr '\0' a)
 cut=$(printf 'a%.0s' {1..40})..
 message "$(line '^limit'): '$cut' is not a whole number" "s/^limit.*/limit $long/"
-message "$(line '^limit'): '$cut' is not the name of a line; the names are row, size, register, horizontal, vertical, period, limit, source, sink, buffer" "s/^limit.*/$long/"
+message "$(line '^limit'): '$cut' is not the name of a line; the names are row, size, register, horizontal, vertical, period, clocks, fifo, limit, source, sink, buffer" "s/^limit.*/$long/"
 message "$(line '^register'): '$cut' is not expected here; the form is: R NUMBER K NUMBER C NUMBER setup NUMBER" "s/^register.*/register $long 1/"
 message "$(line '# row 2'): cell '$cut': 'a' is none of . x t | _" "s/\.\( *# row 2\)/$long\1/"
 digits=$(tr a 9 <<<"$long")
@@ -91,7 +91,8 @@ bad_job "a fourth byte" '\3\1\200\200\200\1' "byte 3, the marks of cell 0: the n
 bad_job "a text as a job" 'row . .\n' "the job ends after 8 bytes, at the marks of cell 6 (is it a plan text? 'job write' writes its job)"
 
 # ---- words and files
-usage="usage: job write [TEXT]
+usage="usage: job check [TEXT]
+       job write [TEXT]
        job read [JOB]
        job route PRINTER PLAYER TEXT [--picture] [--svg FILE]
        job script TEXT SHEET
@@ -101,7 +102,7 @@ usage="usage: job write [TEXT]
 told "the tool without words" 2 "" "$usage" $job
 told "the tool with an unknown word" 2 "" "$usage" $job wrote
 told "the tool with too many words" 2 "" "$usage" $job write a b
-told "job route with an unknown option" 2 "" "$usage" $job route $printer $player examples/crossing.txt --pictures
+told "job route with an unknown option" 2 "" "$usage" $job route $printer $player examples/detour.txt --pictures
 told "the tool's version" 0 "job $(cat tools/VERSION)" "" $job --version
 told "job write on a missing file" 4 "" "examples/missing.txt: No such file or directory (os error 2)" $job write examples/missing.txt
 told "job read on a folder" 4 "" "examples: Is a directory (os error 21)" $job read examples

@@ -45,9 +45,9 @@ because "$load" $strip 's/^limit .*/limit 3/' # R7
 because "$load" $strip 's/^limit .*/limit 0/; s/^period .*/period 1/; s/setup 1/setup 30000/'
 because "$walled" $strip 's/^row.*/row . t| ./'
 because "$walled" $strip 's/^row.*/row .| t ./; s/^limit .*/limit 0/; s/^period .*/period 1/'
-because "$period 108 ticks" examples/crossing.txt 's/^period .*/period 20/'
-because "$load" examples/crossing.txt 's/^limit .*/limit 3/'
-because "$walled" examples/crossing.txt 's/^\(row *\.   \.   \.   \. *\)\([.t]\)|\?/\1\2|/'
+because "$period 108 ticks" examples/detour.txt 's/^period .*/period 20/'
+because "$load" examples/detour.txt 's/^limit .*/limit 3/'
+because "$walled" examples/detour.txt 's/^\(row *\.   \.   \.   \. *\)\([.t]\)|\?/\1\2|/'
 because "$period 230 ticks" $here/fits.txt 's/^period .*/period 229/'
 for text in "$work"/none.*; do
     holds "$text" "$($job route $printer $player "$text")"

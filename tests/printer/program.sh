@@ -1,11 +1,11 @@
 # What the program does with its input, and the longest routes.
 
-$job write examples/crossing.txt >"$work/job"
-same_file "the job of the example" examples/crossing.job "$work/job"
+$job write examples/detour.txt >"$work/job"
+same_file "the job of the example" examples/detour.job "$work/job"
 $printer <"$work/job" >"$work/text"
-same_file "the text of the example" examples/crossing.sheet "$work/text"
+same_file "the text of the example" examples/detour.sheet "$work/text"
 target/brute/brute text <"$work/job" >"$work/text"
-same_file "the brute force on the example" examples/crossing.sheet "$work/text"
+same_file "the brute force on the example" examples/detour.sheet "$work/text"
 
 # 1,024 visits fill the program's words, two more do not fit
 $job write $here/fits.txt | $printer >"$work/text"

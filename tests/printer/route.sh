@@ -4,14 +4,14 @@ usage="usage: tools/route [--picture] [--svg FILE] TEXT"
 told "tools/route without a file" 2 "" "$usage" tools/route
 told "tools/route with two files" 2 "" "$usage" tools/route a b
 told "an option that there is not" 2 "" "tools/route: '--pictures' is not an option
-$usage" tools/route --pictures examples/crossing.txt
+$usage" tools/route --pictures examples/detour.txt
 told "--svg without a file" 2 "" "tools/route: --svg needs the name of a file
-$usage" tools/route examples/crossing.txt --svg
+$usage" tools/route examples/detour.txt --svg
 told "a missing file" 4 "" "examples/missing.txt: No such file or directory (os error 2)" tools/route examples/missing.txt
-example=$(tools/route examples/crossing.txt)
-from_there() { (cd examples && ../tools/route crossing.txt); }
+example=$(tools/route examples/detour.txt)
+from_there() { (cd examples && ../tools/route detour.txt); }
 told "the example, from another folder" 0 "$example" "" from_there
-from_pipe() { tools/route <(cat examples/crossing.txt); }
+from_pipe() { tools/route <(cat examples/detour.txt); }
 told "the example, from a pipe" 0 "$example" "" from_pipe
 same "the help's first line" "$usage" "$(tools/route --help | head -n 1)"
 same "the version" "tools/route $(cat tools/VERSION)" "$(tools/route --version | cut -d, -f1)"
@@ -49,7 +49,7 @@ mkdir -p target/bin
 echo "rt: ok, 4 crates proved"
 END
 chmod +x "$few/rt"
-told "no rustc" 4 "" "tools/build: no rustc, the Rust compiler (Debian: package rustc), which compiles tools/job; examples/crossing.job is a job without it" \
+told "no rustc" 4 "" "tools/build: no rustc, the Rust compiler (Debian: package rustc), which compiles tools/job; examples/detour.job is a job without it" \
     in_fake "$work/twice.txt"
 same "proofs without rustc" 0 "$(calls)"
 cat >"$few/rustc" <<END
@@ -86,8 +86,8 @@ same "proofs after a change" 2 "$(calls)"
 in_fake "$work/twice.txt" >"$work/out" 2>/dev/null
 same "proofs when nothing has changed since" 2 "$(calls)"
 touch "$fake/crates/script/src/lib.rt"
-in_fake "$work/twice.txt" >"$work/out" 2>/dev/null
-same "proofs after a change of the second program alone" 3 "$(calls)"
+in_fake examples/two_clocks.txt >"$work/out" 2>/dev/null
+same "proofs after a change of the second program alone, for a text with two clocks" 3 "$(calls)"
 rm "$fake/target/bin/session_player"
 touch "$work/unbuilt"
 in_fake "$work/twice.txt" >"$work/out" 2>"$work/err"

@@ -2,9 +2,9 @@
 
 table_head="# from   to  steps  gates  delay  spare  (half-ticks; 2T ="
 guide_spans=$(guide '2T = 250')
-told "the example" 0 "$(cat examples/crossing.sheet)
-$guide_spans" "" tools/route examples/crossing.txt
-same "the spans of the example in examples/README.md" "$guide_spans" "$(sed -n 's/^    #/#/p' examples/README.md)"
+told "the example" 0 "$(cat examples/detour.sheet)
+$guide_spans" "" tools/route examples/detour.txt
+same "the spans of the example in examples/README.md" "$guide_spans" "$(format '2T = 250')"
 told "the guide's strip" 0 "$(guide 'route 0 2 26')" "" tools/route examples/strip.txt
 
 spans() { # NAME FIRST-LINE 2T LINES TEXT: all but the visits

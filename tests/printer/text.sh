@@ -39,14 +39,14 @@ done < <(target/brute/brute sample 150 1)
 same "statuses met by random jobs" "0 1 3" "$(echo "$statuses" | grep -o . | sort | xargs)"
 
 # A size without rows is a plan of open cells.
-sed 's/^row.*//; s/^source.*/size 6 3\nsource 0 0/; s/^sink.*/sink 2 5/' examples/crossing.txt >"$work/open.txt"
+sed 's/^row.*//; s/^source.*/size 6 3\nsource 0 0/; s/^sink.*/sink 2 5/' examples/detour.txt >"$work/open.txt"
 sed 's/^source.*/source 0 0/; s/^sink.*/sink 2 5/; /^row/d; $ a row . . . . . .\nrow . . . . . .\nrow . . . . . .' \
-    examples/crossing.txt >"$work/drawn.txt"
+    examples/detour.txt >"$work/drawn.txt"
 $job write "$work/open.txt" >"$work/again"
 $job write "$work/drawn.txt" >"$work/job2"
 same_file "a size without rows" "$work/job2" "$work/again"
 told "a size without rows" 0 "route 0 7 125 10" "" sh -c "tools/route $work/open.txt | head -n 1"
-sed 's/^source.*/size 16 8\n&/' examples/crossing.txt | $job write >"$work/again"
-same_file "a size with its rows" examples/crossing.job "$work/again"
-sed 's/$/\r/' examples/crossing.txt | $job write - >"$work/again"
-same_file "lines that end with both characters" examples/crossing.job "$work/again"
+sed 's/^source.*/size 16 8\n&/' examples/detour.txt | $job write >"$work/again"
+same_file "a size with its rows" examples/detour.job "$work/again"
+sed 's/$/\r/' examples/detour.txt | $job write - >"$work/again"
+same_file "lines that end with both characters" examples/detour.job "$work/again"

@@ -3,10 +3,10 @@
 
 usage="usage: tools/verdict PLAN SHEET"
 told "tools/verdict without files" 2 "" "$usage" tools/verdict
-told "tools/verdict with one file" 2 "" "$usage" tools/verdict examples/crossing.txt
+told "tools/verdict with one file" 2 "" "$usage" tools/verdict examples/detour.txt
 told "tools/verdict with three files" 2 "" "$usage" tools/verdict a b c
 told "an option of tools/verdict that there is not" 2 "" "tools/verdict: '--picture' is not an option
-$usage" tools/verdict --picture examples/crossing.txt examples/crossing.sheet
+$usage" tools/verdict --picture examples/detour.txt examples/detour.sheet
 same "the help's first line of tools/verdict" "$usage" "$(tools/verdict --help | head -n 1)"
 same "the version of tools/verdict" "tools/verdict $(cat tools/VERSION)" "$(tools/verdict --version | cut -d, -f1)"
 
@@ -18,21 +18,21 @@ own() { # WORDS PLAN
     tools/route "$2" >"$work/own.sheet"
     accepts "the planner's own sheet of $2" "$1" "$2" "$work/own.sheet"
 }
-told "the guide's sheet" 0 "$(guide accepted:)" "" tools/verdict examples/crossing.txt examples/crossing.sheet
-own "22 visits, 2 registers, 0 half-ticks spare" examples/crossing.txt
+told "the guide's sheet" 0 "$(guide accepted:)" "" tools/verdict examples/detour.txt examples/detour.sheet
+own "22 visits, 2 registers, 0 half-ticks spare" examples/detour.txt
 own "3 visits, 0 registers, 0 half-ticks spare" examples/strip.txt
 own "5 visits, 1 register, 0 half-ticks spare" examples/twice.txt
 own "38 visits, 4 registers, 1 half-tick spare" $here/wide.txt
 own "1024 visits, 11 registers, 0 half-ticks spare" $here/fits.txt
-sheet_piped() { tools/verdict examples/crossing.txt - <examples/crossing.sheet; }
+sheet_piped() { tools/verdict examples/detour.txt - <examples/detour.sheet; }
 told "a sheet on standard input" 0 "accepted: 22 visits, 2 registers, 0 half-ticks spare" "" sheet_piped
-plan_piped() { tools/verdict - examples/crossing.sheet <examples/crossing.txt; }
+plan_piped() { tools/verdict - examples/detour.sheet <examples/detour.txt; }
 told "a plan on standard input" 0 "accepted: 22 visits, 2 registers, 0 half-ticks spare" "" plan_piped
-from_there() { (cd examples && ../tools/verdict crossing.txt <(cat crossing.sheet)); }
+from_there() { (cd examples && ../tools/verdict detour.txt <(cat detour.sheet)); }
 told "a sheet from a pipe, in another folder" 0 "accepted: 22 visits, 2 registers, 0 half-ticks spare" "" from_there
 also() { # NAME SED: the sheet of the example with a change, accepted
-    sed "$2" examples/crossing.sheet >"$work/bad.sheet"
-    accepts "$1" "22 visits, 2 registers, 0 half-ticks spare" examples/crossing.txt "$work/bad.sheet"
+    sed "$2" examples/detour.sheet >"$work/bad.sheet"
+    accepts "$1" "22 visits, 2 registers, 0 half-ticks spare" examples/detour.txt "$work/bad.sheet"
 }
 also "other figures, lines that end with both characters" '1s/.*/route 0 99 4000000000 60000/; s/$/\r/'
 also "a sheet of before, without the spare figure" '1s/.*/route 2 21 375/'
@@ -41,7 +41,7 @@ also "comments before the first line" '1s/^/# drawn by hand\n#\n/'
 also "comments between the visits" 's/$/\n# 9 9/'
 also "a comment without the last line's end, characters of other alphabets" '$s/$/\n# \xc2\xb5m/'
 printf 'route 0 1 125\n1 7\n0 7' >"$work/short.sheet"
-sed 's/^row.*//; s/^source.*/size 32 32\nsource 0/; s/^sink.*/sink 1/' examples/crossing.txt >"$work/large.txt"
+sed 's/^row.*//; s/^source.*/size 32 32\nsource 0/; s/^sink.*/sink 1/' examples/detour.txt >"$work/large.txt"
 accepts "a plan of 32 by 32, no end of the last line" "2 visits, 0 registers, 184 half-ticks spare" "$work/large.txt" "$work/short.sheet"
 sed 's/^row.*/row . ./; s/^sink.*/sink 1/; s/^horizontal.*/horizontal R 0 C 0/' examples/strip.txt >"$work/free.txt"
 back_and_forth() { # PAIRS
@@ -64,8 +64,8 @@ fault() { # WORDS PLAN SED: the sheet of the example with a change, or the strip
     sed "$3" "$sheet" >"$work/bad.sheet"
     told "$2 with the sheet's '$3'" 1 "$1" "" tools/verdict "$2" "$work/bad.sheet"
 }
-sheet=examples/crossing.sheet
-plan=examples/crossing.txt
+sheet=examples/detour.sheet
+plan=examples/detour.txt
 fault "visit 0 (cell 62, code 7): the first visit is not the sink, cell 63" $plan 's/^63 /62 /'
 fault "visit 0 (cell 65535, code 7): outside the plan, whose cells are 0 to 127" $plan 's/^63 /65535 /'
 fault "visit 5 (cell 128, code 2): outside the plan, whose cells are 0 to 127" $plan 's/^13 /128 /'
@@ -127,7 +127,7 @@ fault "visit 1 (cell 3, code 0): no uncut wire from cell 2" "$plan" 's/^1 0/3 0/
 # ---- refusals: the program's number, and the reason with its line in the text
 refuse_plan() { # NUMBER LINE: REASON, SED
     edited "$3"
-    told "the example with '$3', to be judged" 3 "refused $1" "bad.txt:$2 (refusal $1)" tools/verdict "$work/bad.txt" examples/crossing.sheet
+    told "the example with '$3', to be judged" 3 "refused $1" "bad.txt:$2 (refusal $1)" tools/verdict "$work/bad.txt" examples/detour.sheet
 }
 seven='s/^buffer R 3 .*/&\n&\n&\n&\n&\n&/'
 refuse_plan 1 "$(line '# row 0'): the plan's width is 48 and its height 8; $sides" 's/^row  *\([^#]*\)#.*/row \1 \1 \1/'
@@ -145,18 +145,18 @@ refuse_plan 4 "$(($(line '^buffer R 3') + 6)): 37 buffers are given, and at most
 refuse_plan 4 "$(line '^buffer R 1'): buffer 2 K 1001 is outside 0 to 1000" 's/^buffer R 1 K 9/buffer R 1 K 1001/; s/^sink.*/sink 128/'
 refuse_plan 5 "$(line '^sink'): sink 128 is not in the plan, whose cells are 0 to 127" 's/^sink.*/sink 128/'
 refuse_plan 5 "$(line '^sink'): source and sink are both cell 48 (row 3, column 0)" 's/^sink.*/sink 3 0/'
-head -n 2 examples/crossing.sheet >"$work/bad.sheet"
-told "a sheet of one visit" 3 "refused 17" "bad.sheet: a sheet needs two visits or more (refusal 17)" tools/verdict examples/crossing.txt "$work/bad.sheet"
-head -n 1 examples/crossing.sheet >"$work/bad.sheet"
-told "a sheet of no visit" 3 "refused 17" "bad.sheet: a sheet needs two visits or more (refusal 17)" tools/verdict examples/crossing.txt "$work/bad.sheet"
+head -n 2 examples/detour.sheet >"$work/bad.sheet"
+told "a sheet of one visit" 3 "refused 17" "bad.sheet: a sheet needs two visits or more (refusal 17)" tools/verdict examples/detour.txt "$work/bad.sheet"
+head -n 1 examples/detour.sheet >"$work/bad.sheet"
+told "a sheet of no visit" 3 "refused 17" "bad.sheet: a sheet needs two visits or more (refusal 17)" tools/verdict examples/detour.txt "$work/bad.sheet"
 edited 's/^sink.*/sink 128/'
 told "a sheet of no visit, and a sink outside" 3 "refused 5" "bad.txt:$(line '^sink'): sink 128 is not in the plan, whose cells are 0 to 127 (refusal 5)" \
     tools/verdict "$work/bad.txt" "$work/bad.sheet"
 
 # ---- texts that are no sheet
 no_sheet() { # MESSAGE SED
-    sed "$2" examples/crossing.sheet >"$work/bad.sheet"
-    told "the sheet with '$2'" 2 "" "bad.sheet:$1" tools/verdict examples/crossing.txt "$work/bad.sheet"
+    sed "$2" examples/detour.sheet >"$work/bad.sheet"
+    told "the sheet with '$2'" 2 "" "bad.sheet:$1" tools/verdict examples/detour.txt "$work/bad.sheet"
 }
 head_form="is not the first line of a sheet; the form is: route REGISTERS STEPS LATENCY SPARE"
 no_sheet "1: 'none' $head_form" '1s/.*/none/'
@@ -185,16 +185,16 @@ no_sheet "1: the text starts with a byte order mark; save it as UTF-8 without on
 no_sheet "4: '3\\u{1b}' is not a whole number" 's/^31 0/3\x1b 0/'
 back_and_forth 2048 >"$work/bad.sheet"
 told "4,098 visits" 2 "" "bad.sheet:4098: the sheet has more than 4096 visits, the most that are judged" tools/verdict "$work/free.txt" "$work/bad.sheet"
-told "a sheet for a plan" 2 "" "examples/crossing.sheet:1: 'route' is not the name of a line; the names are row, size, register, horizontal, vertical, period, limit, source, sink, buffer" \
-    tools/verdict examples/crossing.sheet examples/crossing.txt
+told "a sheet for a plan" 2 "" "examples/detour.sheet:1: 'route' is not the name of a line; the names are row, size, register, horizontal, vertical, period, clocks, fifo, limit, source, sink, buffer" \
+    tools/verdict examples/detour.sheet examples/detour.txt
 told "standard input twice" 2 "" "standard input can be the plan or the sheet, not both" tools/verdict - -
-told "a missing sheet" 4 "" "missing.sheet: No such file or directory (os error 2)" tools/verdict examples/crossing.txt "$work/missing.sheet"
-told "a missing plan" 4 "" "missing.txt: No such file or directory (os error 2)" tools/verdict "$work/missing.txt" examples/crossing.sheet
-told "a verdict on a full disk" 4 "" "standard output: $full (os error 28)" onto_full tools/verdict examples/crossing.txt examples/crossing.sheet
+told "a missing sheet" 4 "" "missing.sheet: No such file or directory (os error 2)" tools/verdict examples/detour.txt "$work/missing.sheet"
+told "a missing plan" 4 "" "missing.txt: No such file or directory (os error 2)" tools/verdict "$work/missing.txt" examples/detour.sheet
+told "a verdict on a full disk" 4 "" "standard output: $full (os error 28)" onto_full tools/verdict examples/detour.txt examples/detour.sheet
 told "a fault on a full disk" 4 "" "standard output: $full (os error 28)" onto_full tools/verdict "$plan" "$work/strip.sheet"
-closed() { tools/verdict examples/crossing.txt examples/crossing.sheet >&-; }
+closed() { tools/verdict examples/detour.txt examples/detour.sheet >&-; }
 told "tools/verdict with its output closed" 4 "" "tools/verdict: standard output is closed" closed
-closed_pipe tools/verdict examples/crossing.txt examples/crossing.sheet
+closed_pipe tools/verdict examples/detour.txt examples/detour.sheet
 
 # ---- random sheets: the planner's own are accepted, and every fault of a changed one is shown by the plan
 $job script examples/strip.txt "$work/strip.sheet" >"$work/text"

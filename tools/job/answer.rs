@@ -1,4 +1,4 @@
-// What the route printer printed, and the wires of the plan that was asked about.
+// What the proved program printed, and the wires of the plan that was asked about.
 
 use crate::job::{Job, CUT_BELOW, CUT_RIGHT};
 use std::str::FromStr;
@@ -10,7 +10,7 @@ pub struct Visit {
 }
 
 pub struct Route {
-    pub registers: u64,
+    pub registers: Vec<u64>, // one number a clock, the source's first
     pub steps: u64,
     pub latency: u64,
     pub slack: i64,         // spare half-ticks, never below zero
@@ -43,13 +43,13 @@ pub fn read(text: &str) -> Option<Answer> {
     }
     let mut lines = body.split('\n');
     let [registers, steps, latency, slack] = numbers(lines.next()?.strip_prefix("route ")?)?[..] else { return None };
-    let slack = i64::try_from(slack).ok()?;
     let mut visits = Vec::new();
     for line in lines {
         let [cell, code] = numbers(line)?[..] else { return None };
         visits.push(Visit { cell: u32::try_from(cell).ok()?, code: u32::try_from(code).ok()? });
     }
-    Some(Answer::Route(Route { registers, steps, latency, slack, visits }))
+    let slack = i64::try_from(slack).ok()?;
+    Some(Answer::Route(Route { registers: vec![registers], steps, latency, slack, visits }))
 }
 
 // The wire between two cells: the first of them in the plan, and whether it goes to the right.

@@ -1,4 +1,5 @@
-// A job's numbers under their names, and the ranges that document 01 gives them.
+// A job's numbers under their names, and the ranges that document 01 gives them. A plan text may give two clocks, which
+// no job has.
 
 pub const LARGEST: u32 = 65_535; // of any number in a job
 
@@ -18,6 +19,7 @@ pub const CUT_BELOW: u32 = 8;
 pub const MARKS: u32 = 15; // all four
 
 pub const CODE_REGISTER: u32 = 7;
+pub const CODE_FIFO: u32 = 8; // between two clocks
 
 // The range of an element's number, by its name.
 pub fn range(name: &str) -> (u32, u32) {
@@ -32,6 +34,13 @@ pub fn range(name: &str) -> (u32, u32) {
 pub const PERIOD: (u32, u32) = (1, 30_000); // ticks
 pub const LIMIT: (u32, u32) = (0, 63);
 
+// What a net between two clocks has besides.
+#[derive(Default, Debug, PartialEq)]
+pub struct Clocks {
+    pub source_period: u32,
+    pub fifo: Vec<u32>, // as REGISTER
+}
+
 #[derive(Default, Debug, PartialEq)]
 pub struct Job {
     pub width: u32,
@@ -40,11 +49,12 @@ pub struct Job {
     pub register: Vec<u32>,   // as REGISTER names them
     pub horizontal: Vec<u32>, // as WIRE
     pub vertical: Vec<u32>,
-    pub period: u32,
+    pub period: u32, // with two clocks the sink's
     pub limit: u32,
     pub source: u32,
     pub sink: u32,
     pub buffers: Vec<Vec<u32>>, // each as BUFFER
+    pub clocks: Option<Clocks>,
 }
 
 impl Job {
@@ -54,6 +64,23 @@ impl Job {
 
     pub fn has_mark(&self, cell: u32, mark: u32) -> bool {
         self.marks[cell as usize] & mark != 0
+    }
+
+    // The gate that closes a span and starts the next, by its code: the register, or with two clocks the FIFO.
+    pub fn closing(&self, code: u32) -> Option<&[u32]> {
+        match (code, &self.clocks) {
+            (CODE_REGISTER, _) => Some(&self.register),
+            (CODE_FIFO, Some(clocks)) => Some(&clocks.fifo),
+            _ => None,
+        }
+    }
+
+    // The period of a span that closes after so many FIFOs, counted from the sink.
+    pub fn period_after(&self, fifos: usize) -> u32 {
+        match &self.clocks {
+            Some(clocks) if fifos > 0 => clocks.source_period,
+            _ => self.period,
+        }
     }
 
     // Whether width and height are within 1 to 32.

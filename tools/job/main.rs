@@ -1,11 +1,13 @@
 // Plan texts, jobs, routes and sheets: a text to job bytes and back, the route printer's answer with its words and
-// drawings, in words the session player's verdict on a sheet and why there is no route. examples/README.md is its help.
+// drawings, the session player's between two clocks, and in words its verdict on a sheet and why there is no route.
+// examples/README.md is its help.
 // Nothing here decides any of that: target/bin/route_printer and target/bin/session_player, which are proved, do.
 
 mod answer;
 mod bytes;
 mod causes;
 mod cells;
+mod crossing;
 mod fields;
 mod files;
 mod job;
@@ -19,6 +21,7 @@ mod sheet;
 mod show;
 mod spans;
 mod svg;
+mod table;
 mod text;
 mod verdict;
 mod words;
@@ -30,7 +33,8 @@ use std::ffi::OsString;
 use std::process::ExitCode;
 use text::{Lines, Wrong};
 
-const USAGE: &str = "usage: job write [TEXT]
+const USAGE: &str = "usage: job check [TEXT]
+       job write [TEXT]
        job read [JOB]
        job route PRINTER PLAYER TEXT [--picture] [--svg FILE]
        job script TEXT SHEET
@@ -47,6 +51,16 @@ pub fn read_text(from: &Source) -> Result<(Job, Lines), Failure> {
     read.or_else(|wrong| misread(from, wrong))
 }
 
+// The same where one clock is asked for; the words are what a net between two does not have.
+pub fn read_one_clock(from: &Source, what: &str) -> Result<(Job, Lines), Failure> {
+    let (job, lines) = read_text(from)?;
+    if job.clocks.is_some() {
+        let message = format!("a net between two clocks has no {what}");
+        return misread(from, Wrong { line: lines.of("clocks"), message });
+    }
+    Ok((job, lines))
+}
+
 // The visits of a sheet.
 pub fn read_sheet(from: &Source) -> Result<Vec<Visit>, Failure> {
     let bytes = from.read()?;
@@ -59,7 +73,7 @@ fn misread<T>(from: &Source, wrong: Wrong) -> Result<T, Failure> {
 }
 
 fn write(from: &Source) -> Result<u8, Failure> {
-    let (job, _) = read_text(from)?;
+    let (job, _) = read_one_clock(from, "job; tools/route takes its text")?;
     files::print(&bytes::encode(&job))?;
     Ok(DONE)
 }
@@ -80,6 +94,7 @@ fn run(words: &[OsString]) -> Result<u8, Failure> {
     match &known[..] {
         ["--help"] => files::print(HELP.as_bytes()).map(|()| DONE),
         ["--version"] => files::print(format!("job {VERSION}").as_bytes()).map(|()| DONE),
+        ["check"] | ["check", _] => read_text(&Source::new(words.get(1))).map(|_| DONE),
         ["write"] | ["write", _] => write(&Source::new(words.get(1))),
         ["read"] | ["read", _] => read(&Source::new(words.get(1))),
         ["route", _, _, _, ..] => match route::drawings(&words[4..]) {

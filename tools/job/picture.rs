@@ -2,7 +2,7 @@
 
 use crate::answer::{wire, Route};
 use crate::cells;
-use crate::job::{Job, BLOCKED, CODE_REGISTER, CUT_BELOW, CUT_RIGHT, TAP};
+use crate::job::{Job, BLOCKED, CODE_FIFO, CODE_REGISTER, CUT_BELOW, CUT_RIGHT, TAP};
 
 const NARROW: u32 = 16; // wider plans have wires of one character
 const MARGIN: usize = 9;
@@ -40,6 +40,7 @@ fn gate_letter(code: u32) -> char {
     match code {
         0 => '+',
         CODE_REGISTER => 'R',
+        CODE_FIFO => 'F',
         _ => char::from_digit(code, 10).unwrap_or('?'),
     }
 }
@@ -100,6 +101,7 @@ fn code_words(code: u32) -> String {
     match code {
         0 => String::new(),
         CODE_REGISTER => " (register)".to_string(),
+        CODE_FIFO => " (FIFO)".to_string(),
         _ => format!(" (buffer {code})"),
     }
 }
@@ -150,7 +152,9 @@ pub fn draw(job: &Job, route: Option<&Route>) -> String {
         }
     }
     let mut out: String = lines.iter().map(|line| format!("{}\n", line.trim_end())).collect();
-    out += "\nS source, K sink, R register, 1 to 6 buffer, + no gate, * several gates; . open, x blocked, t tap\n";
+    let fifo = if job.clocks.is_some() { ", F FIFO" } else { "" };
+    out += &format!("\nS source, K sink, R register{fifo}, 1 to 6 buffer, + no gate, * several gates; ");
+    out += ". open, x blocked, t tap\n";
     let arrows = if wide { "> < v ^, both ways = v^" } else { "==> <== v ^, both ways <=> v^" };
     out += &format!("route from source to sink: {arrows}; wires that it does not use: - and :, cut: /\n");
     out + &route.map_or(String::new(), |route| repeats(job, route))

@@ -48,35 +48,45 @@ fn marks(job: &Job, lines: &Lines) -> Option<Reason> {
     None
 }
 
+fn count(job: &Job, lines: &Lines) -> Option<Reason> {
+    (job.buffers.len() > BUFFERS).then(|| {
+        let words = format!("{} buffers are given, and at most {BUFFERS} are taken", job.buffers.len());
+        (Some(lines.buffers[BUFFERS]), words)
+    })
+}
+
 // What is outside its range, in the order of the calls: T, L, horizontal, vertical, register, buffer count, a buffer.
-fn elements(job: &Job, lines: &Lines) -> [Option<Reason>; 7] {
+// With two clocks the source's period and the sink's are in T's place, and the FIFO is after the register.
+fn elements(job: &Job, lines: &Lines) -> Vec<Option<Reason>> {
     let each = |what: &str, names: &[&str], values: &[u32]| {
         names.iter().zip(values).find_map(|(name, &v)| outside(&format!("{what} {name}"), v, range(name)))
     };
     let at = |name: &str, words: Option<String>| words.map(|words| (Some(lines.of(name)), words));
-    let count = (job.buffers.len() > BUFFERS).then(|| {
-        let words = format!("{} buffers are given, and at most {BUFFERS} are taken", job.buffers.len());
-        (Some(lines.buffers[BUFFERS]), words)
-    });
     let buffer = |place: usize| {
         let words = each(&format!("buffer {}", place + 1), &BUFFER, &job.buffers[place]);
         words.map(|words| (Some(lines.buffers[place]), words))
     };
-    [
-        at("period", outside("period", job.period, PERIOD)),
+    let mut all = match &job.clocks {
+        None => vec![at("period", outside("period", job.period, PERIOD))],
+        Some(clocks) => vec![
+            at("clocks", outside("source period", clocks.source_period, PERIOD)),
+            at("clocks", outside("sink period", job.period, PERIOD)),
+        ],
+    };
+    all.extend([
         at("limit", outside("limit", job.limit, LIMIT)),
         at("horizontal", each("horizontal", &WIRE, &job.horizontal)),
         at("vertical", each("vertical", &WIRE, &job.vertical)),
         at("register", each("register", &REGISTER, &job.register)),
-        count,
-        (0..job.buffers.len()).find_map(buffer),
-    ]
+    ]);
+    all.extend(job.clocks.iter().map(|clocks| at("fifo", each("fifo", &REGISTER, &clocks.fifo))));
+    all.extend([count(job, lines), (0..job.buffers.len()).find_map(buffer)]);
+    all
 }
 
 // The number of buffers is tested while reading, so before all others.
 fn element(job: &Job, lines: &Lines) -> Option<Reason> {
-    let mut all = elements(job, lines);
-    all[5].take().or_else(|| all.into_iter().flatten().next())
+    count(job, lines).or_else(|| elements(job, lines).into_iter().flatten().next())
 }
 
 fn ends(job: &Job, lines: &Lines) -> Option<Reason> {
@@ -120,6 +130,14 @@ pub fn reason_of_call(number: u32, place: usize, job: &Job, lines: &Lines) -> Op
         }
         1 | 3 | 5 => reason(number, job, lines),
         _ => None,
+    }
+}
+
+// The same of the call between two clocks, which may need more visits than it is lent.
+pub fn reason_of_crossing(number: u32, place: usize, job: &Job, lines: &Lines) -> Option<Reason> {
+    match number {
+        8 => reason(number, job, lines),
+        _ => reason_of_call(number, place, job, lines),
     }
 }
 

@@ -2,7 +2,7 @@
 // stand in a ring, so that each way through it can be followed.
 
 use crate::answer::{Route, Visit};
-use crate::job::{Job, BLOCKED, CODE_REGISTER, CUT_BELOW, CUT_RIGHT, TAP};
+use crate::job::{Job, BLOCKED, CODE_FIFO, CODE_REGISTER, CUT_BELOW, CUT_RIGHT, TAP};
 use crate::words::counted;
 use std::collections::BTreeMap;
 use std::f64::consts::PI;
@@ -30,6 +30,7 @@ text { font-family: sans-serif; font-size: 12px; fill: #333333; }
 .number { font-size: 9px; fill: #9a9a9a; }
 .gate { font-weight: bold; text-anchor: middle; }
 .on { fill: #ffffff; }
+.fifo { fill: #ce93d8; stroke: #333333; }
 </style>
 "##;
 
@@ -70,12 +71,18 @@ fn circle((x, y): Point, radius: f64, look: &str) -> String {
     format!("<circle cx=\"{x:.1}\" cy=\"{y:.1}\" r=\"{radius}\" {look}/>\n")
 }
 
-// A gate as it is drawn, S, K, R or a buffer's code; a dot where the visit has none.
+fn diamond((x, y): Point, half: f64) -> String {
+    let path = format!("M {x:.1} {:.1} l {half} {half} l -{half} {half} l -{half} -{half} z", y - half);
+    format!("<path class=\"fifo\" d=\"{path}\"/>\n")
+}
+
+// A gate as it is drawn, S, K, R, F (the FIFO) or a buffer's code; a dot where the visit has none.
 fn gate(letter: &str, at: Point) -> String {
     let label = (at.0, at.1 + 4.0);
     match letter {
         "S" | "K" => square(at, 9.0, "#333333") + &text("gate on", label, letter),
         "R" => square(at, 9.0, "#ffe082") + &text("gate", label, letter),
+        "F" => diamond(at, 12.0) + &text("gate", label, letter),
         "" => circle(at, 3.0, "fill=\"#1f5fbf\""),
         _ => circle(at, 9.0, "fill=\"#c8e6c9\" stroke=\"#333333\"") + &text("gate", label, letter),
     }
@@ -154,6 +161,7 @@ fn drawn_route(job: &Job, route: &Route) -> String {
             _ if i + 1 == at.len() => "S".to_string(),
             0 => String::new(),
             CODE_REGISTER => "R".to_string(),
+            CODE_FIFO => "F".to_string(),
             code => code.to_string(),
         };
         out += &gate(&letter, point);
@@ -163,7 +171,7 @@ fn drawn_route(job: &Job, route: &Route) -> String {
     out
 }
 
-fn legend(y: f64) -> String {
+fn legend(job: &Job, y: f64) -> String {
     let mut out = String::new();
     let mut x = LEFT;
     let mut item = |sign: &dyn Fn(f64) -> String, words: &str, room: f64| {
@@ -174,6 +182,9 @@ fn legend(y: f64) -> String {
     item(&|x| gate("S", (x, y)), "source", 76.0);
     item(&|x| gate("K", (x, y)), "sink", 62.0);
     item(&|x| gate("R", (x, y)), "register", 82.0);
+    if job.clocks.is_some() {
+        item(&|x| gate("F", (x, y)), "FIFO", 62.0);
+    }
     item(&|x| gate("1", (x, y)), "buffer, its code", 122.0);
     item(&|x| tap((x, y - 5.5)), "tap", 54.0);
     let swatch =
@@ -191,7 +202,11 @@ pub fn draw(name: &str, job: &Job, route: Option<&Route>) -> String {
     let title = match route {
         Some(r) => {
             let spare = counted(r.slack as usize, "half-tick");
-            format!("{name}: registers {}, steps {}, latency {} ticks, spare {spare}", r.registers, r.steps, r.latency)
+            let registers = match r.registers[..] {
+                [source, sink] => format!("{source} on the source's side, {sink} on the sink's"),
+                _ => r.registers[0].to_string(),
+            };
+            format!("{name}: registers {registers}, steps {}, latency {} ticks, spare {spare}", r.steps, r.latency)
         }
         None => format!("{name}: no legal route"),
     };
@@ -209,6 +224,6 @@ pub fn draw(name: &str, job: &Job, route: Option<&Route>) -> String {
             out += &gate("K", centre(job, job.sink));
         }
     }
-    out += &legend(below + 24.0);
+    out += &legend(job, below + 24.0);
     out + "</svg>\n"
 }

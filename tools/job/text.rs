@@ -3,7 +3,7 @@
 
 use crate::cells;
 use crate::fields::{end, named, number, one_number, End, Field};
-use crate::job::{Job, BUFFER, BUFFERS, LARGEST, REGISTER, WIRE};
+use crate::job::{Clocks, Job, BUFFER, BUFFERS, LARGEST, REGISTER, WIRE};
 use crate::words::{counted, shown};
 use std::collections::BTreeMap;
 
@@ -34,7 +34,8 @@ impl Lines {
     }
 }
 
-const ONCE: [&str; 7] = ["register", "horizontal", "vertical", "period", "limit", "source", "sink"];
+// Given at most once. A text has `period`, or `clocks` and `fifo`, and all the others.
+const ONCE: [&str; 9] = ["register", "horizontal", "vertical", "period", "clocks", "fifo", "limit", "source", "sink"];
 
 const HASH: &str = "'#' starts a comment; a blocked cell is drawn x";
 
@@ -90,11 +91,20 @@ impl Parts {
         if let Some(before) = self.lines.named.insert(name.to_string(), line) {
             return Err(format!("{name} is given already in line {before}"));
         }
+        if let Some((other, before)) = self.other_clock(name) {
+            let both = format!("{name} is given, and {other} already in line {before}");
+            return Err(format!("{both}; clocks stands in place of period"));
+        }
         match name {
             "register" => self.job.register = named(words, &REGISTER)?,
             "horizontal" => self.job.horizontal = named(words, &WIRE)?,
             "vertical" => self.job.vertical = named(words, &WIRE)?,
             "period" => self.job.period = one_number(words)?,
+            "clocks" => match words {
+                [source, sink] => (self.clocks().source_period, self.job.period) = (number(source)?, number(sink)?),
+                _ => return Err("the form is: clocks SOURCE-PERIOD SINK-PERIOD".to_string()),
+            },
+            "fifo" => self.clocks().fifo = named(words, &REGISTER)?,
             "limit" => self.job.limit = one_number(words)?,
             "source" => self.source = Some(end(words)?),
             "sink" => self.sink = Some(end(words)?),
@@ -104,6 +114,45 @@ impl Parts {
             },
         }
         Ok(())
+    }
+
+    fn given(&self, name: &str) -> bool {
+        self.lines.named.contains_key(name)
+    }
+
+    fn clocks(&mut self) -> &mut Clocks {
+        self.job.clocks.get_or_insert_with(Clocks::default)
+    }
+
+    // Of `period` and `clocks` the one that is not this line, and where it stands.
+    fn other_clock(&self, name: &str) -> Option<(&'static str, usize)> {
+        let other = match name {
+            "period" => "clocks",
+            "clocks" => "period",
+            _ => return None,
+        };
+        self.given(other).then(|| (other, self.lines.of(other)))
+    }
+
+    // `clocks` and `fifo` go together.
+    fn check_clocks(&self) -> Result<(), Wrong> {
+        for (name, needed) in [("clocks", "fifo"), ("fifo", "clocks")] {
+            if self.given(name) && !self.given(needed) {
+                let message = format!("{name} needs the line '{needed}', which the text does not have");
+                return Err(Wrong { line: self.lines.of(name), message });
+            }
+        }
+        Ok(())
+    }
+
+    // Whether the text must have a line that it does not have.
+    fn misses(&self, name: &str) -> bool {
+        let needed = match name {
+            "period" => self.job.clocks.is_none(),
+            "clocks" | "fifo" => false,
+            _ => true,
+        };
+        needed && !self.given(name)
     }
 
     // The plan's size is the rows'; without rows it is the line's, and every cell is open.
@@ -143,7 +192,8 @@ impl Parts {
     // The whole job; what is missing is told at the text's last line.
     fn finish(mut self) -> Result<(Job, Lines), Wrong> {
         self.settle_size()?;
-        if let Some(name) = ONCE.iter().find(|name| !self.lines.named.contains_key(**name)) {
+        self.check_clocks()?;
+        if let Some(name) = ONCE.iter().find(|name| self.misses(name)) {
             return Err(Wrong { line: self.lines.last, message: format!("the text ends without the line '{name}'") });
         }
         if self.job.buffers.len() > LARGEST as usize {

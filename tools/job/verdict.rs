@@ -7,7 +7,7 @@ use crate::job::Job;
 use crate::program::printed;
 use crate::text::Lines;
 use crate::words::{counted, shown, shown_name};
-use crate::{read_sheet, read_text, refusals, script, spans};
+use crate::{read_one_clock, read_sheet, refusals, script, spans};
 use std::ffi::OsStr;
 
 enum Verdict {
@@ -36,7 +36,7 @@ fn read_both(plan: &Source, sheet: &Source) -> Result<(Job, Lines, Vec<Visit>), 
     if plan.file.is_none() && sheet.file.is_none() {
         return failure(TEXT, "standard input can be the plan or the sheet, not both".to_string());
     }
-    let (job, lines) = read_text(plan)?;
+    let (job, lines) = read_one_clock(plan, "verdict, which is for one clock")?;
     Ok((job, lines, read_sheet(sheet)?))
 }
 
@@ -54,7 +54,7 @@ pub fn run(player: &OsStr, plan: &Source, sheet: &Source) -> Result<u8, Failure>
     match read(&text) {
         Some(Verdict::Accepted(slack)) => {
             let spans = spans::closed(&job, &visits).unwrap_or_default();
-            if spans.is_empty() || spans::least_slack(&job, &spans) != slack as i64 {
+            if spans::least_slack(&spans) != slack as i64 {
                 return no_answer("plan and sheet do not show the spare figure of its line");
             }
             let (visits, registers) = (counted(visits.len(), "visit"), counted(spans.len() - 1, "register"));
