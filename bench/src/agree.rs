@@ -7,7 +7,7 @@ use crate::plans::Random;
 use crate::problem::{BLOCKED, Buffer, CUT_BELOW, CUT_RIGHT, Problem, Register, TAP, Wire};
 
 /// Narrow strips, small squares, and long strips with few taps; small numbers, sometimes zeros, sometimes the whole range.
-fn small(x: &mut Random) -> Problem {
+pub fn small(x: &mut Random) -> Problem {
     let (width, height) = match x.below(4) {
         0 => (2 + x.below(11) as usize, 1),
         1 => (2, 1 + x.below(8) as usize),
@@ -62,7 +62,7 @@ fn small(x: &mut Random) -> Problem {
 /// Whether the written route is legal and has the answer's registers and spare half-ticks.
 fn written_right(a: &Ours, p: &Problem, answer: Answer) -> bool {
     let told = Legal { registers: answer.registers, slack: answer.slack as u64 };
-    answer.number == 7 || judge(p, a.written(answer)) == Ok(told)
+    answer.number == 7 || judge(p, a.written(answer.steps)) == Ok(told)
 }
 
 /// Whether both agree on all of them. Of ours the written route is checked by the rules of documents 01 and 02 as well,

@@ -1,21 +1,31 @@
 //! Our route call against the published algorithm, on the same plans in the same run; the verdict against a plain judge.
 //!
-//!     route_bench                          the table, with the geometric means; then why there is no route
+//!     route_bench                          the table, with the geometric means; then why there is no route, and the same
+//!                                          plans as nets between two clocks
 //!     route_bench growth                   how the times grow with cells, buffers and load limit
 //!     route_bench agree [N] [SEED]         N small random plans on which all must agree
+//!     route_bench crossing                 nets between two clocks: several pairs of periods, two FIFOs
+//!     route_bench agree-crossing [N] [SEED]    N small random nets between two clocks on which all must agree
 //!     route_bench verdict                  the verdict on lists of up to a million visits, and a plain judge on the same
 //!     route_bench stack                    bytes of stack that a call takes
 //!     route_bench names                    the names of the table's plans
 //!     route_bench once PLAN SIDE [N]       N calls of a side (ours, noroom, peer, tuned, explain, exists), for a profiler
 //!     route_bench judge LIST VISITS SIDE [N]    N verdicts of a side (ours, peer) on a list by its place, for a profiler
+//!     route_bench once-crossing PLAN PAIR FIFO SIDE [N]    N calls of a side (ours, noroom, peer, tuned) on a net between
+//!                                          two clocks, its pair by its place, its FIFO like or unlike
 //!
-//! The status is not 0 where the two differ in the number of registers, a figure, a verdict or a reason is not what it
-//! must be, or a verdict or a reason takes too long.
+//! The status is not 0 where the two differ in the number of registers or in the latency, a figure, a verdict or a reason
+//! is not what it must be, or a verdict, a reason or a net between two clocks takes too long.
 
 mod agree;
+mod agree_crossing;
+mod crossing;
 mod explain;
+mod front;
+mod gals;
 mod judge;
 mod lists;
+mod nets;
 mod ours;
 mod peer;
 mod plans;
@@ -44,6 +54,8 @@ enum Group {
     Ordinary,
     Corridor,
     Hard,
+    /// the worst known
+    Worst,
 }
 
 struct Plan {
@@ -68,8 +80,8 @@ fn table_plans() -> Vec<Plan> {
         plan(Corridor, "serpentine, 335 registers", plans::serpentine(FULL, 68)),
         plan(Hard, "comb, buffer sites at tips", plans::buffer_comb(FULL, 29000)),
         plan(Hard, "comb, taps at tips", plans::tap_comb(FULL, 600)),
-        plan(Hard, "comb, every tip needed", plans::long_comb(FULL, 28000)),
-        plan(Hard, "ladder, L 8, five buffers", plans::ladder(32, 23856)),
+        plan(Worst, "comb, every tip needed", plans::long_comb(FULL, 28000)),
+        plan(Worst, "ladder, L 8, five buffers", plans::ladder(32, 23856)),
         plan(Hard, "serpentine cut at the sink", plans::broken_serpentine(FULL, 100, true)),
         plan(Hard, "serpentine cut at the source", plans::broken_serpentine(FULL, 100, false)),
     ]
@@ -107,7 +119,7 @@ impl Sides {
         }
         if let Some(k) = got {
             let told = Legal { registers: k, slack: answer.slack as u64 };
-            let written = judge(p, self.ours.written(answer));
+            let written = judge(p, self.ours.written(answer.steps));
             if written != Ok(told) {
                 println!("MISMATCH: {told:?}, in the route written {written:?}");
                 return None;
@@ -209,7 +221,8 @@ fn table(budget: Duration) -> bool {
     let ratios: Vec<f64> = routed.map(|(_, m)| m.ratio_no_room()).collect();
     let (mean, most) = summary(&ratios);
     println!("no room / ours, {} plans with a route: geometric mean {mean:.2}, largest {most:.2}", ratios.len());
-    explain::run(&plans.iter().map(|p| (p.name, &p.problem)).collect::<Vec<_>>(), Duration::from_millis(400))
+    let why = explain::run(&plans.iter().map(|p| (p.name, &p.problem)).collect::<Vec<_>>(), Duration::from_millis(400));
+    crossing::run(plans, false, budget) && why
 }
 
 type Shape = (&'static str, fn(Size) -> Problem);
@@ -293,6 +306,8 @@ fn main() {
         None => table(Duration::from_millis(150)),
         Some(&"growth") => growth(Duration::from_millis(30)),
         Some(&"agree") => agree::run(number(1, 20000), number(2, 1)),
+        Some(&"crossing") => crossing::run(table_plans(), true, Duration::from_millis(60)),
+        Some(&"agree-crossing") => agree_crossing::run(number(1, 20000), number(2, 1)),
         Some(&"verdict") => verdict::run(Duration::from_millis(400)),
         Some(&"stack") => stack::run(vec![
             ("8 x 8", shapes_of(8)),
@@ -303,10 +318,13 @@ fn main() {
             verdict::once(number(1, 0) as usize, number(2, 10_000) as usize, words[3], number(4, 1))
         }
         Some(&"once") if words.len() > 2 => once(words[1], words[2], number(3, 1)),
+        Some(&"once-crossing") if words.len() > 4 => {
+            crossing::once(table_plans(), words[1], number(2, 0) as usize, words[3] == "like", words[4], number(5, 1))
+        }
         Some(_) => {
             eprintln!(
-                "usage: route_bench [growth | agree [N] [SEED] | verdict | stack | names | once PLAN SIDE [N] | \
-                 judge LIST VISITS SIDE [N]]"
+                "usage: route_bench [growth | agree [N] [SEED] | crossing | agree-crossing [N] [SEED] | verdict | stack | \
+                 names | once PLAN SIDE [N] | judge LIST VISITS SIDE [N] | once-crossing PLAN PAIR FIFO SIDE [N]]"
             );
             false
         }

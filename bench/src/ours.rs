@@ -1,7 +1,7 @@
-//! The proved route call, verdict and reasons: `bench_entry`, `bench_judge` and `bench_explain` of crates/bench_entry,
-//! linked from target/staticlib/libbench_entry.a.
+//! The proved route calls, verdict and reasons: `bench_entry`, `bench_crossing`, `bench_judge` and `bench_explain` of
+//! crates/bench_entry, linked from target/staticlib/libbench_entry.a.
 
-use crate::problem::Problem;
+use crate::problem::{Crossing, Problem};
 
 #[link(name = "bench_entry", kind = "static")]
 unsafe extern "C" {
@@ -12,6 +12,27 @@ unsafe extern "C" {
         height: u16,
         tables: *const u16,
         tables_len: usize,
+        buffers: *const u16,
+        buffers_len: usize,
+        source: u16,
+        sink: u16,
+        scratch: *mut u16,
+        scratch_len: usize,
+        visits: *mut u16,
+        visits_len: usize,
+        figures: *mut u32,
+        figures_len: usize,
+    ) -> u16;
+
+    fn bench_crossing(
+        plan: *const u8,
+        plan_len: usize,
+        width: u16,
+        height: u16,
+        tables: *const u16,
+        tables_len: usize,
+        clocks: *const u16,
+        clocks_len: usize,
         buffers: *const u16,
         buffers_len: usize,
         source: u16,
@@ -69,6 +90,18 @@ pub struct Answer {
     pub slack: u32,
 }
 
+/// An answer to a net between two clocks.
+#[derive(Clone, Copy, PartialEq, Debug)]
+pub struct Crossed {
+    pub number: u16,
+    pub source_registers: u32,
+    pub sink_registers: u32,
+    pub steps: u32,
+    pub latency: u32,
+    /// spare half-ticks
+    pub slack: u32,
+}
+
 /// A verdict as the entry tells it.
 #[derive(Clone, Copy, PartialEq, Debug)]
 pub struct Found {
@@ -90,12 +123,19 @@ pub struct Ours {
     pub scratch: Vec<u16>,
     visits: Vec<u16>,
     tables: [u16; 10],
+    clocks: [u16; 5],
     buffers: Vec<u16>,
 }
 
 impl Ours {
     pub fn new() -> Ours {
-        Ours { scratch: vec![0; 256 * 1024 + 1], visits: vec![0; 1 << 16], tables: [0; 10], buffers: Vec::new() }
+        Ours {
+            scratch: vec![0; 512 * 1024 + 1],
+            visits: vec![0; 1 << 16],
+            tables: [0; 10],
+            clocks: [0; 5],
+            buffers: Vec::new(),
+        }
     }
 
     /// Puts the tables into words; not part of what is timed.
@@ -103,6 +143,13 @@ impl Ours {
         let (g, h, v) = (p.register, p.horizontal, p.vertical);
         self.tables = [g.r, g.k, g.c, g.setup, h.r, h.c, v.r, v.c, p.period, p.limit];
         self.buffers = p.buffers.iter().flat_map(|b| [b.r, b.k, b.c]).collect();
+    }
+
+    /// The same for a net between two clocks.
+    pub fn load_crossing(&mut self, p: &Problem, x: &Crossing) {
+        self.load(p);
+        let f = x.fifo;
+        self.clocks = [x.source_period, f.r, f.k, f.c, f.setup];
     }
 
     pub fn route(&mut self, p: &Problem) -> Answer {
@@ -114,9 +161,18 @@ impl Ours {
         self.call(p, 0)
     }
 
-    /// The words of the route that an answer of 0 has written.
-    pub fn written(&self, a: Answer) -> &[u16] {
-        &self.visits[..2 * (a.steps as usize + 1)]
+    pub fn crossing(&mut self, p: &Problem) -> Crossed {
+        self.call_crossing(p, self.visits.len())
+    }
+
+    /// With no visits lent.
+    pub fn crossing_no_room(&mut self, p: &Problem) -> Crossed {
+        self.call_crossing(p, 0)
+    }
+
+    /// The words of the route of so many steps that an answer of 0 has written.
+    pub fn written(&self, steps: u32) -> &[u16] {
+        &self.visits[..2 * (steps as usize + 1)]
     }
 
     /// The verdict on a list.
@@ -191,6 +247,34 @@ impl Ours {
         };
         Answer { number, registers: figures[0], steps: figures[1], latency: figures[2], slack: figures[4] }
     }
+
+    fn call_crossing(&mut self, p: &Problem, room: usize) -> Crossed {
+        let mut figures = [9u32; 6];
+        let number = unsafe {
+            bench_crossing(
+                p.marks.as_ptr(),
+                p.marks.len(),
+                p.width as u16,
+                p.height as u16,
+                self.tables.as_ptr(),
+                self.tables.len(),
+                self.clocks.as_ptr(),
+                self.clocks.len(),
+                self.buffers.as_ptr(),
+                self.buffers.len(),
+                p.source as u16,
+                p.sink as u16,
+                self.scratch.as_mut_ptr(),
+                self.scratch.len(),
+                self.visits.as_mut_ptr(),
+                room,
+                figures.as_mut_ptr(),
+                figures.len(),
+            )
+        };
+        let [source_registers, sink_registers, steps, latency, _, slack] = figures;
+        Crossed { number, source_registers, sink_registers, steps, latency, slack }
+    }
 }
 
 /// The registers, or none; any other refusal is a fault of the benchmark.
@@ -202,7 +286,25 @@ pub fn registers(a: Answer) -> Option<u32> {
     }
 }
 
+/// The latency, or none, likewise.
+pub fn latency(a: Crossed) -> Option<u32> {
+    match a.number {
+        0 => Some(a.latency),
+        7 => None,
+        n => panic!("the crossing call refused with {n}"),
+    }
+}
+
+/// The number of the same answer where no visits are lent.
+fn number_without_room(number: u16) -> u16 {
+    if number == 0 { 8 } else { number }
+}
+
 /// The same answer where no visits are lent.
 pub fn without_room(a: Answer) -> Answer {
-    Answer { number: if a.number == 0 { 8 } else { a.number }, ..a }
+    Answer { number: number_without_room(a.number), ..a }
+}
+
+pub fn crossing_without_room(a: Crossed) -> Crossed {
+    Crossed { number: number_without_room(a.number), ..a }
 }

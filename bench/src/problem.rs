@@ -18,7 +18,7 @@ pub struct Buffer {
     pub c: u16,
 }
 
-#[derive(Clone, Copy)]
+#[derive(Clone, Copy, Debug)]
 pub struct Register {
     pub r: u16,
     pub k: u16,
@@ -39,6 +39,13 @@ pub struct Problem {
     pub buffers: Vec<Buffer>,
     pub source: usize,
     pub sink: usize,
+}
+
+/// What makes a problem a net between two clocks; the problem's own period is then the sink's.
+#[derive(Clone, Copy, Debug)]
+pub struct Crossing {
+    pub source_period: u16,
+    pub fifo: Register,
 }
 
 impl Problem {

@@ -2,7 +2,7 @@
 //! looked up afterwards. A call with a known array on its stack must give that array's size back.
 
 use crate::ours::Ours;
-use crate::problem::Problem;
+use crate::problem::{Crossing, Problem};
 use std::hint::black_box;
 
 /// Bytes filled below the caller. A call that reaches deeper changes the lowest one, and is reported as such.
@@ -51,15 +51,25 @@ fn sees<const N: usize>() -> bool {
     stack_of(&mut || with_array::<N>()).is_some_and(|bytes| (N..=N + 256).contains(&bytes))
 }
 
-/// The least and the most over these plans, with the visits lent and with none.
-fn range(ours: &mut Ours, problems: &[Problem]) -> Option<(usize, usize)> {
+/// A call on a loaded problem, with the visits lent or with none.
+type Call = fn(&mut Ours, &Problem, bool);
+
+fn route(ours: &mut Ours, p: &Problem, room: bool) {
+    black_box(if room { ours.route(black_box(p)) } else { ours.no_room(black_box(p)) });
+}
+
+fn crossing(ours: &mut Ours, p: &Problem, room: bool) {
+    black_box(if room { ours.crossing(black_box(p)) } else { ours.crossing_no_room(black_box(p)) });
+}
+
+/// The least and the most over these plans, with the visits lent and with none; as nets between two clocks they have equal
+/// periods and a FIFO like the register.
+fn range(ours: &mut Ours, problems: &[Problem], call: Call) -> Option<(usize, usize)> {
     let mut range = (usize::MAX, 0);
     for p in problems {
-        ours.load(p);
+        ours.load_crossing(p, &Crossing { source_period: p.period, fifo: p.register });
         for room in [true, false] {
-            let bytes = stack_of(&mut || {
-                black_box(if room { ours.route(black_box(p)) } else { ours.no_room(black_box(p)) });
-            })?;
+            let bytes = stack_of(&mut || call(ours, p, room))?;
             range = (range.0.min(bytes), range.1.max(bytes));
         }
     }
@@ -72,17 +82,19 @@ fn measure(groups: &[(&str, Vec<Problem>)]) -> bool {
         return false;
     }
     let mut ours = Ours::new();
-    for (name, problems) in groups {
-        let Some((least, most)) = range(&mut ours, problems) else {
-            println!("{name}: more than {DEPTH} bytes");
-            return false;
-        };
-        println!("stack of a route call, {name} ({} plans): {least} to {most} bytes", problems.len());
+    for (what, call) in [("route", route as Call), ("crossing", crossing)] {
+        for (name, problems) in groups {
+            let Some((least, most)) = range(&mut ours, problems, call) else {
+                println!("{name}: a {what} call takes more than {DEPTH} bytes");
+                return false;
+            };
+            println!("stack of a {what} call, {name} ({} plans): {least} to {most} bytes", problems.len());
+        }
     }
     true
 }
 
-/// Each group of plans has a line.
+/// Each group of plans has a line for each call.
 pub fn run(groups: Vec<(&'static str, Vec<Problem>)>) -> bool {
     let thread = std::thread::Builder::new().stack_size(8 * DEPTH);
     thread.spawn(move || measure(&groups)).is_ok_and(|t| t.join().unwrap_or(false))

@@ -2,3 +2,4 @@ pub mod Words
 pub mod Effect
 pub mod Judged
 pub mod Explained
+pub mod Crossed

@@ -12,12 +12,16 @@ use Rattle.answers.specs.declared.answer.Refusal.the-variants.{Grid, Length, Ma
 use Rattle.job.specs.Fields.{tablesOf, tableNumbers, bufferListOf}
 use Rattle.question.specs.Question.{Question, questionOf}
 
--- ten words of tables, three words a buffer, five words for what is told
+-- ten words of tables, three words a buffer
+unfoldable pub inputsRight : ℕ → ℕ → Bool
+inputsRight tables buffers = eqb tables tableNumbers && eqb (buffers % 3) 0
+
+-- and five words for what is told
 abbrev pub resultNumbers : ℕ
 resultNumbers = 5
 
 unfoldable pub lengthsRight : ℕ → ℕ → ℕ → Bool
-lengthsRight tables buffers results = eqb tables tableNumbers && eqb (buffers % 3) 0 && eqb results resultNumbers
+lengthsRight tables buffers results = eqb results resultNumbers && inputsRight tables buffers
 
 -- the list of so many buffers
 unfoldable pub buffersIn : List ℕ → BufferList

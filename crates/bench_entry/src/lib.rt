@@ -1,4 +1,4 @@
-// The benchmark's own entries to the route call, to the verdict and to the reasons, on numbers and lent words; not offered to anyone else.
+// The benchmark's own entries to the route calls of one clock and of two, to the verdict and to the reasons, on numbers and lent words; not offered to anyone else.
 // Each has the whole promise of its call. That the areas lent are as long as said and lie apart is the caller's duty.
 ghost use Prim.Native.Nat.{_≤_};
 ghost use mathlib.Core.Path.{_≡_};
@@ -13,6 +13,8 @@ use crate::words::read_buffers;
 use job::tables_of;
 use router::route_with;
 
+mod crossed;
+mod crossing;
 mod explain;
 mod faults;
 mod figures;
@@ -22,6 +24,7 @@ mod lengths;
 mod why;
 mod words;
 
+pub use crossing::bench_crossing;
 pub use explain::bench_explain;
 pub use judge::bench_judge;
 

@@ -1,11 +1,14 @@
-// Buffers read from words.
+// Buffers and clocks read from words.
 ghost use mathlib.Core.Path.{_≡_};
-ghost use lib.ListN.{getD};
-ghost use Prim.Native.Nat.{_<_};
+ghost use lib.ListN.{length, getD};
+ghost use Prim.Native.Nat.{_<_, _≤_};
 ghost use Rattle.job.specs.Fields.{bufferRecordAt};
 ghost use Rattle.bench_entry.specs.Words.{buffersIn};
+ghost use Rattle.bench_entry.specs.Crossed.{clockNumbers, crossingIn};
 use answers::BufferList;
 use answers::BufferRecord;
+use answers::Crossing;
+use answers::RegisterRecord;
 
 // The word at i, or 0 past the end.
 fn word(words: &[u16], i: usize) -> u16
@@ -38,5 +41,21 @@ pub fn read_buffers(words: &[u16]) -> BufferList
     BufferList {
         n: words.len() / 3,
         items: [b0, b1, b2, b3, b4, b5],
+    }
+}
+
+// The source's period and the FIFO, from five words.
+pub fn read_crossing(words: &[u16]) -> Crossing
+    requires { ⌜ clockNumbers ≤ length (now words) ⌝ }
+    ensures { λ r. ⌜ r ≡ crossingIn (now (words .entry)) ⌝ }
+{
+    Crossing {
+        period: words[0],
+        fifo: RegisterRecord {
+            resistance: words[1],
+            delay: words[2],
+            load: words[3],
+            setup: words[4],
+        },
     }
 }
