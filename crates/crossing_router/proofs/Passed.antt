@@ -12,10 +12,9 @@ use Rattle.answers.specs.Crossing.{clocksOf}
 use Rattle.problem.specs.Problem.{planFor}
 use Rattle.problem.specs.Net.{netRules, NetReady}
 use Rattle.question.specs.Checked.{problemAsked}
-use Rattle.question.proofs.Crossing.{crossing-ready, crossing-clocks}
 use Rattle.crossing_router.specs.Route.{CrossingQuestion, rulesCrossed, checks, passes}
 use Rattle.crossing_router.proofs.BestCrossing.{crossed-best, crossed-none}
-use Rattle.crossing_router.proofs.Refusals.{netAsked}
+use Rattle.crossing_router.proofs.Refusals.{netAsked, net-ready}
 
 -- what a route of the question costs
 abbrev pub latencyAsked : CrossingQuestion → Route → ℕ
@@ -24,7 +23,7 @@ latencyAsked c = crossingLatency (c .crossing .period) (c .question .tables .per
 module _ (c : CrossingQuestion) (scratch : ℕ) (pass : checks c scratch ≡ passes) where
   pub passed-ready : NetReady (netAsked c) (c .question .marks)
   unfolding checks
-  passed-ready = record { ready = crossing-ready c _ pass; clocks = crossing-clocks c _ pass }
+  passed-ready = net-ready c _ pass
 
   -- the executable best route of the question's rules is the best legal route, and there is none exactly where no route is legal
 

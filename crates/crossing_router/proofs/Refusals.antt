@@ -30,8 +30,9 @@ use Rattle.crossing_router.specs.Sides.{TwoAsks, CrossingDone}
 abbrev pub netAsked : CrossingQuestion → Net
 netAsked c = record { problem = problemAsked (c .question); clocks = clocksOf (c .crossing) }
 
-apart : (r : Refusal) → _≡_ {A = Check} passes (fails r) → ⊥
-apart r e = let z : _≡_ {A = ℕ} 0 1 = cc in omega arith
+-- it is ready, whatever follows the first five checks
+pub net-ready : (c : CrossingQuestion) (rest : Check) → crossingChecks c rest ≡ passes → NetReady (netAsked c) (c .question .marks)
+net-ready c rest e = record { ready = crossing-ready c rest e; clocks = crossing-clocks c rest e }
 
 module _ (c : CrossingQuestion) (scratch visits : List ℕ) where
   -- a refusal leaves everything as it is
@@ -43,19 +44,7 @@ module _ (c : CrossingQuestion) (scratch visits : List ℕ) where
   unfolding checks
   refused-five r e = crossing-five-fail c r _ e
 
-  -- passed checks have passed the first five
-  pub first-five : checks c (length scratch) ≡ passes → crossingChecks c passes ≡ passes
-  unfolding checks
-  first-five e = go (crossingChecks c passes) refl
-    where
-      go : (x : Check) → crossingChecks c passes ≡ x → crossingChecks c passes ≡ passes
-      go passes h = h
-      go (fails r) h = absurd (apart r (sym e ∙ crossing-five-fail c r _ h))
-
   module _ (five : crossingChecks c passes ≡ passes) where
-    pub net-ready : NetReady (netAsked c) (c .question .marks)
-    net-ready = record { ready = crossing-ready c passes five; clocks = crossing-clocks c passes five }
-
     pub refused-scratch : length scratch < length (c .question .marks) * crossingWords → checks c (length scratch) ≡ fails Refusal.Scratch
     unfolding checks
     refused-scratch h =
@@ -110,7 +99,7 @@ module _ {c : CrossingQuestion} {k : QuestionCheck} {m : CrossingCheck} (x : Han
   two-asks costs words room h =
       subst (λ (net : Net). TwoAsks net (c .question .marks) costs words) (sym net-is)
       (record {
-        ready = net-ready c words words (x .five);
+        ready = net-ready c passes (x .five);
         two = refl;
         room = room;
         costed = rw (gate-fifo (problemAsked (c .question) .elements) (clocksOf (c .crossing)) fifoCode (omega arith) refl) (rw (x .elements, x .clocks) at h);
