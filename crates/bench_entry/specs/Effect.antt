@@ -3,23 +3,10 @@
 use Prim.Native.Nat.{ℕ}
 use mathlib.Core.Bool.{Bool, true, false}
 use mathlib.Core.Path.{_≡_}
-use mathlib.Core.List.{List, [], _∷_}
-use Rattle.answers.specs.Numbers.{answerNumber, answerFigures}
-use Rattle.answers.specs.declared.answer.Answer.{Answer}
-use Rattle.answers.specs.declared.answer.Answer.the-variants.{Found, NoRoom, Refused}
-use Rattle.timing.specs.Slack.{magnitude}
+use mathlib.Core.List.{List}
+use Rattle.answers.specs.Numbers.{answerNumber}
 use Rattle.router.specs.Route.{Question, answerOf, scratchOf, visitsOf}
-use Rattle.bench_entry.specs.Words.{refusalFault}
-
--- refusal 4's place; 0 for every other answer
-abbrev pub answerFault : Answer → ℕ
-answerFault (Found f) = 0
-answerFault (NoRoom f) = 0
-answerFault (Refused r) = refusalFault 1 r
-
--- registers, steps, latency, fault, spare half-ticks
-unfoldable pub figureWords : Answer → List ℕ
-figureWords a = answerFigures a .registers ∷ answerFigures a .steps ∷ answerFigures a .latency ∷ answerFault a ∷ magnitude (answerFigures a .slack) ∷ []
+use Rattle.bench_words.specs.Figures.{figureWords}
 
 -- the route call's effect
 pub record BenchAnswered (q : Question) (scratch scratch′ visits visits′ figures′ : List ℕ) (r : ℕ) : Type 0 where

@@ -1,4 +1,4 @@
-pub mod Words
+pub mod Question
 pub mod Effect
 pub mod Judged
 pub mod Explained

@@ -18,26 +18,21 @@ use Rattle.best.specs.Best.{Outcome, found, none, best}
 use Rattle.answers.specs.Tables.{elementsOf}
 use Rattle.answers.specs.Crossing.{clocksOf}
 use Rattle.answers.specs.declared.answer.Refusal.{Refusal}
-use Rattle.answers.specs.declared.crossing.CrossingFigures.{CrossingFigures}
 use Rattle.answers.specs.declared.crossing.CrossingAnswer.{CrossingAnswer}
 use Rattle.problem.specs.Problem.{planFor}
 use Rattle.problem.specs.Net.{netRules}
 use Rattle.problem.proofs.Clocks.{net-bound}
 use Rattle.question.specs.Checked.{problemAsked}
-use Rattle.crossing_router.specs.Route.{CrossingQuestion, rulesCrossed, checks, passes, figuresOf, answerFor, answerAfter, crossingAnswerOf, visitsFor, visitsAfter, crossingVisitsOf}
+use Rattle.crossing_router.specs.Route.{CrossingQuestion, rulesCrossed, checks, passes, figuresOf, figuresCrossed, latencyCrossed, answerFor, answerAfter, crossingAnswerOf, visitsFor, visitsAfter, crossingVisitsOf}
 use Rattle.crossing_router.proofs.Refusals.{netAsked}
-use Rattle.crossing_router.proofs.Passed.{latencyAsked, passed-ready, asked-best, asked-none}
-
--- a route's figures; the tables' period is the sink's
-abbrev pub figuresAsked : CrossingQuestion → Route → CrossingFigures
-figuresAsked c = figuresOf (rulesCrossed c) (c .crossing .period) (c .question .tables .period)
+use Rattle.crossing_router.proofs.Passed.{passed-ready, asked-best, asked-none}
 
 -- what demand 2 asks of an answer and of the visits afterwards
 pub data Demand2Crossing (c : CrossingQuestion) (visits after : List ℕ) : CrossingAnswer → Type 0 where
   -- the best legal route, with its figures counted off it, written into the visits
-  isFound : (r : Route) → IsBest (latencyAsked c) (rulesCrossed c) r → Smallest (figuresAsked c r .slack) (slacks (rulesCrossed c) r) → 2 * (steps r + 1) ≤ length visits → after ≡ written r ++ drop (length (written r)) visits → Demand2Crossing c visits after (CrossingAnswer.Found (figuresAsked c r))
+  isFound : (r : Route) → IsBest (latencyCrossed c) (rulesCrossed c) r → Smallest (figuresCrossed c r .slack) (slacks (rulesCrossed c) r) → 2 * (steps r + 1) ≤ length visits → after ≡ written r ++ drop (length (written r)) visits → Demand2Crossing c visits after (CrossingAnswer.Found (figuresCrossed c r))
   -- 8: its figures are the best route's, and the visits stay
-  noRoom : (r : Route) → IsBest (latencyAsked c) (rulesCrossed c) r → Smallest (figuresAsked c r .slack) (slacks (rulesCrossed c) r) → length visits < 2 * (steps r + 1) → after ≡ visits → Demand2Crossing c visits after (CrossingAnswer.NoRoom (figuresAsked c r))
+  noRoom : (r : Route) → IsBest (latencyCrossed c) (rulesCrossed c) r → Smallest (figuresCrossed c r .slack) (slacks (rulesCrossed c) r) → length visits < 2 * (steps r + 1) → after ≡ visits → Demand2Crossing c visits after (CrossingAnswer.NoRoom (figuresCrossed c r))
   -- 7: no legal route exists, and the visits stay
   noRoute : ((r : Route) → T (legal (rulesCrossed c) r) → ⊥) → after ≡ visits → Demand2Crossing c visits after (CrossingAnswer.Refused Refusal.NoRoute)
 
@@ -49,7 +44,7 @@ module _ (c : CrossingQuestion) (scratch visits : List ℕ) (pass : checks c (le
       let net = netAsked c in
       omega (arith, net-bound net (c .question .marks) k f, period-most (planFor (net .problem) (c .question .marks)) (net .problem .elements) (net .clocks) (net .problem .source) (net .problem .sink) (ready .ready .valid) (ready .clocks) f)
 
-  smallest : (r : Route) → best (rulesCrossed c) ≡ found r → Smallest (figuresAsked c r .slack) (slacks (rulesCrossed c) r)
+  smallest : (r : Route) → best (rulesCrossed c) ≡ found r → Smallest (figuresCrossed c r .slack) (slacks (rulesCrossed c) r)
   unfolding figuresOf
   smallest r e = legal-smallest (rulesCrossed c) low r (asked-best c (length scratch) pass r .0 e .isLegal)
 
@@ -59,7 +54,7 @@ module _ (c : CrossingQuestion) (scratch visits : List ℕ) (pass : checks c (le
   by-outcome none e = Demand2Crossing.noRoute (asked-none c (length scratch) pass .0 e) refl
   by-outcome (found r) e = go (decided (leb (2 * (steps r + 1)) (length visits)))
     where
-      go : T (leb (2 * (steps r + 1)) (length visits)) ⊎ T (not (leb (2 * (steps r + 1)) (length visits))) → Demand2Crossing c visits (cond (leb (2 * (steps r + 1)) (length visits)) (written r ++ drop (length (written r)) visits) visits) (cond (leb (2 * (steps r + 1)) (length visits)) (CrossingAnswer.Found (figuresAsked c r)) (CrossingAnswer.NoRoom (figuresAsked c r)))
+      go : T (leb (2 * (steps r + 1)) (length visits)) ⊎ T (not (leb (2 * (steps r + 1)) (length visits))) → Demand2Crossing c visits (cond (leb (2 * (steps r + 1)) (length visits)) (written r ++ drop (length (written r)) visits) visits) (cond (leb (2 * (steps r + 1)) (length visits)) (CrossingAnswer.Found (figuresCrossed c r)) (CrossingAnswer.NoRoom (figuresCrossed c r)))
       go (inl h) = rw (is-true (leb (2 * (steps r + 1)) (length visits)) h) (Demand2Crossing.isFound r (asked-best c (length scratch) pass r .0 e) (smallest r e) (lib.Dec.leb→le _ _ h) refl)
       go (inr h) = rw (is-false (leb (2 * (steps r + 1)) (length visits)) h) (Demand2Crossing.noRoom r (asked-best c (length scratch) pass r .0 e) (smallest r e) (lib.Dec.nleb→lt _ _ h) refl)
 

@@ -5,20 +5,15 @@ use mathlib.Core.Logic.{_↔_}
 use lib.Dec.{T}
 use Rattle.rules.specs.Legal.{Route, legal}
 use Rattle.rules.specs.Ranking.{IsBest}
-use Rattle.rules.specs.Crossing.{crossingLatency}
 use Rattle.best.specs.Best.{found, none, best}
 use Rattle.answers.specs.Tables.{elementsOf}
 use Rattle.answers.specs.Crossing.{clocksOf}
 use Rattle.problem.specs.Problem.{planFor}
 use Rattle.problem.specs.Net.{netRules, NetReady}
 use Rattle.question.specs.Checked.{problemAsked}
-use Rattle.crossing_router.specs.Route.{CrossingQuestion, rulesCrossed, checks, passes}
+use Rattle.crossing_router.specs.Route.{CrossingQuestion, rulesCrossed, latencyCrossed, checks, passes}
 use Rattle.crossing_router.proofs.BestCrossing.{crossed-best, crossed-none}
 use Rattle.crossing_router.proofs.Refusals.{netAsked, net-ready}
-
--- what a route of the question costs
-abbrev pub latencyAsked : CrossingQuestion → Route → ℕ
-latencyAsked c = crossingLatency (c .crossing .period) (c .question .tables .period)
 
 module _ (c : CrossingQuestion) (scratch : ℕ) (pass : checks c scratch ≡ passes) where
   pub passed-ready : NetReady (netAsked c) (c .question .marks)
@@ -27,7 +22,7 @@ module _ (c : CrossingQuestion) (scratch : ℕ) (pass : checks c scratch ≡ pas
 
   -- the executable best route of the question's rules is the best legal route, and there is none exactly where no route is legal
 
-  pub asked-best : (r : Route) → (best (rulesCrossed c) ≡ found r) ↔ IsBest (latencyAsked c) (rulesCrossed c) r
+  pub asked-best : (r : Route) → (best (rulesCrossed c) ≡ found r) ↔ IsBest (latencyCrossed c) (rulesCrossed c) r
   unfolding netRules planFor rulesCrossed elementsOf problemAsked clocksOf
   asked-best = crossed-best (netAsked c) (c .question .marks) passed-ready refl
 

@@ -40,6 +40,13 @@ unfoldable pub figuresOf : Rules → ℕ → ℕ → Route → CrossingFigures
 figuresOf R source sink r =
     record { source = sourceRegisters r; sink = sinkRegisters r; steps = steps r; latency = crossingLatency source sink r; slack = leastSlack R r }
 
+-- of the net asked about, a route's figures and its latency
+abbrev pub figuresCrossed : CrossingQuestion → Route → CrossingFigures
+figuresCrossed c = figuresOf (rulesCrossed c) (c .crossing .period) (c .question .tables .period)
+
+abbrev pub latencyCrossed : CrossingQuestion → Route → ℕ
+latencyCrossed c = crossingLatency (c .crossing .period) (c .question .tables .period)
+
 -- Found, 8 or 7, by the words lent for the visits: two a visit
 unfoldable pub answerFor : Rules → ℕ → ℕ → ℕ → Outcome → CrossingAnswer
 answerFor R source sink room (found r) =

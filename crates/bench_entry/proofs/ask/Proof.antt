@@ -1,8 +1,8 @@
 -- The question of the words is the one that the route call was asked.
 use mathlib.Core.Path.{ap, _∙_}
 use borrow.Author.Needs.{needs}
-use Rattle.bench_entry.specs.Words.{benchQuestion}
-use Rattle.bench_entry.specs.Effect.{figureWords}
+use Rattle.bench_entry.specs.Question.{benchQuestion}
+use Rattle.bench_words.specs.Figures.{figureWords}
 use Rattle.answers.specs.Numbers.{answerNumber}
 use Rattle.bench_entry.proofs.ask.Statement.{statement}
 use Rattle.bench_entry.proofs.ask.Tie as tie

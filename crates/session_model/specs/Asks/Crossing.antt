@@ -7,14 +7,12 @@ use lib.Dec.{T, leb}
 use lib.ListN.{length, take}
 use Rattle.rules.specs.Legal.{Route, legal}
 use Rattle.rules.specs.Ranking.{steps, written, IsBest}
-use Rattle.rules.specs.Crossing.{crossingLatency}
 use Rattle.best.specs.Best.{Outcome, found, none, best}
 use Rattle.answers.specs.Numbers.{crossedWords}
 use Rattle.answers.specs.declared.records.Crossing.{Crossing}
 use Rattle.answers.specs.declared.answer.Refusal.{Refusal}
-use Rattle.answers.specs.declared.crossing.CrossingFigures.{CrossingFigures}
 use Rattle.answers.specs.declared.crossing.CrossingAnswer.{CrossingAnswer}
-use Rattle.crossing_router.specs.Route.{crossingWords, CrossingQuestion, rulesCrossed, Check, passes, fails, checks, figuresOf, crossingAnswerOf, crossingScratchOf, crossingVisitsOf}
+use Rattle.crossing_router.specs.Route.{crossingWords, CrossingQuestion, rulesCrossed, Check, passes, fails, checks, figuresCrossed, latencyCrossed, crossingAnswerOf, crossingScratchOf, crossingVisitsOf}
 use Rattle.session_model.specs.Asks.Asking.{Asking, asked, zeroedWords, zeros}
 
 -- the call is told the source's clock and the FIFO, and lent scratch words and visits, too
@@ -41,13 +39,9 @@ pub record AlikeCrossings (a b : CrossingAsk) : Type 0 where
   pub scratch : length (a .scratch) ≡ length (b .scratch)
   pub visits : length (a .visits) ≡ length (b .visits)
 
--- a route's figures; the tables' period is the sink's
-abbrev pub figuresCrossed : CrossingQuestion → Route → CrossingFigures
-figuresCrossed c r = figuresOf (rulesCrossed c) (c .crossing .period) (c .question .tables .period) r
-
 -- the best legal route: by its latency with both periods, then steps and written order
 abbrev pub BestCrossed : CrossingQuestion → Route → Type 0
-BestCrossed c r = IsBest (crossingLatency (c .crossing .period) (c .question .tables .period)) (rulesCrossed c) r
+BestCrossed c r = IsBest (latencyCrossed c) (rulesCrossed c) r
 
 -- What the call gives: its contract (crossing_router/specs/Route.antt).
 

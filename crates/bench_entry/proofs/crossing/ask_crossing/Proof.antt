@@ -2,14 +2,10 @@
 use mathlib.Core.Path.{ap, _∙_}
 use borrow.Author.Needs.{needs}
 use Rattle.answers.specs.Numbers.{crossingNumber}
-use Rattle.bench_entry.specs.Crossed.{benchCrossing, crossedFigures}
+use Rattle.bench_words.specs.Crossed.{crossedFigures}
+use Rattle.bench_entry.specs.Crossed.{benchCrossing}
 use Rattle.bench_entry.proofs.crossing.ask_crossing.Statement.{statement}
 use Rattle.bench_entry.proofs.crossing.ask_crossing.Tie as tie
-use Rattle.bench_entry.proofs.crossing.ask_crossing.Reads as reads
-use Rattle.bench_entry.proofs.crossing.ask_crossing.Lts as lts
-use Rattle.bench_entry.proofs.crossed.write_crossed.Reads as write-crossed-reads
-use Rattle.bench_entry.proofs.words.read_buffers.Reads as read-buffers-reads
-use Rattle.bench_entry.proofs.words.read_crossing.Reads as read-crossing-reads
 
 tables-of-requires : tie.Need-tables-of-requires
 tables-of-requires c κs = search needs

@@ -1,13 +1,9 @@
 -- The lengths decide; where they are right, the call was asked.
 use mathlib.Core.Path.{refl, sym, _∙_}
 use borrow.Author.Needs.{needs}
-use Rattle.bench_entry.proofs.Told.{right-crossing-lengths}
+use Rattle.bench_words.proofs.Told.{right-crossing-lengths}
 use Rattle.bench_entry.proofs.crossing.bench_crossing.Statement.{statement}
 use Rattle.bench_entry.proofs.crossing.bench_crossing.Tie as tie
-use Rattle.bench_entry.proofs.crossing.bench_crossing.Reads as reads
-use Rattle.bench_entry.proofs.crossing.bench_crossing.Lts as lts
-use Rattle.bench_entry.proofs.crossing.ask_crossing.Reads as ask-crossing-reads
-use Rattle.bench_entry.proofs.lengths.crossing_lengths_right.Reads as crossing-lengths-right-reads
 
 crossing-lengths-right-requires : tie.Need-crossing-lengths-right-requires
 crossing-lengths-right-requires c κs = search needs

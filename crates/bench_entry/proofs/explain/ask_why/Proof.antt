@@ -1,8 +1,8 @@
 -- The question of the words is the one that was asked.
 use mathlib.Core.Path.{ap, _∙_}
 use borrow.Author.Needs.{needs}
-use Rattle.bench_entry.specs.Words.{benchQuestion}
-use Rattle.bench_entry.specs.Explained.{whyOf, whyWords}
+use Rattle.bench_entry.specs.Question.{benchQuestion}
+use Rattle.bench_words.specs.Explained.{whyOf, whyWords}
 use Rattle.answers.specs.Numbers.{explainedNumber}
 use Rattle.bench_entry.proofs.explain.ask_why.Statement.{statement}
 use Rattle.bench_entry.proofs.explain.ask_why.Tie as tie

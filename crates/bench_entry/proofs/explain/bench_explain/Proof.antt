@@ -1,7 +1,7 @@
 -- The lengths decide; where they are right, the reasons were asked.
 use mathlib.Core.Path.{refl, sym, _∙_}
 use borrow.Author.Needs.{needs}
-use Rattle.bench_entry.proofs.Told.{right-lengths}
+use Rattle.bench_words.proofs.Told.{right-lengths}
 use Rattle.bench_entry.proofs.explain.bench_explain.Statement.{statement}
 use Rattle.bench_entry.proofs.explain.bench_explain.Tie as tie
 

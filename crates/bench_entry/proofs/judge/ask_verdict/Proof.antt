@@ -1,8 +1,8 @@
 -- The question of the words is the one that the verdict was asked.
 use mathlib.Core.Path.{ap, _∙_}
 use borrow.Author.Needs.{needs}
-use Rattle.bench_entry.specs.Words.{benchQuestion}
-use Rattle.bench_entry.specs.Judged.{foundOf, foundWords}
+use Rattle.bench_entry.specs.Question.{benchQuestion}
+use Rattle.bench_words.specs.Judged.{foundOf, foundWords}
 use Rattle.answers.specs.Numbers.{verdictNumber}
 use Rattle.bench_entry.proofs.judge.ask_verdict.Statement.{statement}
 use Rattle.bench_entry.proofs.judge.ask_verdict.Tie as tie
