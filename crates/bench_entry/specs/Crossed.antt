@@ -11,6 +11,7 @@ use Rattle.bench_words.specs.Words.{buffersIn}
 use Rattle.bench_words.specs.Crossed.{crossingIn, crossedFigures}
 use Rattle.bench_entry.specs.Effect.{WrongLength}
 
+-- the question that numbers and words make; T among the tables' words is the sink's
 unfoldable pub benchCrossing : List ℕ → ℕ → ℕ → List ℕ → List ℕ → List ℕ → ℕ → ℕ → CrossingQuestion
 benchCrossing marks w h tables clocks buffers a b = crossingOf marks w h (tablesOf tables) (crossingIn clocks) (buffersIn buffers) a b
 
