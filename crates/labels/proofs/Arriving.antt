@@ -1,4 +1,4 @@
--- New seeds are listed, so the active list stays right.
+-- New seeds are listed, or give nothing more, so the active list stays right.
 use Prim.Native.Nat.{ℕ, zero, suc, _+_, _*_, _≤_, _<_}
 use mathlib.Core.Path.{_≡_, refl, sym, _∙_}
 use mathlib.Core.Bool.{Bool, false}
@@ -8,20 +8,24 @@ use native.Mathlib.Omega.{arith}
 use lib.Dec.{T}
 use lib.ListN.{getD}
 use Rattle.rules.specs.Rules.{Rules, registerCode, fifoCode, isClosing}
-use Rattle.rules.proofs.View.{closing-codes}
+use Rattle.rules.proofs.View.{closing-codes, register-closing, fifo-closing}
 use Rattle.plan.proofs.Truth.{split, equal}
+use Rattle.budget.specs.Table.{loadAt}
 use Rattle.budget.specs.Colours.{InStep}
 use Rattle.budget.proofs.Active.{arrival-row, arrival-none, given-row, given-none}
 use Rattle.layout.specs.Layout.{arrivalAt, labelsAt, exitsAt, activeAt, listedAt, seedsAt, trailAt}
 use Rattle.lists.specs.Lists.{flagOf, Listed}
-use Rattle.lists.proofs.Lists.{listed-none}
+use Rattle.lists.proofs.Lists.{bit-cases, listed-none}
 use Rattle.costs.specs.Costs.{rowWords}
 use Rattle.table.specs.Problem.{budgetOf, seedWord, marksSeed, seedOf}
 use Rattle.table.specs.Layer.{arrivals, Settled, ActiveIn}
 use Rattle.table.specs.Colours.{Coloured}
 use Rattle.table.proofs.Views.{inside, budget-at, budget-outside, budget-kept}
 use Rattle.labels.specs.Labels.{orderOf}
+use Rattle.labels.specs.declared.both.Idle.{Idle}
 use Rattle.labels.specs.Both.{ArrivedBoth}
+use Rattle.labels.specs.Idle.{IdleRight}
+use Rattle.labels.proofs.Idle.{Instead, arrival-less, given-less}
 
 -- a place in the order, or none
 abbrev pub Found : ℕ → ℕ → List ℕ → ℕ → ℕ → ℕ → Type 0
@@ -43,8 +47,8 @@ find n set words c at (suc end) = go (find n set words c at end) (equal (orderOf
         pick i lo hi q (inr e) = f i lo (omega arith) q
 
 -- the active cells stay of one colour when cells of it join them
-pub coloured-arrived : {R : Rules} {n s : ℕ} {old new : List ℕ} → Coloured R n s old → {at count exit exits k t to out active : ℕ} → ((i : ℕ) → at ≤ i → i < to → InStep R s (orderOf n (n * labelsAt) old i)) → ((i : ℕ) → exit ≤ i → i < out → InStep R s (orderOf n (n * exitsAt) old i)) → ArrivedBoth n at count exit exits k t old new to out active → Coloured R n s new
-coloured-arrived {R} {n} {s} {old} {new} was {at} {count} {exit} {exits} {k} {t} {to} {out} near far a =
+pub coloured-arrived : {R : Rules} {n s : ℕ} {old new : List ℕ} → Coloured R n s old → {idle : Idle} {at count exit exits k t to out active : ℕ} → ((i : ℕ) → at ≤ i → i < to → InStep R s (orderOf n (n * labelsAt) old i)) → ((i : ℕ) → exit ≤ i → i < out → InStep R s (orderOf n (n * exitsAt) old i)) → ArrivedBoth n idle at count exit exits k t old new to out active → Coloured R n s new
+coloured-arrived {R} {n} {s} {old} {new} was {idle} {at} {count} {exit} {exits} {k} {t} {to} {out} near far a =
     record { inStep = λ c h f. go c h f (find n (n * labelsAt) old c at to) (find n (n * exitsAt) old c exit out) }
   where
     go : (c : ℕ) → c < n → flagOf n new c ≡ 1 → Found n (n * labelsAt) old c at to → Found n (n * exitsAt) old c exit out → InStep R s c
@@ -76,22 +80,69 @@ module _ (R : Rules) (n top : ℕ) (old new : List ℕ) where
         settled = λ c h t z. let w = was c h t z in settled-kept c kept (w .1 .1) (a .settled c h (w .0) (w .1 .0));
       }
 
-  pub active-arrived : {P : ℕ → Bool} (at count exit exits k s to out before after : ℕ) → ActiveIn R n top P old before → ArrivedBoth n at count exit exits k s old new to out after → ActiveIn R n top P new after
-  active-arrived at count exit exits k s to out before after a r =
-      active-kept a (r .listed) (λ k q. r .low k (omega arith)) (λ c h t z. (t, go c h z))
-    where
-      go : (c : ℕ) → c < n → flagOf n new c ≡ 0 → (flagOf n old c ≡ 0) × SameSeeds n old new c
-      go c h z = (sym (r .otherFlags c h near far) ∙ z, λ code shut. same code (closing-codes code shut))
+  module _ {idle : Idle} (right : IdleRight R idle) (at count exit exits k s to out after : ℕ) (r : ArrivedBoth n idle at count exit exits k s old new to out after) where
+    rows-kept : (c l : ℕ) → budgetOf n new c l ≡ budgetOf n old c l
+    rows-kept = budget-kept n old new (λ i lo hi. r .low i (omega arith))
+
+    -- a seed of an unlisted cell was one, or came where one of the other code was that closes as quickly
+    module _ (c : ℕ) (h : c < n) (z : flagOf n new c ≡ 0) where
+      unflagged : (flagOf n old c ≡ 0) ⊎ (flagOf n old c ≡ 1) → flagOf n old c ≡ 0
+      unflagged (inl e) = e
+      unflagged (inr e) = absurd (omega (arith, r .flagsStay c h e))
+
+      register-was : T (seedOf n new registerCode c) → Found n (n * labelsAt) old c at to → T (seedOf n old registerCode c) ⊎ (T (idle .registers) × T (seedOf n old fifoCode c))
+      register-was t (inr none) = inl (rw (← r .near .otherSeeds c h none) t)
+      register-was t (inl p) = inr (go (r .nearFlags (p .0) (p .1) (p .2)))
         where
-          near : (i : ℕ) → at ≤ i → i < to → orderOf n (n * labelsAt) old i ≡ c → ⊥
-          near i lo hi e = let w : flagOf n new c ≡ 1 = rw e at (r .near .flags i lo hi) in omega arith
+          go : (flagOf n new (orderOf n (n * labelsAt) old (p .0)) ≡ 1) ⊎ (T (idle .registers) × T (seedOf n old fifoCode (orderOf n (n * labelsAt) old (p .0)))) → T (idle .registers) × T (seedOf n old fifoCode c)
+          go (inl f) = let w : flagOf n new c ≡ 1 = rw (p .3) at f in absurd (omega arith)
+          go (inr f) = rw (p .3) at f
 
-          far : (i : ℕ) → exit ≤ i → i < out → orderOf n (n * exitsAt) old i ≡ c → ⊥
-          far i lo hi e = let w : flagOf n new c ≡ 1 = rw e at (r .far .flags i lo hi) in omega arith
+      fifo-was : T (seedOf n new fifoCode c) → Found n (n * exitsAt) old c exit out → T (seedOf n old fifoCode c) ⊎ (T (idle .fifos) × T (seedOf n old registerCode c))
+      fifo-was t (inr none) = inl (rw (← r .far .otherSeeds c h none) t)
+      fifo-was t (inl p) = go (r .farFlags (p .0) (p .1) (p .2))
+        where
+          both : T (idle .fifos) → T (seedOf n old registerCode c) ⊎ (T (idle .registers) × T (seedOf n old fifoCode c)) → T (seedOf n old fifoCode c) ⊎ (T (idle .fifos) × T (seedOf n old registerCode c))
+          both i (inl s) = inr (i, s)
+          both i (inr s) = inl (s .1)
 
-          same : (code : ℕ) → (code ≡ registerCode) ⊎ (code ≡ fifoCode) → seedOf n new code c ≡ seedOf n old code c
-          same code (inl e) = rw e (r .near .otherSeeds c h near)
-          same code (inr e) = rw e (r .far .otherSeeds c h far)
+          go : (flagOf n new (orderOf n (n * exitsAt) old (p .0)) ≡ 1) ⊎ (T (idle .fifos) × T (seedOf n new registerCode (orderOf n (n * exitsAt) old (p .0)))) → T (seedOf n old fifoCode c) ⊎ (T (idle .fifos) × T (seedOf n old registerCode c))
+          go (inl f) = let w : flagOf n new c ≡ 1 = rw (p .3) at f in absurd (omega arith)
+          go (inr f) = let w : T (seedOf n new registerCode c) = rw (p .3) at (f .1) in both (f .0) (register-was w (find n (n * labelsAt) old c at to))
+
+      instead : (m l : ℕ) → T (R .linked m c) → (code : ℕ) → T (isClosing code) → T (seedOf n new code c) → loadAt R m c l ≤ R .limit → Instead R (seedOf n old) c code (loadAt R m c l)
+      instead m l linked code shut t fits = go (closing-codes code shut)
+        where
+          same : (code : ℕ) → T (isClosing code) → T (seedOf n old code c) → Instead R (seedOf n old) c code (loadAt R m c l)
+          same code shut t = record { by = code; closes = shut; seeded = t; quick = omega arith }
+
+          register : T (seedOf n old registerCode c) ⊎ (T (idle .registers) × T (seedOf n old fifoCode c)) → Instead R (seedOf n old) c registerCode (loadAt R m c l)
+          register (inl s) = same registerCode (register-closing registerCode refl) s
+          register (inr s) = record { by = fifoCode; closes = fifo-closing fifoCode refl; seeded = s .1; quick = right .registers (s .0) c m l linked fits }
+
+          fifo : T (seedOf n old fifoCode c) ⊎ (T (idle .fifos) × T (seedOf n old registerCode c)) → Instead R (seedOf n old) c fifoCode (loadAt R m c l)
+          fifo (inl s) = same fifoCode (fifo-closing fifoCode refl) s
+          fifo (inr s) = record { by = registerCode; closes = register-closing registerCode refl; seeded = s .1; quick = right .fifos (s .0) c m l linked fits }
+
+          go : (code ≡ registerCode) ⊎ (code ≡ fifoCode) → Instead R (seedOf n old) c code (loadAt R m c l)
+          go (inl e) = rw e (register (register-was (rw e at t) (find n (n * labelsAt) old c at to)))
+          go (inr e) = rw e (fifo (fifo-was (rw e at t) (find n (n * exitsAt) old c exit out)))
+
+      settled-still : Settled R n top old c → Settled R n top new c
+      settled-still was m l =
+          omega (
+            arith,
+            given-less R (arrivals R n top old) (arrivals R n top new) c m l (λ t. arrival-less R (seedOf n old) (seedOf n new) top (budgetOf n old) (budgetOf n new) c (loadAt R m c l) (rows-kept c) (instead m l t)),
+            was m l,
+            rows-kept m l,
+          )
+
+    pub active-arrived : {P : ℕ → Bool} {before : ℕ} → ActiveIn R n top P old before → ActiveIn R n top P new after
+    active-arrived a =
+        record {
+          listed = r .listed;
+          settled = λ c h t z. settled-still c h z (a .settled c h t (unflagged c h z (bit-cases (flagOf n old c) (a .listed .bits c h))));
+        }
 
 -- rows of zeros are a table of zeros
 pub cleared-table : (n : ℕ) (words : List ℕ) → ((i : ℕ) → i < n * arrivalAt → getD words i 0 ≡ 0) → (c l : ℕ) → budgetOf n words c l ≡ 0

@@ -10,8 +10,9 @@ use Rattle.rules.specs.Rules.{registerCode, fifoCode, isClosing}
 use Rattle.rules.proofs.View.{register-closing, fifo-closing}
 use Rattle.layout.specs.Layout.{labelsAt, exitsAt, asideAt, orderIn, labelWords, activeAt, trailAt}
 use Rattle.lists.specs.Lists.{flagOf}
-use Rattle.lists.proofs.Lists.{listed-some}
+use Rattle.table.specs.Problem.{seedOf}
 use Rattle.labels.specs.Labels.{knownOf, orderOf, LabelBy, LabelAfter, SameLabel, ArriveAsks, Arrived, ArrivedAll}
+use Rattle.labels.specs.declared.both.Idle.{Idle}
 use Rattle.labels.specs.Both.{OrderAsks, BothAsk, Comes, ArrivedBoth}
 use Rattle.labels.proofs.Labels.{known-below, label-kept, known-kept, set-in, set-apart, exits-in, exits-apart}
 
@@ -29,7 +30,7 @@ near-asks n at count exit exits active words asks =
       closes = register-closing registerCode refl;
     }
 
-module _ (n at count exit exits k s active : ℕ) (old mid : List ℕ) (to next : ℕ) (asks : BothAsk n at count exit exits active old) (near : ArrivedAll n (n * labelsAt) registerCode at count k s old mid to next) where
+module _ (n : ℕ) (idle : Idle) (at count exit exits k s active : ℕ) (old mid : List ℕ) (to next : ℕ) (asks : BothAsk n at count exit exits active old) (near : ArrivedAll n (n * labelsAt) registerCode (idle .registers) at count k s old mid to next) where
   abbrev x : ℕ
   x = n * exitsAt
 
@@ -63,7 +64,7 @@ module _ (n at count exit exits k s active : ℕ) (old mid : List ℕ) (to next 
   apart-codes z = omega arith
 
   -- no FIFO waits
-  pub both-near : exit ≡ exits → ArrivedBoth n at count exit exits k s old mid to exit next
+  pub both-near : exit ≡ exits → ArrivedBoth n idle at count exit exits k s old mid to exit next
   both-near e =
       let a = near .arrived in
       record {
@@ -77,7 +78,6 @@ module _ (n at count exit exits k s active : ℕ) (old mid : List ℕ) (to next 
               seeds = a .seeds;
               seedsStay = a .seedsStay;
               otherSeeds = a .otherSeeds;
-              flags = a .flags;
             };
         far =
             record {
@@ -88,22 +88,18 @@ module _ (n at count exit exits k s active : ℕ) (old mid : List ℕ) (to next 
               seeds = λ i h j. absurd (omega arith);
               seedsStay = λ c h t. rw (a .otherCodes fifoCode (fifo-closing fifoCode refl) (λ z. omega arith) c h) t;
               otherSeeds = λ c h g. a .otherCodes fifoCode (fifo-closing fifoCode refl) (λ z. omega arith) c h;
-              flags = λ i h j. absurd (omega arith);
             };
         listed = a .listed;
-        someListed = λ h. some h;
+        nearFlags = a .flags;
+        farFlags = λ i h j. absurd (omega arith);
         flagsStay = a .flagsStay;
         otherFlags = λ c h g f. a .otherFlags c h g;
         low = a .low;
         middle = a .middle;
         high = a .high;
       }
-    where
-      some : (at < to) ⊎ (exit < exit) → 0 < next
-      some (inl h) = near .arrived .someListed h
-      some (inr h) = absurd (omega arith)
 
-  module _ (waits : exit < exits) (new : List ℕ) (out last : ℕ) (far : ArrivedAll n x fifoCode exit exits k s mid new out last) where
+  module _ (waits : exit < exits) (new : List ℕ) (out last : ℕ) (far : ArrivedAll n x fifoCode (idle .fifos) exit exits k s mid new out last) where
     in-plan : (i : ℕ) → i < exits → orderOf n x old i < n
     in-plan i h = known-below n x old _ (asks .far waits .known i h)
 
@@ -118,7 +114,7 @@ module _ (n at count exit exits k s active : ℕ) (old mid : List ℕ) (to next 
         let e = label (orderOf n x old i) (in-plan i h) in
         rw (← e .weight, ← e .steps) (rw (place i) at b)
 
-    pub both-far : ArrivedBoth n at count exit exits k s old new to out last
+    pub both-far : ArrivedBoth n idle at count exit exits k s old new to out last
     both-far =
         let a = near .arrived in
         let b = far .arrived in
@@ -133,7 +129,6 @@ module _ (n at count exit exits k s active : ℕ) (old mid : List ℕ) (to next 
                 seeds = λ i h j. rw (b .otherCodes registerCode (register-closing registerCode refl) apart-codes _ (register-in i (omega (arith, near .within)))) (a .seeds i h j);
                 seedsStay = λ c h t. rw (b .otherCodes registerCode (register-closing registerCode refl) apart-codes c h) (a .seedsStay c h t);
                 otherSeeds = λ c h g. b .otherCodes registerCode (register-closing registerCode refl) apart-codes c h ∙ a .otherSeeds c h g;
-                flags = λ i h j. b .flagsStay _ (register-in i (omega (arith, near .within))) (a .flags i h j);
               };
           far =
               record {
@@ -144,10 +139,10 @@ module _ (n at count exit exits k s active : ℕ) (old mid : List ℕ) (to next 
                 seeds = λ i h j. rw (← place i) (b .seeds i h j);
                 seedsStay = λ c h t. b .seedsStay c h (rw (a .otherCodes fifoCode (fifo-closing fifoCode refl) (λ z. omega arith) c h) t);
                 otherSeeds = λ c h g. b .otherSeeds c h (λ i l j e. g i l j (sym (place i) ∙ e)) ∙ a .otherCodes fifoCode (fifo-closing fifoCode refl) (λ z. omega arith) c h;
-                flags = λ i h j. rw (← place i) (b .flags i h j);
               };
           listed = b .listed;
-          someListed = λ h. some h;
+          nearFlags = λ i h j. near-flag i (omega (arith, near .within)) (a .flags i h j);
+          farFlags = λ i h j. far-flag i (omega (arith, far .within)) (b .flags i h j);
           flagsStay = λ c h t. b .flagsStay c h (a .flagsStay c h t);
           otherFlags = λ c h g f. b .otherFlags c h (λ i l j e. f i l j (sym (place i) ∙ e)) ∙ a .otherFlags c h g;
           low = λ i h. b .low i h ∙ a .low i h;
@@ -158,6 +153,11 @@ module _ (n at count exit exits k s active : ℕ) (old mid : List ℕ) (to next 
         register-in : (i : ℕ) → i < count → orderOf n (n * labelsAt) old i < n
         register-in i h = known-below n (n * labelsAt) old _ (asks .near .known i h)
 
-        some : (at < to) ⊎ (exit < out) → 0 < last
-        some (inl h) = listed-some (far .arrived .listed) _ (register-in at (omega (arith, near .within))) (far .arrived .flagsStay _ (register-in at (omega (arith, near .within))) (near .arrived .flags at (omega arith) h))
-        some (inr h) = far .arrived .someListed h
+        near-flag : (i : ℕ) → i < count → (flagOf n mid (orderOf n (n * labelsAt) old i) ≡ 1) ⊎ (T (idle .registers) × T (seedOf n old fifoCode (orderOf n (n * labelsAt) old i))) → (flagOf n new (orderOf n (n * labelsAt) old i) ≡ 1) ⊎ (T (idle .registers) × T (seedOf n old fifoCode (orderOf n (n * labelsAt) old i)))
+        near-flag i h (inl f) = inl (far .arrived .flagsStay _ (register-in i h) f)
+        near-flag i h (inr f) = inr f
+
+        far-flag : (i : ℕ) → i < exits → (flagOf n new (orderOf n x mid i) ≡ 1) ⊎ (T (idle .fifos) × T (seedOf n mid registerCode (orderOf n x mid i))) → (flagOf n new (orderOf n x old i) ≡ 1) ⊎ (T (idle .fifos) × T (seedOf n new registerCode (orderOf n x old i)))
+        far-flag i h (inl f) = inl (rw (← place i) f)
+        far-flag i h (inr f) =
+            inr (f .0, rw (far .arrived .otherCodes registerCode (register-closing registerCode refl) apart-codes _ (in-plan i h)) (rw (← place i) (f .1)))

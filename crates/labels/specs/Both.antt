@@ -9,6 +9,7 @@ use Rattle.rules.specs.Rules.{registerCode, fifoCode}
 use Rattle.layout.specs.Layout.{labelsAt, exitsAt, asideAt, activeAt, nextAt, listedAt, trailAt}
 use Rattle.lists.specs.Lists.{flagOf, Listed}
 use Rattle.table.specs.Problem.{seedOf}
+use Rattle.labels.specs.declared.both.Idle.{Idle}
 use Rattle.labels.specs.Labels.{knownOf, orderOf, LabelBy, LabelAfter}
 
 -- the places of an order up to `count` have labelled cells, and `at` is one of them or the end
@@ -36,15 +37,16 @@ pub record Comes (n set code from count k s : ℕ) (old new : List ℕ) (to : �
   pub seeds : (i : ℕ) → from ≤ i → i < to → T (seedOf n new code (orderOf n set old i))
   pub seedsStay : (c : ℕ) → c < n → T (seedOf n old code c) → T (seedOf n new code c)
   pub otherSeeds : (c : ℕ) → c < n → ((i : ℕ) → from ≤ i → i < to → orderOf n set old i ≡ c → ⊥) → seedOf n new code c ≡ seedOf n old code c
-  pub flags : (i : ℕ) → from ≤ i → i < to → flagOf n new (orderOf n set old i) ≡ 1
 
 -- After `arrive_both`: it went up to `to` in one order and up to `out` in the other.
-pub record ArrivedBoth (n at count exit exits k s : ℕ) (old new : List ℕ) (to out active : ℕ) : Type 0 where
+pub record ArrivedBoth (n : ℕ) (idle : Idle) (at count exit exits k s : ℕ) (old new : List ℕ) (to out active : ℕ) : Type 0 where
   pub same : length new ≡ length old
   pub near : Comes n (n * labelsAt) registerCode at count k s old new to
   pub far : Comes n (n * exitsAt) fifoCode exit exits k s old new out
   pub listed : Listed n new (n * activeAt) active
-  pub someListed : (at < to) ⊎ (exit < out) → 0 < active
+  -- a label's cell is listed, or was a seed of the other code when an idle one came
+  pub nearFlags : (i : ℕ) → at ≤ i → i < to → (flagOf n new (orderOf n (n * labelsAt) old i) ≡ 1) ⊎ (T (idle .registers) × T (seedOf n old fifoCode (orderOf n (n * labelsAt) old i)))
+  pub farFlags : (i : ℕ) → exit ≤ i → i < out → (flagOf n new (orderOf n (n * exitsAt) old i) ≡ 1) ⊎ (T (idle .fifos) × T (seedOf n new registerCode (orderOf n (n * exitsAt) old i)))
   pub flagsStay : (c : ℕ) → c < n → flagOf n old c ≡ 1 → flagOf n new c ≡ 1
   -- a flag that was set since is a label's
   pub otherFlags :

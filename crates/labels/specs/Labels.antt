@@ -130,11 +130,15 @@ pub record MarkedWith (word code r : ℕ) : Type 0 where
   pub has : T (marksSeed r code)
   pub others : (a : ℕ) → T (isClosing a) → (a ≡ code → ⊥) → marksSeed r a ≡ marksSeed word a
 
--- After `plant`: the cell is a seed for gates of this code, and listed; the flags of other cells, and all words but those of the active list and the flags, stay.
-pub record Planted (n cell code : ℕ) (old new : List ℕ) (active : ℕ) : Type 0 where
+-- the other one of the two codes that close a span
+abbrev pub otherCode : ℕ → ℕ
+otherCode code = registerCode + fifoCode - code
+
+-- After `plant`: the cell is a seed for gates of this code, and listed, or the code is idle and the cell was a seed of the other; the flags of other cells, and all words but those of the active list and the flags, stay.
+pub record Planted (n cell code : ℕ) (idle : Bool) (old new : List ℕ) (active : ℕ) : Type 0 where
   pub same : length new ≡ length old
   pub listed : Listed n new (n * activeAt) active
-  pub nowFlagged : flagOf n new cell ≡ 1
+  pub nowFlagged : (flagOf n new cell ≡ 1) ⊎ (T idle × (T (seedOf n old (otherCode code) cell) × (flagOf n new cell ≡ flagOf n old cell)))
   pub nowSeed : T (seedOf n new code cell)
   pub others : (c : ℕ) → c < n → (c ≡ cell → ⊥) → flagOf n new c ≡ flagOf n old c
   pub otherSeeds : (c : ℕ) → c < n → (c ≡ cell → ⊥) → (a : ℕ) → seedOf n new a c ≡ seedOf n old a c
@@ -155,17 +159,16 @@ pub record ArriveAsks (n set code at count active : ℕ) (words : List ℕ) : Ty
   pub closes : T (isClosing code)
 
 -- The labels of the order from `from` up to `to`, none after weight k and s steps, have become seeds; `active` cells are listed.
-pub record Arrived (n set code from to k s : ℕ) (old new : List ℕ) (active : ℕ) : Type 0 where
+pub record Arrived (n set code : ℕ) (idle : Bool) (from to k s : ℕ) (old new : List ℕ) (active : ℕ) : Type 0 where
   pub same : length new ≡ length old
   pub forth : from ≤ to
   pub inTime : (i : ℕ) → from ≤ i → i < to → LabelBy n set old k s (orderOf n set old i)
   pub listed : Listed n new (n * activeAt) active
-  pub someListed : from < to → 0 < active
   pub seeds : (i : ℕ) → from ≤ i → i < to → T (seedOf n new code (orderOf n set old i))
   pub seedsStay : (c : ℕ) → c < n → T (seedOf n old code c) → T (seedOf n new code c)
   pub otherSeeds : (c : ℕ) → c < n → ((i : ℕ) → from ≤ i → i < to → orderOf n set old i ≡ c → ⊥) → seedOf n new code c ≡ seedOf n old code c
   pub otherCodes : (a : ℕ) → T (isClosing a) → (a ≡ code → ⊥) → (c : ℕ) → c < n → seedOf n new a c ≡ seedOf n old a c
-  pub flags : (i : ℕ) → from ≤ i → i < to → flagOf n new (orderOf n set old i) ≡ 1
+  pub flags : (i : ℕ) → from ≤ i → i < to → (flagOf n new (orderOf n set old i) ≡ 1) ⊎ (T idle × T (seedOf n old (otherCode code) (orderOf n set old i)))
   pub flagsStay : (c : ℕ) → c < n → flagOf n old c ≡ 1 → flagOf n new c ≡ 1
   pub otherFlags : (c : ℕ) → c < n → ((i : ℕ) → from ≤ i → i < to → orderOf n set old i ≡ c → ⊥) → flagOf n new c ≡ flagOf n old c
   pub low : (k : ℕ) → k < n * activeAt → getD new k 0 ≡ getD old k 0
@@ -173,7 +176,7 @@ pub record Arrived (n set code from to k s : ℕ) (old new : List ℕ) (active :
   pub high : (k : ℕ) → n * trailAt ≤ k → getD new k 0 ≡ getD old k 0
 
 -- After `arrive`: it went up to `to`, the end of the order or the first label that is after them.
-pub record ArrivedAll (n set code from count k s : ℕ) (old new : List ℕ) (to active : ℕ) : Type 0 where
+pub record ArrivedAll (n set code : ℕ) (idle : Bool) (from count k s : ℕ) (old new : List ℕ) (to active : ℕ) : Type 0 where
   pub within : to ≤ count
   pub late : to < count → LabelAfter n set old k s (orderOf n set old to)
-  pub arrived : Arrived n set code from to k s old new active
+  pub arrived : Arrived n set code idle from to k s old new active

@@ -1,3 +1,4 @@
 pub mod Labels
 pub mod Additions
 pub mod Both
+pub mod Idle

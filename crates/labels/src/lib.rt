@@ -4,7 +4,9 @@ mod sets;
 mod sites;
 
 pub use both::BothArrivals;
+pub use both::Idle;
 pub use both::arrive_both;
+pub use both::no_idle;
 pub use sets::copy_set;
 pub use sites::fresh_in;
 pub use sites::label_active;
@@ -120,13 +122,18 @@ fn marked(mark: u16, code: u16) -> u16
     code
 }
 
-// The cell becomes a seed for gates of this code and joins the active list. The list's new count.
-fn plant(scratch: &mut [u16], n: usize, cell: usize, code: u16, active: usize) -> usize
+// The cell becomes a seed for gates of this code and joins the active list, but for an idle code where the cell is a seed of the other. The list's new count.
+fn plant(scratch: &mut [u16], n: usize, cell: usize, code: u16, idle: bool, active: usize) -> usize
     requires { ⌜ T (isClosing code) × (Listed n (now scratch) (n * activeAt) active × ((cell < n) × ((n ≤ 1024) × (n * trailAt ≤ length (now scratch))))) ⌝ }
-    ensures { λ r. ⌜ Planted n cell code (now (scratch .entry)) (now (scratch .exit)) r ⌝ }
+    ensures { λ r. ⌜ Planted n cell code idle (now (scratch .entry)) (now (scratch .exit)) r ⌝ }
 {
-    let mark = marked(scratch[n * SEEDS + cell], code);
-    scratch[n * SEEDS + cell] = mark;
+    let mark = scratch[n * SEEDS + cell];
+    scratch[n * SEEDS + cell] = marked(mark, code);
+    if idle {
+        if marks_seed(mark, 15 - code) {
+            return active;
+        }
+    }
     enlist(scratch, n, n * ACTIVE, active, cell)
 }
 
@@ -141,6 +148,7 @@ pub fn arrive(
     n: usize,
     set: usize,
     code: u16,
+    idle: bool,
     at: usize,
     count: usize,
     weight: u32,
@@ -148,7 +156,7 @@ pub fn arrive(
     active: usize,
 ) -> Arrivals
     requires { ⌜ ArriveAsks n set code at count active (now scratch) ⌝ }
-    ensures { λ r. ⌜ ArrivedAll n set code at count weight steps (now (scratch .entry)) (now (scratch .exit)) (r .at) (r .active) ⌝ }
+    ensures { λ r. ⌜ ArrivedAll n set code idle at count weight steps (now (scratch .entry)) (now (scratch .exit)) (r .at) (r .active) ⌝ }
 {
     let mut i = at;
     let mut listed = active;
@@ -160,7 +168,7 @@ pub fn arrive(
                 active: listed,
             };
         }
-        listed = plant(scratch, n, cell, code, listed);
+        listed = plant(scratch, n, cell, code, idle, listed);
         i += 1;
     }
     Arrivals {

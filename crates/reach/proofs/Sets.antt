@@ -18,6 +18,7 @@ use Rattle.lists.specs.Lists.{ListedAt}
 use Rattle.rows.specs.Words.{Kept}
 use Rattle.table.specs.Problem.{seedOf}
 use Rattle.labels.specs.Labels.{weightOf, stepsOf, labelsOf, labelsFor, orderOf, Ordered}
+use Rattle.labels.specs.Idle.{noIdle}
 use Rattle.labels.specs.Both.{OrderAsks, Comes, ArrivedBoth}
 use Rattle.labels.proofs.Labels.{known-below, ordered-count, ordered-kept, labels-no-fifo, label-code}
 use Rattle.labels.proofs.Arriving.{Found, find}
@@ -228,7 +229,7 @@ module _ {n exits k : ℕ} {old words : List ℕ} {u at count exit : ℕ} (b : B
       go (inl e) = rw e (set-idle (b .near) t (soon .near) c (rw e at known) (rw e at same))
       go (inr e) = rw (e .0) (set-idle (b .far (e .1)) t (soon .far) c (rw (e .0) at known) (rw (e .0) at same))
 
-  module _ (keptNear : Kept (n * labelsAt) (n * labelsAt + n * labelWords) old words) (keptFar : Kept (n * exitsAt) (n * exitsAt + n * labelWords) old words) (new : List ℕ) {active to out : ℕ} (a : ArrivedBoth n at count exit exits k u words new to out active) where
+  module _ (keptNear : Kept (n * labelsAt) (n * labelsAt + n * labelWords) old words) (keptFar : Kept (n * exitsAt) (n * exitsAt + n * labelWords) old words) (new : List ℕ) {active to out : ℕ} (a : ArrivedBoth n noIdle at count exit exits k u words new to out active) where
     pub both-late : BothSoon n old k (suc u) to count out exits
     both-late =
         record {

@@ -18,6 +18,7 @@ use Rattle.table.specs.Layer.{ActiveIn}
 use Rattle.table.proofs.Views.{budget-kept}
 use Rattle.table.proofs.Colours.{coloured-none}
 use Rattle.labels.specs.Labels.{labelsFor, Ordered}
+use Rattle.labels.specs.Idle.{noIdle}
 use Rattle.labels.specs.Both.{ArrivedBoth}
 use Rattle.labels.proofs.Labels.{unknown-not, labels-register, labels-fifo}
 use Rattle.labels.proofs.Arriving.{cleared-table, cleared-seed, cleared-active}
@@ -64,7 +65,7 @@ module _ (R : Rules) (n : ℕ) (old mid : List ℕ) (z : Cleared n old mid) wher
           coloured = coloured-none R 0 listed refl;
         }
 
-    pub labels-started : (new : List ℕ) (to out active : ℕ) → ArrivedBoth n at count exit exits k 0 mid new to out active → Started R n k old new active to count out exits
+    pub labels-started : (new : List ℕ) (to out active : ℕ) → ArrivedBoth n noIdle at count exit exits k 0 mid new to out active → Started R n k old new active to count out exits
     labels-started new to out active a =
         record {
           empty = λ c l. budget-kept n mid new (λ i lo hi. a .low i (omega arith)) c l ∙ cleared-table n mid (z .rows) c l;

@@ -27,6 +27,7 @@ use Rattle.table.specs.Problem.{budgetOf}
 use Rattle.table.specs.Layer.{Layered}
 use Rattle.table.proofs.Views.{budget-at, budget-outside, inside}
 use Rattle.labels.specs.Labels.{labelsFor, Ordered}
+use Rattle.labels.specs.Idle.{noIdle}
 use Rattle.labels.specs.Both.{ArrivedBoth}
 use Rattle.labels.proofs.Labels.{LabelsKept, ordered-kept}
 use Rattle.reach.specs.declared.layers.Layers.{Layers}
@@ -134,7 +135,7 @@ module _ (R : Rules) (n f k exits : ℕ) (P : ℕ → ℕ → Bool) (old : List 
     unfolding past-kept
     trail-kept new table kept = record { past = past-kept (r .past) new table kept; means = r .means; stamp = r .stamp }
 
-    pub trail-arrive : {at count exit exits′ to out active : ℕ} (new : List ℕ) → ArrivedBoth n at count exit exits′ k u words new to out active → Trailing R n f k exits P old new u t
+    pub trail-arrive : {at count exit exits′ to out active : ℕ} (new : List ℕ) → ArrivedBoth n noIdle at count exit exits′ k u words new to out active → Trailing R n f k exits P old new u t
     trail-arrive new a = trail-kept new (λ i lo hi. a .low i (omega arith)) (record { near = λ i lo hi. a .low i (omega arith); far = λ i lo hi. a .high i lo })
 
     pub trail-drop : {Q : ℕ → Bool} {active : ℕ} (new : List ℕ) → Dropped n Q words new active → Trailing R n f k exits P old new u t

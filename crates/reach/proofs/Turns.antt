@@ -26,8 +26,10 @@ use Rattle.table.proofs.Quiet.{quiet-layer}
 use Rattle.table.proofs.Views.{budget-kept, seeds-kept}
 use Rattle.table.proofs.Colours.{coloured-none, coloured-kept, coloured-layer}
 use Rattle.labels.specs.Labels.{labelsFor}
+use Rattle.labels.specs.Idle.{noIdle}
 use Rattle.labels.specs.Both.{BothAsk, ArrivedBoth}
 use Rattle.labels.proofs.Labels.{set-in, exits-in}
+use Rattle.labels.proofs.Idle.{none-idle}
 use Rattle.labels.proofs.Arriving.{active-kept, active-arrived, coloured-arrived}
 use Rattle.labels.proofs.Seeds.{layer-seeds}
 use Rattle.reach.specs.Cone.{Dropped}
@@ -127,7 +129,7 @@ module _ (R : Rules) (n f k : ℕ) (P : ℕ → ℕ → Bool) (old : List ℕ) (
             }
 
   -- labels whose steps have come become seeds
-  pub arrive-turn : (words : List ℕ) (u active at exit : ℕ) → Running R n f k P old words u active at count exit exits → (new : List ℕ) (to out active′ : ℕ) → ArrivedBoth n at count exit exits k u words new to out active′ → Current R n f k P old new u active′ to count out exits
+  pub arrive-turn : (words : List ℕ) (u active at exit : ℕ) → Running R n f k P old words u active at count exit exits → (new : List ℕ) (to out active′ : ℕ) → ArrivedBoth n noIdle at count exit exits k u words new to out active′ → Current R n f k P old new u active′ to count out exits
   arrive-turn words u active at exit r new to out active′ a =
       let near = kept-near words u active at exit r in
       let far = kept-far words u active at exit r in
@@ -138,7 +140,7 @@ module _ (R : Rules) (n f k : ℕ) (P : ℕ → ℕ → Bool) (old : List ℕ) (
               labels = λ i lo hi. a .low i hi ∙ r .labels i lo hi;
               rest = λ i lo. a .high i (omega arith) ∙ r .rest i lo;
               table = λ c t. same-row (budget-kept n words new (λ i lo hi. a .low i (omega arith)) c) (r .table c t);
-              list = active-arrived R n (R .bound 0 f) words new at count exit exits k u to out active active′ (r .list) a;
+              list = active-arrived R n (R .bound 0 f) words new (none-idle R) at count exit exits k u to out active′ a (r .list);
               sets = both-arrive (r .sets) near far new a;
               inStep = r .inStep;
               coloured =

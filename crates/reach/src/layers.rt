@@ -10,6 +10,7 @@ use crate::span::next_both;
 use crate::span::start_span;
 use costs::COSTS;
 use labels::arrive_both;
+use labels::no_idle;
 use problem::Net;
 use table::next_layer;
 use trail::Trail;
@@ -113,7 +114,18 @@ fn run_span(
             trail = grown.trail;
             u += 1;
         }
-        let next = arrive_both(scratch, n, at, count, exit, exits, weight, u, active);
+        let next = arrive_both(
+            scratch,
+            n,
+            at,
+            count,
+            exit,
+            exits,
+            weight,
+            u,
+            active,
+            no_idle(),
+        );
         at = next.at;
         exit = next.exit;
         active = drop_outside(scratch, n, next.active, p, cell, steps, u);

@@ -7,6 +7,7 @@ ghost use Rattle.reach.specs.Reach.{OrderIn, ExitsIn, BothIn, FirstWith,
 use crate::layers::Layers;
 use labels::BothArrivals;
 use labels::arrive_both;
+use labels::no_idle;
 use labels::steps_of;
 use labels::weight_word;
 use layout::ARRIVAL;
@@ -134,5 +135,5 @@ pub fn start_span(
     clear_span(scratch, n, layers);
     let at = first_with(scratch, n, n * LABELS, count, weight);
     let exit = first_exit(scratch, n, exits, weight);
-    arrive_both(scratch, n, at, count, exit, exits, weight, 0, 0)
+    arrive_both(scratch, n, at, count, exit, exits, weight, 0, 0, no_idle())
 }

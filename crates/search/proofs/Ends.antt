@@ -10,6 +10,7 @@ use Rattle.budget.specs.Done.{After}
 use Rattle.plan.proofs.Truth.{split}
 use Rattle.layout.specs.Layout.{labelsAt, exitsAt, trailAt}
 use Rattle.labels.specs.Labels.{orderOf, LabelBy}
+use Rattle.labels.specs.declared.both.Idle.{Idle}
 use Rattle.labels.specs.Both.{Comes, ArrivedBoth}
 use Rattle.search.specs.declared.turns.Progress.{Progress}
 use Rattle.search.specs.declared.turns.Turn.{Turn}
@@ -54,8 +55,8 @@ goes-in {from = from} {to = to} a h by = go (split to from)
     go (inr q) = q
 
 -- the sum of the table plus the places in the orders grows
-pub advances : {n exits : ℕ} {old new last : List ℕ} {f g : Progress} {to out active : ℕ} → Advance n exits old new f g → ArrivedBoth n (g .at) (g .count) (g .exit) exits (g .weight) (g .steps) new last to out active → total n old + f .at + f .exit < total n last + to + out
-advances {n} {exits} {old} {new} {last} {f} {g} {to} {out} v a = go v
+pub advances : {n exits : ℕ} {old new last : List ℕ} {f g : Progress} {idle : Idle} {to out active : ℕ} → Advance n exits old new f g → ArrivedBoth n idle (g .at) (g .count) (g .exit) exits (g .weight) (g .steps) new last to out active → total n old + f .at + f .exit < total n last + to + out
+advances {n} {exits} {old} {new} {last} {f} {g} {idle} {to} {out} v a = go v
   where
     same : total n last ≡ total n new
     same = total-kept n new last (λ i lo hi. a .low i (omega arith))

@@ -31,6 +31,8 @@ use Rattle.table.proofs.Views.{budget-kept, seeds-kept}
 use Rattle.table.proofs.Colours.{coloured-none, coloured-kept, coloured-layer}
 use Rattle.labels.specs.Labels.{knownOf, weightOf, stepsOf, weightWord, labelsOf, labelsFor, orderOf, LabelBy, Ordered}
 use Rattle.labels.specs.Additions.{LabelsAdded}
+use Rattle.labels.specs.declared.both.Idle.{Idle}
+use Rattle.labels.specs.Idle.{IdleRight}
 use Rattle.labels.specs.Both.{BothAsk, Comes, ArrivedBoth}
 use Rattle.labels.proofs.Labels.{LabelsKept, known-below, by-kept, ordered-none, ordered-count, ordered-kept, word-unknown, unknown-not, labels-register, labels-fifo, labels-renewed, labelled-kept, fifos-kept}
 use Rattle.labels.proofs.Additions.{labels-relabelled, labels-last}
@@ -219,8 +221,8 @@ module _ {R : Rules} (law : Lawful R) {n f exits : ℕ} (cells : R .cellCount �
           no-side h (inr q) = omega arith
 
 -- labels that have come become seeds
-pub arrive-front : {R : Rules} → Lawful R → {n f exits : ℕ} {words : List ℕ} {k s active at count exit watched : ℕ} → Waiting R n f exits words k s active at count exit watched → {new : List ℕ} {to out active′ : ℕ} → ArrivedBoth n at count exit exits k s words new to out active′ → Front R n f exits new k s active′ to count out watched
-arrive-front {R} law {n} {f} {exits} {words} {k} {s} {active} {at} {count} {exit} v {new} {to} {out} {active′} a =
+pub arrive-front : {R : Rules} → Lawful R → {n f exits : ℕ} {words : List ℕ} {k s active at count exit watched : ℕ} → Waiting R n f exits words k s active at count exit watched → {new : List ℕ} {idle : Idle} {to out active′ : ℕ} → IdleRight R idle → ArrivedBoth n idle at count exit exits k s words new to out active′ → Front R n f exits new k s active′ to count out watched
+arrive-front {R} law {n} {f} {exits} {words} {k} {s} {active} {at} {count} {exit} v {new} {idle} {to} {out} {active′} right a =
     record {
       waiting =
           record {
@@ -231,7 +233,7 @@ arrive-front {R} law {n} {f} {exits} {words} {k} {s} {active} {at} {count} {exit
                         table = same-table (Open R f k s) same (w .searching .table);
                         labels = labelled-kept n exits words new (record { registers = λ i lo hi. a .low i (omega arith); fifos = λ h i lo hi. a .high i (omega arith) }) R f k s (w .searching .labels);
                       };
-                  list = active-arrived R n (R .bound 0 f) words new at count exit exits k s to out active active′ (w .list) a;
+                  list = active-arrived R n (R .bound 0 f) words new right at count exit exits k s to out active′ a (w .list);
                   near = queue-arrived (w .near) new near-kept (a .near);
                   far =
                       record {

@@ -2,6 +2,7 @@ pub mod Total
 pub mod Blanks
 pub mod Queue
 pub mod Layers
+pub mod IdleRows
 pub mod Fronts
 pub mod TakeTurn
 pub mod Ends

@@ -1,5 +1,6 @@
 // The search: labels by weight and steps to go, layers by steps to go, on the scratch words.
 mod anew;
+mod idle;
 mod loops;
 mod turns;
 

@@ -7,6 +7,7 @@ ghost use Rattle.layout.specs.Layout.{trailAt};
 ghost use Rattle.problem.specs.Net.{fifoOf};
 ghost use Rattle.table.specs.Problem.{NetReady, Room, netRules};
 ghost use Rattle.search.specs.Search.{Blank, SideAsks, Sourced, SearchEffect};
+use crate::idle::idle_gates;
 use crate::turns::Progress;
 use crate::turns::Turn;
 use crate::turns::take_turn;
@@ -49,7 +50,8 @@ pub fn search(
 {
     let n = plan.len();
     let count = label_source(scratch, n, side, net.clocks.fifos, net.problem.source);
-    let a = arrive_both(scratch, n, 0, count, 0, exits, 0, 0, 0);
+    let idle = idle_gates(net, costs, exits);
+    let a = arrive_both(scratch, n, 0, count, 0, exits, 0, 0, 0, idle);
     let mut f = Progress {
         weight: 0,
         steps: 0,
@@ -79,6 +81,7 @@ pub fn search(
                     g.weight,
                     g.steps,
                     g.active,
+                    idle,
                 );
                 f = Progress {
                     weight: g.weight,

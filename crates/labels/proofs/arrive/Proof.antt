@@ -1,29 +1,35 @@
 -- `labels::arrive`: the invariant: the labels from `at` up to i have become seeds. The order and the labels stay as they are.
 use Prim.Native.Nat.{ℕ, _+_, _*_, _-_, _<_, _≤_}
 use mathlib.Core.Path.{_≡_, refl, sym, _∙_}
+use mathlib.Core.Bool.{Bool}
 use mathlib.Core.Logic.{_⊎_, inl, inr}
 use mathlib.Core.List.{List}
 use native.Mathlib.Omega.{arith}
 use lib.Dec.{T}
 use lib.ListN.{getD}
 use Rattle.plan.proofs.Truth.{equal}
+use Rattle.rules.specs.Rules.{isClosing}
 use Rattle.layout.specs.Layout.{orderIn, labelWords, activeAt, trailAt}
 use Rattle.lists.specs.Lists.{flagOf, Listed}
-use Rattle.lists.proofs.Lists.{listed-some}
 use Rattle.table.specs.Problem.{seedOf}
-use Rattle.labels.specs.Labels.{knownOf, orderOf, LabelBy, Apart, SameLabel, Planted, Arrived}
+use Rattle.labels.specs.Labels.{knownOf, orderOf, otherCode, LabelBy, Apart, SameLabel, Planted, Arrived}
+use Rattle.labels.proofs.Codes.{other-closes, other-differs}
 use Rattle.labels.proofs.Labels.{known-below, label-kept}
 use Rattle.labels.proofs.arrive.Statement.{statement}
 use Rattle.labels.proofs.arrive.Tie as tie
 
-arrived-none : (n set code from k s : ℕ) (words : List ℕ) (active : ℕ) → Listed n words (n * activeAt) active → Arrived n set code from from k s words words active
-arrived-none n set code from k s words active l =
+-- what `plant` leaves of the cell's flag
+abbrev Flagged : ℕ → Bool → List ℕ → List ℕ → ℕ → ℕ → Type 0
+Flagged n idle old new code cell =
+    (flagOf n new cell ≡ 1) ⊎ (T idle × (T (seedOf n old (otherCode code) cell) × (flagOf n new cell ≡ flagOf n old cell)))
+
+arrived-none : (n set code : ℕ) (idle : Bool) (from k s : ℕ) (words : List ℕ) (active : ℕ) → Listed n words (n * activeAt) active → Arrived n set code idle from from k s words words active
+arrived-none n set code idle from k s words active l =
     record {
       same = refl;
       forth = omega arith;
       inTime = λ i h k. absurd (omega arith);
       listed = l;
-      someListed = λ h. absurd (omega arith);
       seeds = λ i h k. absurd (omega arith);
       seedsStay = λ c h e. e;
       otherSeeds = λ c h e. refl;
@@ -37,7 +43,7 @@ arrived-none n set code from k s words active l =
     }
 
 -- the words of the set stay
-module _ {n set code from to k s : ℕ} {old new : List ℕ} {active : ℕ} (apart : Apart n set) (a : Arrived n set code from to k s old new active) where
+module _ {n set code : ℕ} {idle : Bool} {from to k s : ℕ} {old new : List ℕ} {active : ℕ} (apart : Apart n set) (a : Arrived n set code idle from to k s old new active) where
   set-stays : (i : ℕ) → set ≤ i → i < set + n * labelWords → getD new i 0 ≡ getD old i 0
   set-stays i lo hi = go (apart .beside)
     where
@@ -52,13 +58,17 @@ module _ {n set code from to k s : ℕ} {old new : List ℕ} {active : ℕ} (apa
   label-stays = label-kept n set old new (λ i lo hi. set-stays i lo (omega arith))
 
 -- one cell more
-module _ {n set code from to k s : ℕ} {old mid new : List ℕ} {active next cell : ℕ} (a : Arrived n set code from to k s old mid active) (e : cell ≡ orderOf n set old to) (h : cell < n) (p : Planted n cell code mid new next) where
+module _ {n set code : ℕ} {idle : Bool} {from to k s : ℕ} {old mid new : List ℕ} {active next cell : ℕ} (closes : T (isClosing code)) (a : Arrived n set code idle from to k s old mid active) (e : cell ≡ orderOf n set old to) (h : cell < n) (p : Planted n cell code idle mid new next) where
   seed-stays : (c : ℕ) → c < n → T (seedOf n mid code c) → (c ≡ cell) ⊎ (c ≡ cell → ⊥) → T (seedOf n new code c)
   seed-stays c k o (inl q) = rw q (p .nowSeed)
   seed-stays c k o (inr q) = rw (p .otherSeeds c k q code) o
 
   flag-stays : (c : ℕ) → c < n → flagOf n mid c ≡ 1 → (c ≡ cell) ⊎ (c ≡ cell → ⊥) → flagOf n new c ≡ 1
-  flag-stays c k o (inl q) = rw q (p .nowFlagged)
+  flag-stays c k o (inl q) = rw q (go (p .nowFlagged))
+    where
+      go : Flagged n idle mid new code cell → flagOf n new cell ≡ 1
+      go (inl f) = f
+      go (inr f) = f .1 .1 ∙ (rw (← q) o)
   flag-stays c k o (inr q) = p .others c k q ∙ o
 
   module _ (cells : (i : ℕ) → i < to → orderOf n set old i < n) where
@@ -66,18 +76,25 @@ module _ {n set code from to k s : ℕ} {old mid new : List ℕ} {active next ce
     seed i k j (inl q) = rw (q, ← e) (p .nowSeed)
     seed i k j (inr q) = seed-stays _ (cells i (omega arith)) (a .seeds i k (omega arith)) (equal (orderOf n set old i) cell)
 
-    flag : (i : ℕ) → from ≤ i → i < to + 1 → (i ≡ to) ⊎ (i ≡ to → ⊥) → flagOf n new (orderOf n set old i) ≡ 1
-    flag i k j (inl q) = rw (q, ← e) (p .nowFlagged)
-    flag i k j (inr q) = flag-stays _ (cells i (omega arith)) (a .flags i k (omega arith)) (equal (orderOf n set old i) cell)
+    flag : (i : ℕ) → from ≤ i → i < to + 1 → (i ≡ to) ⊎ (i ≡ to → ⊥) → (flagOf n new (orderOf n set old i) ≡ 1) ⊎ (T idle × T (seedOf n old (otherCode code) (orderOf n set old i)))
+    flag i k j (inl q) = rw (q, ← e) (now (p .nowFlagged))
+      where
+        now : Flagged n idle mid new code cell → (flagOf n new cell ≡ 1) ⊎ (T idle × T (seedOf n old (otherCode code) cell))
+        now (inl f) = inl f
+        now (inr f) = inr (f .0, rw (← a .otherCodes (otherCode code) (other-closes code closes) (other-differs code closes) cell h) (f .1 .0))
+    flag i k j (inr q) = stay (a .flags i k (omega arith))
+      where
+        stay : (flagOf n mid (orderOf n set old i) ≡ 1) ⊎ (T idle × T (seedOf n old (otherCode code) (orderOf n set old i))) → (flagOf n new (orderOf n set old i) ≡ 1) ⊎ (T idle × T (seedOf n old (otherCode code) (orderOf n set old i)))
+        stay (inl f) = inl (flag-stays _ (cells i (omega arith)) f (equal (orderOf n set old i) cell))
+        stay (inr f) = inr f
 
-    arrived-more : LabelBy n set old k s (orderOf n set old to) → Arrived n set code from (to + 1) k s old new next
+    arrived-more : LabelBy n set old k s (orderOf n set old to) → Arrived n set code idle from (to + 1) k s old new next
     arrived-more early =
         record {
           same = p .same ∙ a .same;
           forth = omega (arith, a .forth);
           inTime = λ i k j. time i k j (equal i to);
           listed = p .listed;
-          someListed = λ k. listed-some (p .listed) cell h (p .nowFlagged);
           seeds = λ i k j. seed i k j (equal i to);
           seedsStay = λ c k o. seed-stays c k (a .seedsStay c k o) (equal c cell);
           otherSeeds =
@@ -97,10 +114,10 @@ module _ {n set code from to k s : ℕ} {old mid new : List ℕ} {active next ce
         time i k j (inr q) = a .inTime i k (omega arith)
 
 abbrev Inv-loop : tie.InvT-loop
-Inv-loop scratch₀ n set code at count weight steps active i₀ listed₀ scratch i listed = (i ≤ count) × Arrived n set code at i weight steps scratch₀ scratch listed
+Inv-loop scratch₀ n set code idle at count weight steps active i₀ listed₀ scratch i listed = (i ≤ count) × Arrived n set code idle at i weight steps scratch₀ scratch listed
 
 abbrev μ-loop : tie.MeasureT-loop
-μ-loop scratch₀ n set code at count weight steps active i₀ listed₀ scratch i listed = count - i
+μ-loop scratch₀ n set code idle at count weight steps active i₀ listed₀ scratch i listed = count - i
 
 -- the cell of the turn
 module _ (c : tie.In-loop Inv-loop μ-loop) where
@@ -120,7 +137,7 @@ module _ (c : tie.In-loop Inv-loop μ-loop) where
   label-same = label-stays (c .before .before .before .pre .apart) (c .before .loop .inv .1) _ cell-below
 
 loop-holds : tie.Need-loop-holds Inv-loop μ-loop
-loop-holds c = (c .before .pre .start, arrived-none _ _ _ _ _ _ _ _ (c .before .pre .listed))
+loop-holds c = (c .before .pre .start, arrived-none _ _ _ _ _ _ _ _ _ (c .before .pre .listed))
 
 mul-cell : tie.Need-mul-cell Inv-loop μ-loop
 mul-cell c = omega (arith, c .before .before .before .pre .setIn .small)
@@ -177,7 +194,7 @@ loop-again c =
     let e : tie.Else1 Inv-loop μ-loop = c .before .before .before .before in
     let w : tie.In-loop Inv-loop μ-loop = e .before .before .before .before in (
       omega arith,
-      arrived-more (w .before .loop .inv .1) (cell-same w) (cell-below w) (c .before .before .plant .ensures)
+      arrived-more (w .before .before .before .pre .closes) (w .before .loop .inv .1) (cell-same w) (cell-below w) (c .before .before .plant .ensures)
           (λ j h. known-below _ _ _ _ (w .before .before .before .pre .known j (omega arith)))
           (rw (← cell-same w) (rw (← label-same w .weight, ← label-same w .steps) (e .before .is-after .ensures .by (e .if1 .left)))),
     )

@@ -12,6 +12,7 @@ use Rattle.rules.specs.Rules.{registerCode, fifoCode, isClosing}
 use Rattle.rules.proofs.View.{closing-codes}
 use Rattle.table.specs.Problem.{marksSeed}
 use Rattle.labels.specs.Labels.{MarkedWith}
+use Rattle.labels.proofs.Codes.{closing-small}
 use Rattle.labels.proofs.marked.Statement.{statement}
 use Rattle.labels.proofs.marked.Tie as tie
 
@@ -26,11 +27,7 @@ module _ (code : ℕ) (closes : T (isClosing code)) where
       go (inr p) (inr q) = absurd (f (p ∙ sym q))
 
   small : code ≤ 8
-  small = go (closing-codes code closes)
-    where
-      go : (code ≡ registerCode) ⊎ (code ≡ fifoCode) → code ≤ 8
-      go (inl q) = omega arith
-      go (inr q) = omega arith
+  small = closing-small code closes
 
   both-marked : (word : ℕ) → marksSeed word (15 - code) ≡ true → MarkedWith word code 15
   unfolding marksSeed

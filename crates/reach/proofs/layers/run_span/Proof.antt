@@ -160,24 +160,28 @@ add-u c =
     let i = c .before .before .before .before .before .before .before in
     omega (arith, i .loop-test .taken, start (i .before) .fits .steps)
 
+no-idle-requires : tie.Need-no-idle-requires Inv-loop μ-loop
+no-idle-requires c κs = search needs
+
 arrive-both-requires : tie.Need-arrive-both-requires Inv-loop μ-loop
 arrive-both-requires c κs =
-    let a = c .before .before .before in
-    let f = middle (c .before) (start a .args .scratch .now) (head a) .0 in
+    let a = c .before .before .before .before in
+    let f = middle (c .before .before) (start a .args .scratch .now) (head a) .0 in
     both-ask (R a) _ _ _ _ _ _ _ _ _ _ _ _ f (few a) (omega (arith, f .same, start a .pre .room)) (λ h. omega (arith, f .same, start a .pre .exitsIn h))
 
 -- after them
-later : (b : tie.After-arrive-both Inv-loop μ-loop) (old : List ℕ) → let a = b .before .before .before .before in let s = start a .args in Turning (s .net) (s .plan .now) (s .side) (s .count) (s .exits) (s .cell) (s .weight) (s .steps) old (a .loop .scratch) (a .loop .u) (a .loop .active) (a .loop .at) (a .loop .exit) (a .loop .trail) → Turning (s .net) (s .plan .now) (s .side) (s .count) (s .exits) (s .cell) (s .weight) (s .steps) old (b .arrive-both .last .0) (b .before .before .if1 .u) (b .arrive-both .result .active) (b .arrive-both .result .at) (b .arrive-both .result .exit) (b .before .before .if1 .trail)
+later : (b : tie.After-arrive-both Inv-loop μ-loop) (old : List ℕ) → let a = b .before .before .before .before .before in let s = start a .args in Turning (s .net) (s .plan .now) (s .side) (s .count) (s .exits) (s .cell) (s .weight) (s .steps) old (a .loop .scratch) (a .loop .u) (a .loop .active) (a .loop .at) (a .loop .exit) (a .loop .trail) → Turning (s .net) (s .plan .now) (s .side) (s .count) (s .exits) (s .cell) (s .weight) (s .steps) old (b .arrive-both .last .0) (b .before .before .before .if1 .u) (b .arrive-both .result .active) (b .arrive-both .result .at) (b .arrive-both .result .exit) (b .before .before .before .if1 .trail)
 later b old g =
-    let a = b .before .before .before .before in
-    let m = middle (b .before .before) old g in
-    (arrive-turn (R a) _ _ _ _ _ _ _ _ _ _ _ _ (m .0) _ _ _ _ (b .arrive-both .ensures), trail-arrive (R a) _ _ _ _ _ _ _ _ _ (m .1) _ (b .arrive-both .ensures))
+    let a = b .before .before .before .before .before in
+    let m = middle (b .before .before .before) old g in
+    let come = rw (b .before .no-idle .ensures) at (b .arrive-both .ensures) in
+    (arrive-turn (R a) _ _ _ _ _ _ _ _ _ _ _ _ (m .0) _ _ _ _ come, trail-arrive (R a) _ _ _ _ _ _ _ _ _ (m .1) _ come)
 
 drop-outside-requires : tie.Need-drop-outside-requires Inv-loop μ-loop
 unfolding planFor
 drop-outside-requires c κs =
     let b = c .before .before .before in
-    let a = b .before .before .before .before in
+    let a = b .before .before .before .before .before in
     let ready = start a .pre .ready .ready in
     let f = later b (start a .args .scratch .now) (head a) .0 .reaching in
     record {
@@ -190,12 +194,12 @@ drop-outside-requires c κs =
     }
 
 loop-less : tie.Need-loop-less Inv-loop μ-loop
-loop-less c = omega (arith, forth (c .before .before .before .before .before .before .before .before))
+loop-less c = omega (arith, forth (c .before .before .before .before .before .before .before .before .before))
 
 loop-again : tie.Need-loop-again Inv-loop μ-loop
 loop-again c =
     let b = c .before .before .before .before .before .before in
-    let j = b .before .before in
+    let j = b .before .before .before in
     let a = j .before .before in
     let dropped = c .before .before .drop-outside .ensures in (
       omega (arith, forth j),
@@ -231,6 +235,7 @@ run-span-spec =
     stamped-requires
     next-layer-requires
     add-u
+    no-idle-requires
     arrive-both-requires
     drop-outside-requires
     loop-less

@@ -32,9 +32,12 @@ first-exit-requires c κs =
     let R = netRules (s .args .net) (s .args .plan .now) in
     λ h. (ordered-kept (s .pre .exitsOrdered h) _ (start-far R _ _ _ (z .clear-span .ensures)), exits-in _ _ (few-cells _ _ (s .pre .ready .ready)) (omega (arith, s .pre .exitsIn h, z .clear-span .ensures .same)))
 
+no-idle-requires : tie.Need-no-idle-requires
+no-idle-requires c κs = search needs
+
 arrive-both-requires : tie.Need-arrive-both-requires
 arrive-both-requires c κs =
-    let y = c .before in
+    let y = c .before .before in
     let x = y .before .before in
     let z = x .before .before .before .before in
     let s = z .before .before .before .before in
@@ -49,12 +52,12 @@ same-length c = search needs
 returns : tie.Need-returns
 returns c =
     let a = c .before .before in
-    let y = a .before .before in
+    let y = a .before .before .before in
     let x = y .before .before in
     let z = x .before .before .before .before in
     let s = z .before .before .before .before in
     let R = netRules (s .args .net) (s .args .plan .now) in
-    labels-started R _ _ _ (z .clear-span .ensures) _ _ _ (s .pre .ordered) (s .pre .exitsOrdered) (s .pre .inStep) _ _ (x .first-with .ensures) (y .first-exit .ensures) _ _ _ _ (a .arrive-both .ensures)
+    labels-started R _ _ _ (z .clear-span .ensures) _ _ _ (s .pre .ordered) (s .pre .exitsOrdered) (s .pre .inStep) _ _ (x .first-with .ensures) (y .first-exit .ensures) _ _ _ _ (rw (a .before .no-idle .ensures) at (a .arrive-both .ensures))
 
 pub start-span-spec : {M : Type 1} → statement M
 start-span-spec =
@@ -64,6 +67,7 @@ start-span-spec =
     mul-first-with
     first-with-requires
     first-exit-requires
+    no-idle-requires
     arrive-both-requires
     same-length
     returns)

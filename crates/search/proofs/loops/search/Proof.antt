@@ -29,11 +29,11 @@ few-exits exits h = go (split 1 exits)
     go (inr q) = omega arith
 
 abbrev Inv-loop : tie.InvT-loop
-Inv-loop plan scratch₀ net costs side exits n count f₀ scratch f =
+Inv-loop plan scratch₀ net costs side exits n count idle f₀ scratch f =
     FrontOf (netRules net plan) (length plan) side exits scratch f × ((length scratch ≡ length scratch₀) × Beyond (length plan) side scratch₀ scratch)
 
 abbrev μ-loop : tie.MeasureT-loop
-μ-loop plan scratch₀ net costs side exits n count f₀ scratch f = 4294969345 - (total (length plan) scratch + f .at + f .exit)
+μ-loop plan scratch₀ net costs side exits n count idle f₀ scratch f = 4294969345 - (total (length plan) scratch + f .at + f .exit)
 
 label-source-requires : tie.Need-label-source-requires Inv-loop μ-loop
 label-source-requires c κs =
@@ -47,21 +47,24 @@ starts c =
     let a : Sourced (length (s .args .plan .now)) (s .args .side) (netRules (s .args .net) (s .args .plan .now) .fifos) (netRules (s .args .net) (s .args .plan .now) .source) (s .args .scratch .now) (c .label-source .last .0) (c .label-source .result) = rw (net-fifos (s .args .net) (s .args .plan .now), net-source (s .args .net) (s .args .plan .now)) (c .label-source .ensures) in
     start-front (ready-lawful _ _ (s .pre .0)) (s .pre .1 .1 .0) (s .pre .1 .1 .1 .0) a
 
+idle-gates-requires : tie.Need-idle-gates-requires Inv-loop μ-loop
+idle-gates-requires c κs = let s = c .before .before .before .before .before .before in (s .pre .0 .ready .valid, s .pre .1 .1 .1 .1)
+
 arrive-both-requires : tie.Need-arrive-both-requires Inv-loop μ-loop
 arrive-both-requires c κs =
-    let s = c .before .before .before .before .before .before .before in
-    let a = c .before .before .before .label-source .ensures in
-    waiting-asks (starts (c .before .before .before)) (few-cells _ _ (s .pre .0 .ready)) (omega (arith, s .pre .1 .0, a .same)) (λ h. omega (arith, s .pre .1 .1 .1 .0 .exitsIn h, a .same))
+    let s = c .before .before .before .before .before .before .before .before in
+    let a = c .before .before .before .before .label-source .ensures in
+    waiting-asks (starts (c .before .before .before .before)) (few-cells _ _ (s .pre .0 .ready)) (omega (arith, s .pre .1 .0, a .same)) (λ h. omega (arith, s .pre .1 .1 .1 .0 .exitsIn h, a .same))
 
 loop-holds : tie.Need-loop-holds Inv-loop μ-loop
 loop-holds c =
-    let s = c .before .before .before .before .before .before .before .before .before .before in
-    (arrive-front (ready-lawful _ _ (s .pre .0)) (starts (c .before .before .before .before .before .before)) (c .before .before .arrive-both .ensures), (refl, beyond-kept (λ i h. refl)))
+    let s = c .before .before .before .before .before .before .before .before .before .before .before in
+    (arrive-front (ready-lawful _ _ (s .pre .0)) (starts (c .before .before .before .before .before .before .before)) (c .before .before .before .before .idle-gates .ensures _) (c .before .before .arrive-both .ensures), (refl, beyond-kept (λ i h. refl)))
 
 take-turn-requires : tie.Need-take-turn-requires Inv-loop μ-loop
 take-turn-requires c κs =
-    let s = c .before .before .before .before .before .before .before .before .before .before .before .before in
-    let a = c .before .before .before .before .before .before .before .before .label-source .ensures in
+    let s = c .before .before .before .before .before .before .before .before .before .before .before .before .before in
+    let a = c .before .before .before .before .before .before .before .before .before .label-source .ensures in
     let b = c .before .before .before .before .arrive-both .ensures in
     let same = c .before .loop .inv .1 .0 in
     let asks = s .pre .1 .1 .1 .0 in
@@ -76,12 +79,12 @@ take-turn-requires c κs =
     }
 
 -- the words since the start
-since : (c : tie.After-take-turn Inv-loop μ-loop) → let s = c .before .before .before .before .before .before .before .before .before .before .before .before .before in (length (c .take-turn .last .1 .0) ≡ length (s .args .scratch .now)) × Beyond (length (s .args .plan .now)) (s .args .side) (s .args .scratch .now) (c .take-turn .last .1 .0)
+since : (c : tie.After-take-turn Inv-loop μ-loop) → let s = c .before .before .before .before .before .before .before .before .before .before .before .before .before .before in (length (c .take-turn .last .1 .0) ≡ length (s .args .scratch .now)) × Beyond (length (s .args .plan .now)) (s .args .side) (s .args .scratch .now) (c .take-turn .last .1 .0)
 since c =
     let turn = c .take-turn .ensures in
     let loop = c .before .before .loop .inv in
     let come = c .before .before .before .before .before .arrive-both .ensures in
-    let source = c .before .before .before .before .before .before .before .before .before .label-source .ensures in
+    let source = c .before .before .before .before .before .before .before .before .before .before .label-source .ensures in
     (turn .same ∙ (loop .1 .0 ∙ (come .same ∙ source .same)), beyond-then (beyond-kept (λ i h. come .high i h ∙ source .high i (omega arith))) (beyond-then (loop .1 .1) (turn .beyond)))
 
 enum-known-t : tie.Need-enum-known-t Inv-loop μ-loop
@@ -112,13 +115,13 @@ enum-known-t-3 c = search needs
 
 arrive-both-requires-2 : tie.Need-arrive-both-requires-2 Inv-loop μ-loop
 arrive-both-requires-2 c κs =
-    let s = c .before .before .before .before .before .before .before .before .before .before .before .before .before .before .before .before .before .before .before in
+    let s = c .before .before .before .before .before .before .before .before .before .before .before .before .before .before .before .before .before .before .before .before in
     let same = since (c .before .before .before .before .before .before) .0 in
     waiting-asks (goes-on (c .before .before .before .before .before .before .take-turn .ensures .done) (c .before .before .t3 .given .0 .0) (c .before .before .t3 .given .1) .0) (few-cells _ _ (s .pre .0 .ready)) (omega (arith, s .pre .1 .0, same)) (λ h. omega (arith, s .pre .1 .1 .1 .0 .exitsIn h, same))
 
 loop-less : tie.Need-loop-less Inv-loop μ-loop
 loop-less c =
-    let s = c .before .before .before .before .before .before .before .before .before .before .before .before .before .before .before .before .before .before .before .before .before .before in
+    let s = c .before .before .before .before .before .before .before .before .before .before .before .before .before .before .before .before .before .before .before .before .before .before .before in
     let g = goes-on (c .before .before .before .before .before .before .before .before .before .take-turn .ensures .done) (c .before .before .before .before .before .t3 .given .0 .0) (c .before .before .before .before .before .t3 .given .1) in
     let a = c .before .before .arrive-both2 .ensures in
     let few = few-cells _ _ (s .pre .0 .ready) in
@@ -133,17 +136,17 @@ loop-less c =
       few,
     )
   where
-    exits-few : (c : tie.After-slice-known5 Inv-loop μ-loop) → c .before .before .before .before .before .before .before .before .before .before .before .before .before .before .before .before .before .before .before .before .before .before .args .exits ≤ 1024
-    exits-few c = few-exits (c .before .before .before .before .before .before .before .before .before .before .before .before .before .before .before .before .before .before .before .before .before .before .args .exits) (λ h. omega (arith, ordered-count (c .before .before .before .before .before .before .before .before .before .before .before .before .before .before .before .before .before .before .before .before .before .before .pre .1 .1 .1 .0 .ordered h), few-cells _ _ (c .before .before .before .before .before .before .before .before .before .before .before .before .before .before .before .before .before .before .before .before .before .before .pre .0 .ready)))
+    exits-few : (c : tie.After-slice-known5 Inv-loop μ-loop) → c .before .before .before .before .before .before .before .before .before .before .before .before .before .before .before .before .before .before .before .before .before .before .before .args .exits ≤ 1024
+    exits-few c = few-exits (c .before .before .before .before .before .before .before .before .before .before .before .before .before .before .before .before .before .before .before .before .before .before .before .args .exits) (λ h. omega (arith, ordered-count (c .before .before .before .before .before .before .before .before .before .before .before .before .before .before .before .before .before .before .before .before .before .before .before .pre .1 .1 .1 .0 .ordered h), few-cells _ _ (c .before .before .before .before .before .before .before .before .before .before .before .before .before .before .before .before .before .before .before .before .before .before .before .pre .0 .ready)))
 
 loop-again : tie.Need-loop-again Inv-loop μ-loop
 loop-again c =
-    let s = c .before .before .before .before .before .before .before .before .before .before .before .before .before .before .before .before .before .before .before .before .before .before in
+    let s = c .before .before .before .before .before .before .before .before .before .before .before .before .before .before .before .before .before .before .before .before .before .before .before in
     let turn = c .before .before .before .before .before .before .before .before .before .take-turn .ensures in
     let loop = c .before .before .before .before .before .before .before .before .before .before .before .loop .inv in
     let g = goes-on (turn .done) (c .before .before .before .before .before .t3 .given .0 .0) (c .before .before .before .before .before .t3 .given .1) in
     let a = c .before .before .arrive-both2 .ensures in
-    (arrive-front (ready-lawful _ _ (s .pre .0)) (g .0) a, (a .same ∙ (turn .same ∙ loop .1 .0), beyond-then (loop .1 .1) (beyond-then (turn .beyond) (beyond-kept (a .high)))))
+    (arrive-front (ready-lawful _ _ (s .pre .0)) (g .0) (c .before .before .before .before .before .before .before .before .before .before .before .before .before .before .before .before .idle-gates .ensures _) a, (a .same ∙ (turn .same ∙ loop .1 .0), beyond-then (loop .1 .1) (beyond-then (turn .beyond) (beyond-kept (a .high)))))
 
 pub search-spec : {M : Type 1} → statement M
 search-spec =
@@ -152,6 +155,7 @@ search-spec =
     Inv-loop
     μ-loop
     label-source-requires
+    idle-gates-requires
     arrive-both-requires
     loop-holds
     take-turn-requires
