@@ -17,7 +17,7 @@ use std::time::Duration;
 /// ones take longer, and why.
 const MOST: Duration = Duration::from_millis(2);
 const MOST_RATIO: f64 = 3.0;
-const MOST_RATIO_ONE_NET: f64 = 5.0;
+const MOST_RATIO_ONE_NET: f64 = 4.0;
 
 pub struct Sides {
     ours: Ours,
