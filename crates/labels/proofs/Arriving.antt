@@ -21,7 +21,7 @@ use Rattle.table.specs.Problem.{budgetOf, seedWord, marksSeed, seedOf}
 use Rattle.table.specs.Layer.{arrivals, Settled, ActiveIn}
 use Rattle.table.specs.Colours.{Coloured}
 use Rattle.table.proofs.Views.{inside, budget-at, budget-outside, budget-kept}
-use Rattle.labels.specs.Labels.{orderOf}
+use Rattle.labels.specs.Labels.{orderOf, ListedOr}
 use Rattle.labels.specs.declared.both.Idle.{Idle}
 use Rattle.labels.specs.Both.{ArrivedBoth}
 use Rattle.labels.specs.Idle.{IdleRight}
@@ -92,21 +92,21 @@ module _ (R : Rules) (n top : ℕ) (old new : List ℕ) where
 
       register-was : T (seedOf n new registerCode c) → Found n (n * labelsAt) old c at to → T (seedOf n old registerCode c) ⊎ (T (idle .registers) × T (seedOf n old fifoCode c))
       register-was t (inr none) = inl (rw (← r .near .otherSeeds c h none) t)
-      register-was t (inl p) = inr (go (r .nearFlags (p .0) (p .1) (p .2)))
+      register-was t (inl p) = inr (go (r .nearListed (p .0) (p .1) (p .2)))
         where
-          go : (flagOf n new (orderOf n (n * labelsAt) old (p .0)) ≡ 1) ⊎ (T (idle .registers) × T (seedOf n old fifoCode (orderOf n (n * labelsAt) old (p .0)))) → T (idle .registers) × T (seedOf n old fifoCode c)
+          go : ListedOr n (idle .registers) new old fifoCode (orderOf n (n * labelsAt) old (p .0)) → T (idle .registers) × T (seedOf n old fifoCode c)
           go (inl f) = let w : flagOf n new c ≡ 1 = rw (p .3) at f in absurd (omega arith)
           go (inr f) = rw (p .3) at f
 
       fifo-was : T (seedOf n new fifoCode c) → Found n (n * exitsAt) old c exit out → T (seedOf n old fifoCode c) ⊎ (T (idle .fifos) × T (seedOf n old registerCode c))
       fifo-was t (inr none) = inl (rw (← r .far .otherSeeds c h none) t)
-      fifo-was t (inl p) = go (r .farFlags (p .0) (p .1) (p .2))
+      fifo-was t (inl p) = go (r .farListed (p .0) (p .1) (p .2))
         where
           both : T (idle .fifos) → T (seedOf n old registerCode c) ⊎ (T (idle .registers) × T (seedOf n old fifoCode c)) → T (seedOf n old fifoCode c) ⊎ (T (idle .fifos) × T (seedOf n old registerCode c))
           both i (inl s) = inr (i, s)
           both i (inr s) = inl (s .1)
 
-          go : (flagOf n new (orderOf n (n * exitsAt) old (p .0)) ≡ 1) ⊎ (T (idle .fifos) × T (seedOf n new registerCode (orderOf n (n * exitsAt) old (p .0)))) → T (seedOf n old fifoCode c) ⊎ (T (idle .fifos) × T (seedOf n old registerCode c))
+          go : ListedOr n (idle .fifos) new new registerCode (orderOf n (n * exitsAt) old (p .0)) → T (seedOf n old fifoCode c) ⊎ (T (idle .fifos) × T (seedOf n old registerCode c))
           go (inl f) = let w : flagOf n new c ≡ 1 = rw (p .3) at f in absurd (omega arith)
           go (inr f) = let w : T (seedOf n new registerCode c) = rw (p .3) at (f .1) in both (f .0) (register-was w (find n (n * labelsAt) old c at to))
 

@@ -11,7 +11,7 @@ use Rattle.rules.proofs.View.{register-closing, fifo-closing}
 use Rattle.layout.specs.Layout.{labelsAt, exitsAt, asideAt, orderIn, labelWords, activeAt, trailAt}
 use Rattle.lists.specs.Lists.{flagOf}
 use Rattle.table.specs.Problem.{seedOf}
-use Rattle.labels.specs.Labels.{knownOf, orderOf, LabelBy, LabelAfter, SameLabel, ArriveAsks, Arrived, ArrivedAll}
+use Rattle.labels.specs.Labels.{knownOf, orderOf, ListedOr, LabelBy, LabelAfter, SameLabel, ArriveAsks, Arrived, ArrivedAll}
 use Rattle.labels.specs.declared.both.Idle.{Idle}
 use Rattle.labels.specs.Both.{OrderAsks, BothAsk, Comes, ArrivedBoth}
 use Rattle.labels.proofs.Labels.{known-below, label-kept, known-kept, set-in, set-apart, exits-in, exits-apart}
@@ -90,8 +90,8 @@ module _ (n : ℕ) (idle : Idle) (at count exit exits k s active : ℕ) (old mid
               otherSeeds = λ c h g. a .otherCodes fifoCode (fifo-closing fifoCode refl) (λ z. omega arith) c h;
             };
         listed = a .listed;
-        nearFlags = a .flags;
-        farFlags = λ i h j. absurd (omega arith);
+        nearListed = a .nowListed;
+        farListed = λ i h j. absurd (omega arith);
         flagsStay = a .flagsStay;
         otherFlags = λ c h g f. a .otherFlags c h g;
         low = a .low;
@@ -141,8 +141,8 @@ module _ (n : ℕ) (idle : Idle) (at count exit exits k s active : ℕ) (old mid
                 otherSeeds = λ c h g. b .otherSeeds c h (λ i l j e. g i l j (sym (place i) ∙ e)) ∙ a .otherCodes fifoCode (fifo-closing fifoCode refl) (λ z. omega arith) c h;
               };
           listed = b .listed;
-          nearFlags = λ i h j. near-flag i (omega (arith, near .within)) (a .flags i h j);
-          farFlags = λ i h j. far-flag i (omega (arith, far .within)) (b .flags i h j);
+          nearListed = λ i h j. near-listed i (omega (arith, near .within)) (a .nowListed i h j);
+          farListed = λ i h j. far-listed i (omega (arith, far .within)) (b .nowListed i h j);
           flagsStay = λ c h t. b .flagsStay c h (a .flagsStay c h t);
           otherFlags = λ c h g f. b .otherFlags c h (λ i l j e. f i l j (sym (place i) ∙ e)) ∙ a .otherFlags c h g;
           low = λ i h. b .low i h ∙ a .low i h;
@@ -153,11 +153,11 @@ module _ (n : ℕ) (idle : Idle) (at count exit exits k s active : ℕ) (old mid
         register-in : (i : ℕ) → i < count → orderOf n (n * labelsAt) old i < n
         register-in i h = known-below n (n * labelsAt) old _ (asks .near .known i h)
 
-        near-flag : (i : ℕ) → i < count → (flagOf n mid (orderOf n (n * labelsAt) old i) ≡ 1) ⊎ (T (idle .registers) × T (seedOf n old fifoCode (orderOf n (n * labelsAt) old i))) → (flagOf n new (orderOf n (n * labelsAt) old i) ≡ 1) ⊎ (T (idle .registers) × T (seedOf n old fifoCode (orderOf n (n * labelsAt) old i)))
-        near-flag i h (inl f) = inl (far .arrived .flagsStay _ (register-in i h) f)
-        near-flag i h (inr f) = inr f
+        near-listed : (i : ℕ) → i < count → ListedOr n (idle .registers) mid old fifoCode (orderOf n (n * labelsAt) old i) → ListedOr n (idle .registers) new old fifoCode (orderOf n (n * labelsAt) old i)
+        near-listed i h (inl f) = inl (far .arrived .flagsStay _ (register-in i h) f)
+        near-listed i h (inr f) = inr f
 
-        far-flag : (i : ℕ) → i < exits → (flagOf n new (orderOf n x mid i) ≡ 1) ⊎ (T (idle .fifos) × T (seedOf n mid registerCode (orderOf n x mid i))) → (flagOf n new (orderOf n x old i) ≡ 1) ⊎ (T (idle .fifos) × T (seedOf n new registerCode (orderOf n x old i)))
-        far-flag i h (inl f) = inl (rw (← place i) f)
-        far-flag i h (inr f) =
+        far-listed : (i : ℕ) → i < exits → ListedOr n (idle .fifos) new mid registerCode (orderOf n x mid i) → ListedOr n (idle .fifos) new new registerCode (orderOf n x old i)
+        far-listed i h (inl f) = inl (rw (← place i) f)
+        far-listed i h (inr f) =
             inr (f .0, rw (far .arrived .otherCodes registerCode (register-closing registerCode refl) apart-codes _ (in-plan i h)) (rw (← place i) (f .1)))

@@ -10,7 +10,7 @@ use Rattle.layout.specs.Layout.{labelsAt, exitsAt, asideAt, activeAt, nextAt, l
 use Rattle.lists.specs.Lists.{flagOf, Listed}
 use Rattle.table.specs.Problem.{seedOf}
 use Rattle.labels.specs.declared.both.Idle.{Idle}
-use Rattle.labels.specs.Labels.{knownOf, orderOf, LabelBy, LabelAfter}
+use Rattle.labels.specs.Labels.{knownOf, orderOf, LabelBy, LabelAfter, ListedOr}
 
 -- the places of an order up to `count` have labelled cells, and `at` is one of them or the end
 pub record OrderAsks (n set : ℕ) (words : List ℕ) (at count : ℕ) : Type 0 where
@@ -44,9 +44,9 @@ pub record ArrivedBoth (n : ℕ) (idle : Idle) (at count exit exits k s : ℕ) (
   pub near : Comes n (n * labelsAt) registerCode at count k s old new to
   pub far : Comes n (n * exitsAt) fifoCode exit exits k s old new out
   pub listed : Listed n new (n * activeAt) active
-  -- a label's cell is listed, or was a seed of the other code when an idle one came
-  pub nearFlags : (i : ℕ) → at ≤ i → i < to → (flagOf n new (orderOf n (n * labelsAt) old i) ≡ 1) ⊎ (T (idle .registers) × T (seedOf n old fifoCode (orderOf n (n * labelsAt) old i)))
-  pub farFlags : (i : ℕ) → exit ≤ i → i < out → (flagOf n new (orderOf n (n * exitsAt) old i) ≡ 1) ⊎ (T (idle .fifos) × T (seedOf n new registerCode (orderOf n (n * exitsAt) old i)))
+  -- registers come first
+  pub nearListed : (i : ℕ) → at ≤ i → i < to → ListedOr n (idle .registers) new old fifoCode (orderOf n (n * labelsAt) old i)
+  pub farListed : (i : ℕ) → exit ≤ i → i < out → ListedOr n (idle .fifos) new new registerCode (orderOf n (n * exitsAt) old i)
   pub flagsStay : (c : ℕ) → c < n → flagOf n old c ≡ 1 → flagOf n new c ≡ 1
   -- a flag that was set since is a label's
   pub otherFlags :

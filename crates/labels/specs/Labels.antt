@@ -134,11 +134,16 @@ pub record MarkedWith (word code r : ℕ) : Type 0 where
 abbrev pub otherCode : ℕ → ℕ
 otherCode code = registerCode + fifoCode - code
 
+-- The cell is listed, or the code is idle and the cell a seed of this other one.
+abbrev pub ListedOr : ℕ → Bool → List ℕ → List ℕ → ℕ → ℕ → Type 0
+ListedOr n idle new seen other c = (flagOf n new c ≡ 1) ⊎ (T idle × T (seedOf n seen other c))
+
 -- After `plant`: the cell is a seed for gates of this code, and listed, or the code is idle and the cell was a seed of the other; the flags of other cells, and all words but those of the active list and the flags, stay.
 pub record Planted (n cell code : ℕ) (idle : Bool) (old new : List ℕ) (active : ℕ) : Type 0 where
   pub same : length new ≡ length old
   pub listed : Listed n new (n * activeAt) active
-  pub nowFlagged : (flagOf n new cell ≡ 1) ⊎ (T idle × (T (seedOf n old (otherCode code) cell) × (flagOf n new cell ≡ flagOf n old cell)))
+  pub nowListed : ListedOr n idle new old (otherCode code) cell
+  pub flagStays : flagOf n old cell ≡ 1 → flagOf n new cell ≡ 1
   pub nowSeed : T (seedOf n new code cell)
   pub others : (c : ℕ) → c < n → (c ≡ cell → ⊥) → flagOf n new c ≡ flagOf n old c
   pub otherSeeds : (c : ℕ) → c < n → (c ≡ cell → ⊥) → (a : ℕ) → seedOf n new a c ≡ seedOf n old a c
@@ -168,7 +173,7 @@ pub record Arrived (n set code : ℕ) (idle : Bool) (from to k s : ℕ) (old new
   pub seedsStay : (c : ℕ) → c < n → T (seedOf n old code c) → T (seedOf n new code c)
   pub otherSeeds : (c : ℕ) → c < n → ((i : ℕ) → from ≤ i → i < to → orderOf n set old i ≡ c → ⊥) → seedOf n new code c ≡ seedOf n old code c
   pub otherCodes : (a : ℕ) → T (isClosing a) → (a ≡ code → ⊥) → (c : ℕ) → c < n → seedOf n new a c ≡ seedOf n old a c
-  pub flags : (i : ℕ) → from ≤ i → i < to → (flagOf n new (orderOf n set old i) ≡ 1) ⊎ (T idle × T (seedOf n old (otherCode code) (orderOf n set old i)))
+  pub nowListed : (i : ℕ) → from ≤ i → i < to → ListedOr n idle new old (otherCode code) (orderOf n set old i)
   pub flagsStay : (c : ℕ) → c < n → flagOf n old c ≡ 1 → flagOf n new c ≡ 1
   pub otherFlags : (c : ℕ) → c < n → ((i : ℕ) → from ≤ i → i < to → orderOf n set old i ≡ c → ⊥) → flagOf n new c ≡ flagOf n old c
   pub low : (k : ℕ) → k < n * activeAt → getD new k 0 ≡ getD old k 0

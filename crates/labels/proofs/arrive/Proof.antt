@@ -12,16 +12,11 @@ use Rattle.rules.specs.Rules.{isClosing}
 use Rattle.layout.specs.Layout.{orderIn, labelWords, activeAt, trailAt}
 use Rattle.lists.specs.Lists.{flagOf, Listed}
 use Rattle.table.specs.Problem.{seedOf}
-use Rattle.labels.specs.Labels.{knownOf, orderOf, otherCode, LabelBy, Apart, SameLabel, Planted, Arrived}
+use Rattle.labels.specs.Labels.{knownOf, orderOf, otherCode, ListedOr, LabelBy, Apart, SameLabel, Planted, Arrived}
 use Rattle.labels.proofs.Codes.{other-closes, other-differs}
 use Rattle.labels.proofs.Labels.{known-below, label-kept}
 use Rattle.labels.proofs.arrive.Statement.{statement}
 use Rattle.labels.proofs.arrive.Tie as tie
-
--- what `plant` leaves of the cell's flag
-abbrev Flagged : ℕ → Bool → List ℕ → List ℕ → ℕ → ℕ → Type 0
-Flagged n idle old new code cell =
-    (flagOf n new cell ≡ 1) ⊎ (T idle × (T (seedOf n old (otherCode code) cell) × (flagOf n new cell ≡ flagOf n old cell)))
 
 arrived-none : (n set code : ℕ) (idle : Bool) (from k s : ℕ) (words : List ℕ) (active : ℕ) → Listed n words (n * activeAt) active → Arrived n set code idle from from k s words words active
 arrived-none n set code idle from k s words active l =
@@ -34,7 +29,7 @@ arrived-none n set code idle from k s words active l =
       seedsStay = λ c h e. e;
       otherSeeds = λ c h e. refl;
       otherCodes = λ a z f c h. refl;
-      flags = λ i h k. absurd (omega arith);
+      nowListed = λ i h k. absurd (omega arith);
       flagsStay = λ c h e. e;
       otherFlags = λ c h e. refl;
       low = λ k h. refl;
@@ -64,11 +59,7 @@ module _ {n set code : ℕ} {idle : Bool} {from to k s : ℕ} {old mid new : Lis
   seed-stays c k o (inr q) = rw (p .otherSeeds c k q code) o
 
   flag-stays : (c : ℕ) → c < n → flagOf n mid c ≡ 1 → (c ≡ cell) ⊎ (c ≡ cell → ⊥) → flagOf n new c ≡ 1
-  flag-stays c k o (inl q) = rw q (go (p .nowFlagged))
-    where
-      go : Flagged n idle mid new code cell → flagOf n new cell ≡ 1
-      go (inl f) = f
-      go (inr f) = f .1 .1 ∙ (rw (← q) o)
+  flag-stays c k o (inl q) = rw q (p .flagStays (rw (← q) o))
   flag-stays c k o (inr q) = p .others c k q ∙ o
 
   module _ (cells : (i : ℕ) → i < to → orderOf n set old i < n) where
@@ -76,15 +67,15 @@ module _ {n set code : ℕ} {idle : Bool} {from to k s : ℕ} {old mid new : Lis
     seed i k j (inl q) = rw (q, ← e) (p .nowSeed)
     seed i k j (inr q) = seed-stays _ (cells i (omega arith)) (a .seeds i k (omega arith)) (equal (orderOf n set old i) cell)
 
-    flag : (i : ℕ) → from ≤ i → i < to + 1 → (i ≡ to) ⊎ (i ≡ to → ⊥) → (flagOf n new (orderOf n set old i) ≡ 1) ⊎ (T idle × T (seedOf n old (otherCode code) (orderOf n set old i)))
-    flag i k j (inl q) = rw (q, ← e) (now (p .nowFlagged))
+    listed : (i : ℕ) → from ≤ i → i < to + 1 → (i ≡ to) ⊎ (i ≡ to → ⊥) → ListedOr n idle new old (otherCode code) (orderOf n set old i)
+    listed i k j (inl q) = rw (q, ← e) (now (p .nowListed))
       where
-        now : Flagged n idle mid new code cell → (flagOf n new cell ≡ 1) ⊎ (T idle × T (seedOf n old (otherCode code) cell))
+        now : ListedOr n idle new mid (otherCode code) cell → ListedOr n idle new old (otherCode code) cell
         now (inl f) = inl f
-        now (inr f) = inr (f .0, rw (← a .otherCodes (otherCode code) (other-closes code closes) (other-differs code closes) cell h) (f .1 .0))
-    flag i k j (inr q) = stay (a .flags i k (omega arith))
+        now (inr f) = inr (f .0, rw (← a .otherCodes (otherCode code) (other-closes code closes) (other-differs code closes) cell h) (f .1))
+    listed i k j (inr q) = stay (a .nowListed i k (omega arith))
       where
-        stay : (flagOf n mid (orderOf n set old i) ≡ 1) ⊎ (T idle × T (seedOf n old (otherCode code) (orderOf n set old i))) → (flagOf n new (orderOf n set old i) ≡ 1) ⊎ (T idle × T (seedOf n old (otherCode code) (orderOf n set old i)))
+        stay : ListedOr n idle mid old (otherCode code) (orderOf n set old i) → ListedOr n idle new old (otherCode code) (orderOf n set old i)
         stay (inl f) = inl (flag-stays _ (cells i (omega arith)) f (equal (orderOf n set old i) cell))
         stay (inr f) = inr f
 
@@ -100,7 +91,7 @@ module _ {n set code : ℕ} {idle : Bool} {from to k s : ℕ} {old mid new : Lis
           otherSeeds =
               λ c k o. p .otherSeeds c k (λ q. o to (a .forth) (omega arith) (sym (q ∙ e))) code ∙ a .otherSeeds c k (λ i l j. o i l (omega arith));
           otherCodes = λ b z f c k. p .otherCodes b z f c k ∙ a .otherCodes b z f c k;
-          flags = λ i k j. flag i k j (equal i to);
+          nowListed = λ i k j. listed i k j (equal i to);
           flagsStay = λ c k o. flag-stays c k (a .flagsStay c k o) (equal c cell);
           otherFlags =
               λ c k o. p .others c k (λ q. o to (a .forth) (omega arith) (sym (q ∙ e))) ∙ a .otherFlags c k (λ i l j. o i l (omega arith));

@@ -62,7 +62,8 @@ planted n cell code idle mark active old new next h r marks e =
     record {
       same = simp length-set at (e .same);
       listed = e .listed;
-      nowFlagged = inl (e .now-flagged);
+      nowListed = inl (e .now-flagged);
+      flagStays = λ f. e .now-flagged;
       nowSeed = now-seed n cell code mark old new r h marks stays;
       others = λ c k q. e .others c k q ∙ kept old n cell mark (n * listedAt + c) (λ x. omega arith);
       otherSeeds = other-seeds n cell code mark old new r h marks stays;
@@ -80,7 +81,8 @@ unlisted n cell code idle mark active old h r marks l i o =
     record {
       same = length-set old (n * seedsAt + cell) mark;
       listed = seed-listed old n cell mark active l;
-      nowFlagged = inr (i, (o, kept old n cell mark (n * listedAt + cell) (λ x. omega arith)));
+      nowListed = inr (i, o);
+      flagStays = λ f. kept old n cell mark (n * listedAt + cell) (λ x. omega arith) ∙ f;
       nowSeed = now-seed n cell code mark old (seeded old n cell mark) r h marks stays;
       others = λ c k q. kept old n cell mark (n * listedAt + c) (λ x. omega arith);
       otherSeeds = other-seeds n cell code mark old (seeded old n cell mark) r h marks stays;
