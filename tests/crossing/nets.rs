@@ -1,10 +1,11 @@
-// Nets about their thresholds: the periods taken down from one to the next, the FIFO strained, all delays shifted.
+// Nets about their thresholds: a FIFO quicker than the register over one wire and slower over the other, the periods taken
+// down from one to the next, the FIFO strained, all delays shifted.
 
 use crate::best;
 use crate::net::{legal, Net};
 use crate::plans;
 use crate::random::Random;
-use crate::rules::Visit;
+use crate::rules::{Register, Visit};
 use crate::search::TooLarge;
 
 const LONGEST: u32 = 30_000; // ticks
@@ -112,10 +113,29 @@ fn shift(r: &mut Random, n: &mut Net) {
     }
 }
 
+// One wire lighter than the other, and a FIFO whose delay crosses the register's at a load between theirs.
+fn cross_lines(r: &mut Random, n: &mut Net) {
+    let p = &mut n.problem;
+    let (mut light, mut heavy) = (&mut p.horizontal, &mut p.vertical);
+    if r.chance(50) {
+        std::mem::swap(&mut light, &mut heavy);
+    }
+    light.c = r.below(3);
+    heavy.c = light.c + r.within(2, 6);
+    p.limit = p.limit.max(2 * heavy.c + 4).min(63);
+    let (at, by, g) = (r.within(light.c + 1, heavy.c), r.within(1, 4), p.register);
+    let steep = Register { r: (g.r + by).min(255), c: r.below(2), ..g };
+    let flat = Register { k: (g.k + by * at).min(1_000), c: r.below(2), ..g };
+    (p.register, n.fifo) = if r.chance(50) { (steep, flat) } else { (flat, steep) };
+}
+
 // The next net. None: a search would follow too many states.
 pub fn draw(r: &mut Random, most: usize) -> Option<Net> {
     let mut n = plans::draw(r);
     if n.source_period == 0 {
+        if r.chance(10) {
+            cross_lines(r, &mut n);
+        }
         let route = in_ratio(r, &mut n, most).ok()?;
         if r.chance(40) {
             one_by_one(r, &mut n, route, most).ok()?;

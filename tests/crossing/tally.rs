@@ -27,7 +27,7 @@ const KINDS: [(&str, u64, &[&str]); 17] = [
     ("4: fault", 1, &["1", "2", "3", "4", "5", "6", "7", "8", "9 1", "9 2", "9 3", "9 4", "9 5", "9 6"]),
     ("periods", 40, &PERIODS),
     ("FIFO", 50, &["like the register", "unlike it", "like it, equal periods"]),
-    ("FIFO with", 10, &["C = L", "K 500 and more", "R 0", "K 0", "C 0", "setup above the register's", "R above"]),
+    ("FIFO with", 10, &["C = L", "K 500 and more", "R 0", "K 0", "C 0", "setup above the register's", "R above", "delay crossing"]),
     (
         "none with",
         10,
@@ -225,6 +225,9 @@ impl Tally {
         self.add_if(f.c == 0, "FIFO with", "C 0");
         self.add_if(f.setup > g.setup, "FIFO with", "setup above the register's");
         self.add_if(f.r > g.r, "FIFO with", "R above");
+        let by = |load: u32| (f.r * load + f.k).cmp(&(g.r * load + g.k));
+        let (light, heavy) = (n.problem.horizontal.c.min(n.problem.vertical.c), n.problem.horizontal.c.max(n.problem.vertical.c));
+        self.add_if(by(light) != by(heavy), "FIFO with", "delay crossing");
     }
 
     fn place(&mut self, n: &Net, route: &[Visit]) {

@@ -1,9 +1,10 @@
 -- Two rows of costs compared, and what follows for the gates of a net.
-use Prim.Native.Nat.{ℕ, _+_, _≤_, _<_}
+use Prim.Native.Nat.{ℕ, _+_, _≤_, _<_, min}
 use mathlib.Core.Path.{_≡_}
 use mathlib.Core.Bool.{Bool, true, false}
 use mathlib.Core.List.{List}
 use lib.ListN.{getD}
+use Rattle.timing.specs.Formulas.{wireLoad}
 use Rattle.costs.specs.Costs.{rowWords, registerAt, fifoAt}
 use Rattle.problem.specs.declared.net.Net.{Net}
 use Rattle.table.specs.Problem.{netRules}
@@ -27,6 +28,7 @@ pub record IdleFrom (costs : List ℕ) (from : ℕ) (r : Idle) : Type 0 where
   pub registers : NoLess costs registerAt fifoAt from (r .registers)
   pub fifos : NoLess costs fifoAt registerAt from (r .fifos)
 
--- by the rules of the net on any marks
-abbrev pub IdleIn : Net → Idle → Type 0
-IdleIn net r = (marks : List ℕ) → IdleRight (netRules net marks) r
+-- After `idle_gates`: right by the rules of the net on any marks; with labels of FIFOs the rows are compared from the lesser load of a wire on.
+pub record IdleIn (net : Net) (costs : List ℕ) (exits : ℕ) (r : Idle) : Type 0 where
+  pub right : (marks : List ℕ) → IdleRight (netRules net marks) r
+  pub told : 0 < exits → IdleFrom costs (min (wireLoad (net .problem .elements .horizontal)) (wireLoad (net .problem .elements .vertical))) r

@@ -42,7 +42,7 @@ fn idle_from(costs: &[u16; COSTS], from: usize) -> Idle
 // With no labels of FIFOs no cell is a seed of both, and nothing is looked up.
 pub fn idle_gates(net: Net, costs: &[u16; COSTS], exits: usize) -> Idle
     requires { ⌜ Valid (net .problem .elements) × CostsOf (net .problem .elements) (fifoOf net) (now costs) ⌝ }
-    ensures { λ r. ⌜ IdleIn net r ⌝ }
+    ensures { λ r. ⌜ IdleIn net (now (costs .entry)) exits r ⌝ }
 {
     if exits == 0 {
         return no_idle();

@@ -12,7 +12,7 @@ use Rattle.rules.specs.Rules.{registerCode, fifoCode, isClosing}
 use Rattle.rules.proofs.View.{closing-codes}
 use Rattle.table.specs.Problem.{marksSeed}
 use Rattle.labels.specs.Labels.{MarkedWith}
-use Rattle.labels.proofs.Codes.{closing-small}
+use Rattle.labels.proofs.Codes.{closing-small, other-differs}
 use Rattle.labels.proofs.marked.Statement.{statement}
 use Rattle.labels.proofs.marked.Tie as tie
 
@@ -49,12 +49,8 @@ module _ (code : ℕ) (closes : T (isClosing code)) where
   newly-marked word h =
       record {
         has = simp (eq-eqb code code refl) tt;
-        others = λ a z f. rw (other a z f) (simp (ne-eqb code (15 - code) (λ z. differ (closing-codes code closes) z), ne-eqb code 15 (λ z. omega (arith, small))) (sym h));
+        others = λ a z f. rw (other a z f) (simp (ne-eqb code (15 - code) (λ z. other-differs code closes (sym z)), ne-eqb code 15 (λ z. omega (arith, small))) (sym h));
       }
-    where
-      differ : (code ≡ registerCode) ⊎ (code ≡ fifoCode) → code ≡ 15 - code → ⊥
-      differ (inl q) z = omega arith
-      differ (inr q) z = omega arith
 
 marks-seed-requires : tie.Need-marks-seed-requires
 marks-seed-requires c κs = search needs

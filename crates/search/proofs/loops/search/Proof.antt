@@ -59,7 +59,7 @@ arrive-both-requires c κs =
 loop-holds : tie.Need-loop-holds Inv-loop μ-loop
 loop-holds c =
     let s = c .before .before .before .before .before .before .before .before .before .before .before in
-    (arrive-front (ready-lawful _ _ (s .pre .0)) (starts (c .before .before .before .before .before .before .before)) (c .before .before .before .before .idle-gates .ensures _) (c .before .before .arrive-both .ensures), (refl, beyond-kept (λ i h. refl)))
+    (arrive-front (ready-lawful _ _ (s .pre .0)) (starts (c .before .before .before .before .before .before .before)) (c .before .before .before .before .idle-gates .ensures .right _) (c .before .before .arrive-both .ensures), (refl, beyond-kept (λ i h. refl)))
 
 take-turn-requires : tie.Need-take-turn-requires Inv-loop μ-loop
 take-turn-requires c κs =
@@ -146,7 +146,7 @@ loop-again c =
     let loop = c .before .before .before .before .before .before .before .before .before .before .before .loop .inv in
     let g = goes-on (turn .done) (c .before .before .before .before .before .t3 .given .0 .0) (c .before .before .before .before .before .t3 .given .1) in
     let a = c .before .before .arrive-both2 .ensures in
-    (arrive-front (ready-lawful _ _ (s .pre .0)) (g .0) (c .before .before .before .before .before .before .before .before .before .before .before .before .before .before .before .before .idle-gates .ensures _) a, (a .same ∙ (turn .same ∙ loop .1 .0), beyond-then (loop .1 .1) (beyond-then (turn .beyond) (beyond-kept (a .high)))))
+    (arrive-front (ready-lawful _ _ (s .pre .0)) (g .0) (c .before .before .before .before .before .before .before .before .before .before .before .before .before .before .before .before .idle-gates .ensures .right _) a, (a .same ∙ (turn .same ∙ loop .1 .0), beyond-then (loop .1 .1) (beyond-then (turn .beyond) (beyond-kept (a .high)))))
 
 pub search-spec : {M : Type 1} → statement M
 search-spec =
