@@ -6,6 +6,19 @@ use crate::peer::{Plain, Tuned};
 use crate::plans::Random;
 use crate::problem::{BLOCKED, Buffer, CUT_BELOW, CUT_RIGHT, Problem, Register, TAP, Wire};
 
+/// A skew, none for half of them, and the period with it: mostly as much longer, so that spans close as without one; now
+/// and then the skew is about the period.
+fn skewed(x: &mut Random, period: u16) -> (u16, u16) {
+    let more = match x.below(20) {
+        0..10 => 0,
+        10..16 => 1 + x.below(4),
+        16..18 => x.below(30001),
+        _ => return ((period as u64 + x.below(4)).saturating_sub(2).min(30000) as u16, period),
+    };
+    let skew = more.min(30000 - period as u64) as u16;
+    (skew, period + skew)
+}
+
 /// Narrow strips, small squares, and long strips with few taps; small numbers, sometimes zeros, sometimes the whole range.
 pub fn small(x: &mut Random) -> Problem {
     let (width, height) = match x.below(4) {
@@ -53,10 +66,11 @@ pub fn small(x: &mut Random) -> Problem {
         + register.k as u64;
     let times = [1, 2, 5][x.below(3) as usize];
     let period = (one * 19 / 20 + 1 + x.below(one * times + 3)).clamp(1, 30000) as u16;
+    let (skew, period) = skewed(x, period);
     let limit = if x.percent(70) { 63 } else { 4 + x.below(28) as u16 };
     let source = if x.percent(60) { 0 } else { x.below(n as u64) as usize };
     let sink = if source == 0 && x.percent(80) { n - 1 } else { (source + 1 + x.below(n as u64 - 1) as usize) % n };
-    Problem { width, height, marks, register, horizontal, vertical, period, limit, buffers, source, sink }
+    Problem { width, height, marks, register, horizontal, vertical, period, skew, limit, buffers, source, sink }
 }
 
 /// Whether the written route is legal and has the answer's registers and spare half-ticks.
@@ -70,7 +84,7 @@ fn written_right(a: &Ours, p: &Problem, answer: Answer) -> bool {
 pub fn run(count: u64, seed: u64) -> bool {
     let (mut a, mut b, mut c) = (Ours::new(), Plain::new(), Tuned::new());
     let mut x = Random::new(seed);
-    let (mut none, mut by_registers) = (0u64, [0u64; 6]);
+    let (mut none, mut by_registers, mut with_skew) = (0u64, [0u64; 6], [0u64; 2]);
     for i in 0..count {
         let p = small(&mut x);
         let used = 256 * p.cells();
@@ -99,12 +113,17 @@ pub fn run(count: u64, seed: u64) -> bool {
             None => none += 1,
             Some(k) => by_registers[k.min(5) as usize] += 1,
         }
+        if p.skew > 0 {
+            with_skew[got.is_some() as usize] += 1;
+        }
         if i % 10000 == 9999 {
             eprintln!("plan {} of {count}", i + 1);
         }
     }
     println!(
-        "{count} small plans, seed {seed}: all agree; none on {none}, 0, 1, 2, 3, 4, more registers on {by_registers:?}"
+        "{count} small plans, seed {seed}: all agree; none on {none}, 0, 1, 2, 3, 4, more registers on {by_registers:?}; \
+         with a skew {} routes, {} none",
+        with_skew[1], with_skew[0]
     );
     true
 }

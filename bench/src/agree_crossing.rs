@@ -51,7 +51,8 @@ fn clocks(x: &mut Random, p: &mut Problem) -> Crossing {
     Crossing { source_period, fifo }
 }
 
-/// How often each came: no route, no register, registers on one side or on both, more than two of them.
+/// How often each came: no route, no register, registers on one side or on both, more than two of them; a route with a
+/// skew, and none with one.
 #[derive(Default, Debug)]
 struct Seen {
     none: u64,
@@ -60,6 +61,8 @@ struct Seen {
     sink_side: u64,
     both_sides: u64,
     more_than_two: u64,
+    route_with_skew: u64,
+    none_with_skew: u64,
 }
 
 /// Whether both agree on all of them, and ours passes all checks of `Sides::answer`.
@@ -86,6 +89,9 @@ pub fn run(count: u64, seed: u64) -> bool {
             _ => &mut seen.both_sides,
         } += 1;
         seen.more_than_two += (source + sink > 2) as u64;
+        if p.skew > 0 {
+            *if a.number == 7 { &mut seen.none_with_skew } else { &mut seen.route_with_skew } += 1;
+        }
         if i % 10000 == 9999 {
             eprintln!("net {} of {count}", i + 1);
         }

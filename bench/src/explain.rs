@@ -61,9 +61,9 @@ fn at_period(p: &Problem, period: u16) -> Problem {
     Problem { period, ..p.clone() }
 }
 
-/// The same without any delay.
+/// The same without any delay and without a skew.
 fn no_delay(p: &Problem) -> Problem {
-    let mut p = p.clone();
+    let mut p = Problem { skew: 0, ..p.clone() };
     (p.register.r, p.register.k, p.register.setup) = (0, 0, 0);
     (p.horizontal.r, p.vertical.r) = (0, 0);
     p.buffers.iter_mut().for_each(|b| (b.r, b.k) = (0, 0));

@@ -19,7 +19,8 @@ struct Node<L> {
     gated: L,
 }
 
-/// A register or FIFO in half-ticks: what it adds where it closes a span, and the load and delay that it starts one with.
+/// A register or FIFO in half-ticks: what it adds where it closes a span, twice the skew in `k`, and the load and delay
+/// that it starts one with.
 #[derive(Clone, Copy)]
 pub struct Closer {
     r: u32,
@@ -29,8 +30,8 @@ pub struct Closer {
 }
 
 impl Closer {
-    pub fn new(g: Register) -> Closer {
-        Closer { r: 2 * g.r as u32, k: 2 * g.k as u32, load: g.c as u32, delay: 2 * g.setup as u32 }
+    pub fn new(g: Register, skew: u16) -> Closer {
+        Closer { r: 2 * g.r as u32, k: 2 * (g.k as u32 + skew as u32), load: g.c as u32, delay: 2 * g.setup as u32 }
     }
 }
 

@@ -45,7 +45,7 @@ struct Net {
 
 impl Net {
     fn new(p: &Problem, x: &Crossing) -> Net {
-        let (register, fifo) = (Closer::new(p.register), Closer::new(x.fifo));
+        let (register, fifo) = (Closer::new(p.register, p.skew), Closer::new(x.fifo, p.skew));
         let sink = Side::new(p, 0, p.period, &[register, fifo], None);
         let source = Side::new(p, p.cells(), x.source_period, &[register], Some(register));
         Net { sides: [sink, source], periods: [p.period as u32, x.source_period as u32], register, fifo }

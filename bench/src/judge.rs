@@ -94,7 +94,7 @@ fn walk(p: &Problem, crossing: Option<&Crossing>, words: &[u16]) -> Result<Legal
         return at_fault(0, Fault::Load);
     }
     let (mut from, (mut load, mut delay)) = (p.sink, start);
-    let (mut allowed, mut side) = (2 * p.period as u64, 0);
+    let (mut allowed, mut side, skew) = (2 * p.period as u64, 0, 2 * p.skew as u64);
     let (mut registers, mut slack, last) = ([0; 2], u64::MAX, words.len() / 2 - 1);
     for (i, visit) in words.chunks_exact(2).enumerate().skip(1) {
         let (cell, code) = (visit[0] as usize, visit[1] as usize);
@@ -126,7 +126,7 @@ fn walk(p: &Problem, crossing: Option<&Crossing>, words: &[u16]) -> Result<Legal
         match (code, fifo) {
             (0, _) => {}
             (7, _) => {
-                let closing = delay + 2 * (p.register.r as u64 * load + p.register.k as u64);
+                let closing = delay + 2 * (p.register.r as u64 * load + p.register.k as u64) + skew;
                 if closing > allowed {
                     return late(i, closing - allowed);
                 }
@@ -135,7 +135,7 @@ fn walk(p: &Problem, crossing: Option<&Crossing>, words: &[u16]) -> Result<Legal
                 registers[side] += (i < last) as u32;
             }
             (_, Some(x)) => {
-                let closing = delay + 2 * (x.fifo.r as u64 * load + x.fifo.k as u64);
+                let closing = delay + 2 * (x.fifo.r as u64 * load + x.fifo.k as u64) + skew;
                 if closing > allowed {
                     return late(i, closing - allowed);
                 }

@@ -122,7 +122,7 @@ pub struct Why {
 pub struct Ours {
     pub scratch: Vec<u16>,
     visits: Vec<u16>,
-    tables: [u16; 10],
+    tables: [u16; 11],
     clocks: [u16; 5],
     buffers: Vec<u16>,
 }
@@ -132,7 +132,7 @@ impl Ours {
         Ours {
             scratch: vec![0; 512 * 1024 + 1],
             visits: vec![0; 1 << 16],
-            tables: [0; 10],
+            tables: [0; 11],
             clocks: [0; 5],
             buffers: Vec::new(),
         }
@@ -141,7 +141,7 @@ impl Ours {
     /// Puts the tables into words; not part of what is timed.
     pub fn load(&mut self, p: &Problem) {
         let (g, h, v) = (p.register, p.horizontal, p.vertical);
-        self.tables = [g.r, g.k, g.c, g.setup, h.r, h.c, v.r, v.c, p.period, p.limit];
+        self.tables = [g.r, g.k, g.c, g.setup, h.r, h.c, v.r, v.c, p.period, p.skew, p.limit];
         self.buffers = p.buffers.iter().flat_map(|b| [b.r, b.k, b.c]).collect();
     }
 

@@ -33,7 +33,7 @@ impl<Q: Queue, L: List> Peer<Q, L> {
 
     /// The least number of registers between the ends, or none.
     pub fn route(&mut self, p: &Problem) -> Option<u32> {
-        let register = Closer::new(p.register);
+        let register = Closer::new(p.register, p.skew);
         let side = Side::new(p, 0, p.period, &[register], Some(register));
         self.prepare(p);
         self.next_wave.push(p.sink as u16);

@@ -61,6 +61,7 @@ fn problem(size: Size, period: u16, marks: Vec<u8>, source: usize, sink: usize) 
         horizontal: Wire { r: 2, c: 3 },
         vertical: Wire { r: 3, c: 2 },
         period,
+        skew: 0,
         limit: size.limit,
         buffers: take.iter().map(|&i| BUFFERS[i]).collect(),
         source,

@@ -35,6 +35,7 @@ pub struct Problem {
     pub horizontal: Wire,
     pub vertical: Wire,
     pub period: u16,
+    pub skew: u16,
     pub limit: u16,
     pub buffers: Vec<Buffer>,
     pub source: usize,

@@ -9,7 +9,7 @@ const VISITS: usize = 1_024; // 2,048 words, two a visit
 #[derive(Clone, Debug)]
 pub enum Answer {
     Route(Problem, Vec<Visit>),
-    None,
+    None(Problem),
     // A fault is named where the refusal is 4 and the job was read whole.
     Refused(u32, Option<Fault>),
 }
@@ -32,7 +32,7 @@ pub fn answer(bytes: &[u8], most: usize) -> Result<Answer, TooLarge> {
     }
     // Refusal 6 cannot come: the program has scratch words for every plan that it reads.
     Ok(match search::best(&p, most)? {
-        None => Answer::None,
+        None => Answer::None(p),
         Some(route) if route.len() > VISITS => Answer::Refused(8, None),
         Some(route) => Answer::Route(p, route),
     })
@@ -41,7 +41,7 @@ pub fn answer(bytes: &[u8], most: usize) -> Result<Answer, TooLarge> {
 impl Answer {
     pub fn text(&self) -> String {
         match self {
-            Answer::None => "none\n".to_string(),
+            Answer::None(_) => "none\n".to_string(),
             Answer::Refused(number, _) => format!("refused {number}\n"),
             Answer::Route(p, route) => {
                 let k = registers(route);

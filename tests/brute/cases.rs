@@ -18,7 +18,7 @@ fn refused(name: &str, bytes: Vec<u8>, number: u32) -> Case {
     case(name, bytes, &format!("refused {number}\n"))
 }
 
-// Two cells side by side, numbers of one, two and three bytes, six buffers; no route, for the setup takes all of T.
+// Two cells side by side, numbers of one, two and three bytes, six buffers; no route, for setup and skew take all of T.
 fn pair() -> Problem {
     Problem {
         width: 2,
@@ -28,6 +28,7 @@ fn pair() -> Problem {
         horizontal: Wire { r: 255, c: 63 },
         vertical: Wire { r: 255, c: 63 },
         period: 30_000,
+        skew: 30_000,
         limit: 63,
         source: 0,
         sink: 1,
@@ -37,9 +38,9 @@ fn pair() -> Problem {
 
 const MARKS: usize = 2; // the place of the first mark among the numbers of a job
 const TABLES: usize = 4; // of the pair's register R
-const SOURCE: usize = TABLES + 10;
-const SINK: usize = TABLES + 11;
-const COUNT: usize = TABLES + 12;
+const SOURCE: usize = TABLES + 11;
+const SINK: usize = TABLES + 12;
+const COUNT: usize = TABLES + 13;
 
 // The pair's numbers with one replaced.
 fn with(place: usize, value: u32) -> Vec<u32> {
@@ -141,7 +142,7 @@ fn first_fault(out: &mut Vec<Case>) {
 // Each element one above its range; the pair has each at the top of its range.
 fn ranges(out: &mut Vec<Case>) {
     let names = ["register R", "register K", "register C", "setup", "horizontal R", "horizontal C", "vertical R"];
-    let names = [&names[..], &["vertical C", "T", "L"]].concat();
+    let names = [&names[..], &["vertical C", "T", "skew", "L"]].concat();
     let list = numbers(&pair());
     for (i, name) in names.iter().enumerate() {
         for value in [list[TABLES + i] + 1, 65_535] {
@@ -192,18 +193,18 @@ fn full_size(out: &mut Vec<Case>) {
     out.push(case("128 cells", write(&list), &text));
     // The longest job that reads whole: every number after the marks has three bytes, but the count.
     let mut longest = list.clone();
-    for number in &mut longest[130..142] {
+    for number in &mut longest[130..143] {
         *number = 65_535;
     }
-    longest[142] = 6;
+    longest[143] = 6;
     longest.extend([65_535; 18]);
     let bytes = write(&longest);
-    assert_eq!(bytes.len(), 221);
-    out.push(refused("221 bytes", bytes.clone(), 4));
+    assert_eq!(bytes.len(), 224);
+    out.push(refused("224 bytes", bytes.clone(), 4));
     for last in [0, 128] {
-        out.push(refused("222 bytes", [bytes.clone(), vec![last]].concat(), 15));
+        out.push(refused("225 bytes", [bytes.clone(), vec![last]].concat(), 15));
     }
-    out.push(refused("220 bytes", bytes[..220].to_vec(), 15));
+    out.push(refused("223 bytes", bytes[..223].to_vec(), 15));
 }
 
 pub fn cases() -> Vec<Case> {

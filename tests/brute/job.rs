@@ -55,6 +55,7 @@ pub fn read(bytes: &[u8]) -> Result<Problem, u32> {
     p.horizontal = cursor.wire()?;
     p.vertical = cursor.wire()?;
     p.period = cursor.number()?;
+    p.skew = cursor.number()?;
     p.limit = cursor.number()?;
     p.source = cursor.number()?;
     p.sink = cursor.number()?;
@@ -77,7 +78,7 @@ pub fn numbers(p: &Problem) -> Vec<u32> {
     out.extend(&p.marks);
     out.extend([p.register.r, p.register.k, p.register.c, p.register.setup]);
     out.extend([p.horizontal.r, p.horizontal.c, p.vertical.r, p.vertical.c]);
-    out.extend([p.period, p.limit, p.source, p.sink, p.buffers.len() as u32]);
+    out.extend([p.period, p.skew, p.limit, p.source, p.sink, p.buffers.len() as u32]);
     for b in &p.buffers {
         out.extend([b.r, b.k, b.c]);
     }

@@ -152,7 +152,7 @@ fn run(printer: &str, jobs: u64, seed: u64, states: usize) -> bool {
         }
         mix.shapes[job.shape] += 1;
         mix.damaged += job.damaged as u64;
-        mix.count(&answer);
+        mix.count(&job.bytes, &answer);
         if mix.jobs % 5_000 == 0 && jobs > 5_000 {
             println!("{} jobs, {mismatches} mismatches, {} s", mix.jobs, start.elapsed().as_secs());
         }

@@ -1,4 +1,5 @@
-// Random jobs: plans of many shapes, tables of several ranges, T and L near the thresholds, then faults and damage.
+// Random jobs: plans of many shapes, tables of several ranges, T, L and the skew near the thresholds, then faults and
+// damage.
 
 use crate::job;
 use crate::random::Random;
@@ -309,16 +310,57 @@ enum Drawn {
     TooLarge, // its search would follow too many states
 }
 
+const LONGEST: u32 = 30_000; // ticks
+
+// A skew before T is chosen: a good share has none.
+pub fn small_skew(r: &mut Random) -> u32 {
+    let (some, more) = (r.within(1, 4), r.within(1, 40));
+    r.pick(&[0, 0, 0, 0, 0, some, some, some, more])
+}
+
+// A skew about T, or the largest.
+pub fn near_skew(r: &mut Random, period: u32) -> u32 {
+    r.pick(&[period - 1, period, period, period + 1, period + 2, LONGEST]).min(LONGEST)
+}
+
+// More skew and a longer T by one number of ticks: every span keeps its spare figure.
+fn shift(r: &mut Random, p: &mut Problem) {
+    let most = LONGEST - p.period.max(p.skew);
+    let (any, little) = (r.below(most + 1), r.below(most.min(100) + 1));
+    let by = r.pick(&[any, little, most]);
+    p.period += by;
+    p.skew += by;
+}
+
+// Nothing but buffers takes time: a span may close with all of T taken by the skew.
+fn timeless(p: &mut Problem) {
+    p.register = Register { c: p.register.c, ..Register::default() };
+    (p.horizontal.r, p.vertical.r) = (0, 0);
+}
+
+// The skew after T is chosen.
+fn set_skew(r: &mut Random, p: &mut Problem) {
+    match r.below(100) {
+        0..15 => shift(r, p),
+        15..18 => p.skew = near_skew(r, p.period),
+        18..21 => {
+            timeless(p);
+            p.skew = near_skew(r, p.period);
+        }
+        _ => {}
+    }
+}
+
 // T and L: first some with which there is a route, then down from threshold to threshold.
 fn tighten(r: &mut Random, p: &mut Problem, most: usize) -> Drawn {
     p.limit = if r.chance(70) { 63 } else { r.within(p.register.c, 63) };
     p.period = r.within(1, 40);
     let mut best = search::best(p, most);
     while let Ok(None) = best {
-        if p.period == 30_000 {
+        if p.period == LONGEST {
             return Drawn::NoRoute;
         }
-        p.period = (p.period * r.within(2, 4)).min(30_000);
+        p.period = (p.period * r.within(2, 4)).min(LONGEST);
         best = search::best(p, most);
     }
     let goal = goal(r);
@@ -369,6 +411,12 @@ pub struct Job {
 
 // A problem within all ranges, with its shape. None: its search would follow too many states.
 pub fn problem(r: &mut Random, most: usize) -> Option<(usize, Problem)> {
+    let (shape, mut p) = tightened(r, most)?;
+    set_skew(r, &mut p);
+    Some((shape, p))
+}
+
+fn tightened(r: &mut Random, most: usize) -> Option<(usize, Problem)> {
     loop {
         let shape = r.pick(&[0, 0, 0, 1, 1, 2, 2, 2, 3, 3, 3, 4, 4, 5, 6, RATCHET]);
         if shape == RATCHET {
@@ -377,6 +425,7 @@ pub fn problem(r: &mut Random, most: usize) -> Option<(usize, Problem)> {
         let mut p = plan(r, shape);
         let kind = if shape == 6 { r.pick(&[0, 0, 1, 4]) } else { r.pick(&[0, 0, 0, 1, 1, 2, 2, 3, 4]) };
         tables(r, &mut p, kind);
+        p.skew = small_skew(r);
         match tighten(r, &mut p, most) {
             Drawn::TooLarge => return None,
             Drawn::NoRoute if r.chance(85) => continue, // a few are enough
@@ -394,7 +443,7 @@ fn spoil(r: &mut Random, p: &Problem, list: &mut [u32]) {
         1 => r.within(most + 1, 65_535),
         _ => r.pick(&[most + 1, 65_535, 128, 16_384]).max(most + 1),
     };
-    match r.below(14) {
+    match r.below(15) {
         0 => list[0] = r.pick(&[0, 33, 65_535]),
         1 => list[1] = r.pick(&[0, 33, 65_535]),
         2 => (list[0], list[1]) = r.pick(&[(13, 10), (32, 32), (43, 3), (129, 1), (5, 26), (32, 5)]),
@@ -416,18 +465,19 @@ fn spoil(r: &mut Random, p: &Problem, list: &mut [u32]) {
             list[tables + place] = above(r, most);
         }
         8 => list[tables + 8] = if r.chance(30) { 0 } else { above(r, 30_000) },
-        9 => list[tables + 9] = above(r, 63),
-        10..=12 => {
+        9 => list[tables + 9] = above(r, 30_000),
+        10 => list[tables + 10] = above(r, 63),
+        11..=13 => {
             let end = r.below(2) as usize;
-            list[tables + 10 + end] = if r.chance(40) { list[tables + 11 - end] } else { above(r, cells as u32 - 1) };
+            list[tables + 11 + end] = if r.chance(40) { list[tables + 12 - end] } else { above(r, cells as u32 - 1) };
         }
         _ => {
             if p.buffers.is_empty() || r.chance(30) {
-                list[tables + 12] = above(r, 6);
+                list[tables + 13] = above(r, 6);
             } else {
                 let place = r.below(p.buffers.len() as u32) as usize;
                 let (field, most) = r.pick(&[(0, 255), (1, 1_000), (2, 63)]);
-                list[tables + 13 + 3 * place + field] = above(r, most);
+                list[tables + 14 + 3 * place + field] = above(r, most);
             }
         }
     }

@@ -2,9 +2,11 @@
 
 use crate::rules::{legal, registers, Fault, Problem, Visit, TIGHTEST};
 use crate::answer::Answer;
+use crate::{job, search};
 use std::collections::BTreeMap;
 
 const MANY: usize = 11; // registers counted one by one below this
+const FEW: usize = 3_000; // the most states that a search may follow to see what the skew changes
 
 #[derive(Default)]
 pub struct Mix {
@@ -19,6 +21,10 @@ pub struct Mix {
     routes: BTreeMap<&'static str, u64>,
     slacks: BTreeMap<&'static str, u64>,
     tightest: BTreeMap<&'static str, u64>, // of the routes with registers
+    routed_skews: BTreeMap<&'static str, u64>,
+    none_skews: BTreeMap<&'static str, u64>,
+    by_skew: BTreeMap<&'static str, u64>,
+    skew_just_refused: u64, // 30,001
     most_cells: u32,
     most_steps: usize,
     most_registers: u32,
@@ -47,12 +53,37 @@ fn slack_name(slack: u64) -> &'static str {
     SLACKS[[1, 2, 10, 100, 1_000].iter().filter(|&&from| from <= slack).count()]
 }
 
+// The skew of a route, and where there is none.
+const SKEWS: [&str; 8] = ["0", "1", "2 to 99", "100 and more", "T - 1", "T", "above T", "30,000 above T"];
+const ROUTED: &[&str] = SKEWS.split_at(6).0;
+
+fn skew_name(p: &Problem) -> &'static str {
+    SKEWS[match p.skew {
+        0 => 0,
+        30_000 if p.period < 30_000 => 7,
+        skew if skew > p.period => 6,
+        skew if skew == p.period => 5,
+        skew if skew + 1 == p.period => 4,
+        skew => [2, 100].iter().filter(|&&from| from <= skew).count() + 1,
+    }]
+}
+
+// What the skew changes.
+const BY_SKEW: [&str; 3] = ["none, a route without it", "more registers than without it", "no more than without it"];
+
+fn by_skew(p: &Problem, route: Option<&[Visit]>) -> Option<&'static str> {
+    let without = search::best(&Problem { skew: 0, ..p.clone() }, FEW).ok()??;
+    let more = route.is_some_and(|route| registers(route) > registers(&without));
+    Some(BY_SKEW[if route.is_none() { 0 } else { 2 - more as usize }])
+}
+
 // The faults behind refusal 4; the count's is found while reading and is counted apart.
-const FAULTS: [&str; 6] = ["T", "L", "horizontal", "vertical", "register", "buffer"];
+const FAULTS: [&str; 7] = ["T", "skew", "L", "horizontal", "vertical", "register", "buffer"];
 
 fn fault_name(fault: Fault) -> &'static str {
     match fault {
         Fault::Period => "T",
+        Fault::Skew => "skew",
         Fault::Limit => "L",
         Fault::Horizontal => "horizontal",
         Fault::Vertical => "vertical",
@@ -108,13 +139,29 @@ impl Mix {
         }
     }
 
-    pub fn count(&mut self, answer: &Answer) {
+    fn count_skew(&mut self, p: &Problem, route: Option<&[Visit]>) {
+        if let Some(name) = Some(p).filter(|p| p.skew > 0).and_then(|p| by_skew(p, route)) {
+            *self.by_skew.entry(name).or_default() += 1;
+        }
+    }
+
+    pub fn count(&mut self, bytes: &[u8], answer: &Answer) {
         self.jobs += 1;
         match answer {
-            Answer::None => self.none += 1,
-            Answer::Route(p, route) => self.count_route(p, route),
+            Answer::None(p) => {
+                self.none += 1;
+                *self.none_skews.entry(skew_name(p)).or_default() += 1;
+                self.count_skew(p, None);
+            }
+            Answer::Route(p, route) => {
+                self.count_route(p, route);
+                *self.routed_skews.entry(skew_name(p)).or_default() += 1;
+                self.count_skew(p, Some(route));
+            }
             Answer::Refused(number, fault) => {
                 *self.refusals.entry(*number).or_default() += 1;
+                let least = *fault == Some(Fault::Skew) && job::read(bytes).is_ok_and(|p| p.skew == 30_001);
+                self.skew_just_refused += least as u64;
                 if let Some(fault) = fault {
                     *self.faults.entry(fault_name(*fault)).or_default() += 1;
                 }
@@ -141,6 +188,9 @@ impl Mix {
         println!("            {}", by(&self.routes, &KINDS[7..]));
         println!("spare       {}", by(&self.slacks, &SLACKS));
         println!("tightest    {}", by(&self.tightest, &TIGHTEST));
+        println!("skew        of routes {}", by(&self.routed_skews, ROUTED));
+        println!("            of none {}", by(&self.none_skews, &SKEWS));
+        println!("            {}; refused with 30,001: {}", by(&self.by_skew, &BY_SKEW), self.skew_just_refused);
         println!("largest     {} cells, {} steps, {} registers", self.most_cells, self.most_steps, self.most_registers);
         println!("refused     {}", list(self.refusals.iter().map(|(n, c)| (n.to_string(), *c)).collect()));
         println!("refused 4   {}, count: {}", by(&self.faults, &FAULTS), self.count_faults());
@@ -173,6 +223,16 @@ impl Mix {
         }
         for span in TIGHTEST {
             need(*self.tightest.get(span).unwrap_or(&0), 3, format!("tightest span {span}"));
+        }
+        for skew in ROUTED {
+            need(*self.routed_skews.get(skew).unwrap_or(&0), 20, format!("routes with skew {skew}"));
+        }
+        for skew in SKEWS {
+            need(*self.none_skews.get(skew).unwrap_or(&0), 10, format!("none with skew {skew}"));
+        }
+        need(self.skew_just_refused, 3, "refused with skew 30,001".to_string());
+        for change in BY_SKEW {
+            need(*self.by_skew.get(change).unwrap_or(&0), 20, change.to_string());
         }
         need(self.none, (routes + self.none) / 8, "none".to_string());
         need(routes, (routes + self.none) / 2, "routes".to_string());

@@ -45,6 +45,7 @@ pub struct Problem {
     pub horizontal: Wire,
     pub vertical: Wire,
     pub period: u32,
+    pub skew: u32,
     pub limit: u32,
     pub source: u32,
     pub sink: u32,
@@ -56,6 +57,7 @@ pub type Visit = (u32, u32); // cell, gate code
 #[derive(Clone, Copy, Debug, PartialEq)]
 pub enum Fault {
     Period,
+    Skew,
     Limit,
     Horizontal,
     Vertical,
@@ -117,6 +119,9 @@ impl Problem {
         if self.period < 1 || self.period > 30_000 {
             return Some(Fault::Period);
         }
+        if self.skew > 30_000 {
+            return Some(Fault::Skew);
+        }
         if self.limit > 63 {
             return Some(Fault::Limit);
         }
@@ -151,7 +156,8 @@ pub fn registers(route: &[Visit]) -> u32 {
     sevens - 2
 }
 
-// What a legal route comes to: the delay at which each register and the source close, and the greatest load met.
+// What a legal route comes to: the delay at which each register and the source close, with twice the skew, and the
+// greatest load met.
 #[derive(Clone, Debug, PartialEq)]
 pub struct Measured {
     pub closings: Vec<u64>,
@@ -162,7 +168,7 @@ pub struct Measured {
 pub const TIGHTEST: [&str; 4] = ["first", "between", "last", "not only one"];
 
 impl Measured {
-    // The spare half-ticks: the smallest over the spans of 2T less the closing delay.
+    // The spare half-ticks: the smallest over the spans of 2T less the closing delay and twice the skew.
     pub fn slack(&self, p: &Problem) -> u64 {
         self.closings.iter().map(|&closing| 2 * p.period as u64 - closing).min().expect("the source closes a span")
     }
@@ -205,7 +211,7 @@ pub fn legal(p: &Problem, route: &[Visit]) -> Option<Measured> {
             return None;
         }
         if code == REGISTER {
-            let closing = delay + 2 * (p.register.r as u64 * load as u64 + p.register.k as u64);
+            let closing = delay + 2 * (p.register.r as u64 * load as u64 + p.register.k as u64) + 2 * p.skew as u64;
             if closing > 2 * p.period as u64 {
                 return None;
             }

@@ -1,8 +1,8 @@
-// Exhaustive search for the best route: exact states (cell, load, delay), nothing left out but delays above 2T, which
-// no register and no source can close. A state is what the rest of a route depends on; it is followed once, the first
-// time that it is met in the order of (registers, steps). A best route never meets a state later than that: with the
-// earlier beginning it would be better. There are finitely many states, so the search ends, and "none" is said when
-// no state is left to follow.
+// Exhaustive search for the best route: exact states (cell, load, delay), nothing left out but delays above 2T less
+// twice the skew, which no register and no source can close. A state is what the rest of a route depends on; it is
+// followed once, the first time that it is met in the order of (registers, steps). A best route never meets a state
+// later than that: with the earlier beginning it would be better. There are finitely many states, so the search ends,
+// and "none" is said when no state is left to follow.
 
 use crate::rules::{Problem, Visit, Wire, BLOCKED, CUT_BELOW, CUT_RIGHT, REGISTER, TAP};
 
@@ -100,9 +100,14 @@ fn moves(p: &Problem, from: State, out: &mut Vec<Move>) {
     }
 }
 
-// The moves over one wire: each code that the cell takes, within the load limit and 2T.
+// The largest closing delay in time; none where the skew is above T.
+fn closes_by(p: &Problem) -> Option<u32> {
+    (2 * p.period).checked_sub(2 * p.skew)
+}
+
+// The moves over one wire: each code that the cell takes, within the load limit and the period.
 fn arrivals(p: &Problem, from: State, cell: u32, wire: Wire, out: &mut Vec<Move>) {
-    let most = 2 * p.period;
+    let Some(most) = closes_by(p) else { return };
     let load = from.load + wire.c;
     let delay = from.delay + wire.r * (2 * from.load + wire.c);
     if load > p.limit || delay > most {
@@ -138,7 +143,7 @@ fn explore(p: &Problem, met: &mut Met, most: usize) -> Result<Option<Label>, Too
     let mut list = Vec::new();
     let start = State { cell: p.sink, load: p.register.c, delay: 2 * p.register.setup };
     let mut arriving: Vec<(u32, State)> = Vec::new(); // this wave's fresh states, by steps
-    if start.load <= p.limit && start.delay <= 2 * p.period {
+    if start.load <= p.limit && closes_by(p).is_some_and(|most| start.delay <= most) {
         arriving.push((0, start));
     }
     let mut registers = 0;

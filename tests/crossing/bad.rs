@@ -36,8 +36,8 @@ fn periods(out: &mut Vec<Case>) {
         out.push(case("the sink's period", net(|n| n.problem.period = period), &refused("4 fault 2")));
         let both = |n: &mut Net| (n.source_period, n.problem.period) = (period, period);
         out.push(case("both periods", net(both), &refused("4 fault 1")));
-        let limit = |n: &mut Net| (n.problem.period, n.problem.limit) = (period, 64);
-        out.push(case("the sink's period and L", net(limit), &refused("4 fault 2")));
+        let later = |n: &mut Net| (n.problem.period, n.problem.skew, n.problem.limit) = (period, 30_001, 64);
+        out.push(case("the sink's period, the skew and L", net(later), &refused("4 fault 2")));
     }
     // the sink's span takes three steps and closes at 92
     let longest = |n: &mut Net| (n.source_period, n.problem.period) = (30_000, 30_000);
@@ -47,35 +47,50 @@ fn periods(out: &mut Vec<Case>) {
     out.push(case("both periods 1", net(shortest), "7 figures 0 0 0 0 0 visits zeroed 2560"));
 }
 
+// From 13 and 27 with skew 1 the strip has the answer of 12 and 26.
+fn skews(out: &mut Vec<Case>) {
+    for skew in [30_001, 30_002, 65_535] {
+        out.push(case("the skew", net(|n| n.problem.skew = skew), &refused("4 fault 3")));
+        let limit = |n: &mut Net| (n.problem.skew, n.problem.limit) = (skew, 64);
+        out.push(case("the skew and L", net(limit), &refused("4 fault 3")));
+        let both = |n: &mut Net| (n.source_period, n.problem.skew) = (0, skew);
+        out.push(case("the source's period and the skew", net(both), &refused("4 fault 1")));
+    }
+    let none = "7 figures 0 0 0 0 0 visits zeroed 2560";
+    out.push(case("the largest skew", net(|n| n.problem.skew = 30_000), none));
+    let one = |n: &mut Net| (n.source_period, n.problem.period, n.problem.skew) = (13, 27, 1);
+    out.push(case("skew 1", net(one), &format!("0 figures 1 0 4 53 0 visits {VISITS} zeroed 2560")));
+}
+
 fn elements(out: &mut Vec<Case>) {
     let seven = || vec![Buffer::default(); 7];
     let heavy = Buffer { c: 64, ..Buffer::default() };
     for (name, spoilt) in REGISTERS {
-        out.push(case(name, net(|n| n.fifo = spoilt), &refused("4 fault 7")));
-        out.push(case(name, net(|n| n.problem.register = spoilt), &refused("4 fault 6")));
+        out.push(case(name, net(|n| n.fifo = spoilt), &refused("4 fault 8")));
+        out.push(case(name, net(|n| n.problem.register = spoilt), &refused("4 fault 7")));
         let both = |n: &mut Net| (n.fifo, n.problem.register) = (spoilt, spoilt);
-        out.push(case("register and FIFO", net(both), &refused("4 fault 6")));
+        out.push(case("register and FIFO", net(both), &refused("4 fault 7")));
         let count = |n: &mut Net| (n.fifo, n.problem.buffers) = (spoilt, seven());
-        out.push(case("FIFO and count", net(count), &refused("4 fault 7")));
+        out.push(case("FIFO and count", net(count), &refused("4 fault 8")));
         let buffer = |n: &mut Net| (n.fifo, n.problem.buffers) = (spoilt, vec![heavy]);
-        out.push(case("FIFO and a buffer", net(buffer), &refused("4 fault 7")));
+        out.push(case("FIFO and a buffer", net(buffer), &refused("4 fault 8")));
         let vertical = |n: &mut Net| (n.fifo, n.problem.vertical.c) = (spoilt, 64);
-        out.push(case("vertical wire and FIFO", net(vertical), &refused("4 fault 5")));
+        out.push(case("vertical wire and FIFO", net(vertical), &refused("4 fault 6")));
     }
     let largest = Register { r: 255, k: 1_000, c: 63, setup: 30_000 };
     out.push(case("the largest FIFO", net(|n| n.fifo = largest), "7 figures 0 0 0 0 0 visits zeroed 2560"));
-    out.push(case("L", net(|n| n.problem.limit = 64), &refused("4 fault 3")));
-    out.push(case("horizontal R", net(|n| n.problem.horizontal.r = 256), &refused("4 fault 4")));
-    out.push(case("horizontal C", net(|n| n.problem.horizontal.c = 64), &refused("4 fault 4")));
-    out.push(case("vertical R", net(|n| n.problem.vertical.r = 256), &refused("4 fault 5")));
-    out.push(case("seven buffers", net(|n| n.problem.buffers = seven()), &refused("4 fault 8")));
-    out.push(case("seven heavy buffers", net(|n| n.problem.buffers = vec![heavy; 7]), &refused("4 fault 8")));
+    out.push(case("L", net(|n| n.problem.limit = 64), &refused("4 fault 4")));
+    out.push(case("horizontal R", net(|n| n.problem.horizontal.r = 256), &refused("4 fault 5")));
+    out.push(case("horizontal C", net(|n| n.problem.horizontal.c = 64), &refused("4 fault 5")));
+    out.push(case("vertical R", net(|n| n.problem.vertical.r = 256), &refused("4 fault 6")));
+    out.push(case("seven buffers", net(|n| n.problem.buffers = seven()), &refused("4 fault 9")));
+    out.push(case("seven heavy buffers", net(|n| n.problem.buffers = vec![heavy; 7]), &refused("4 fault 9")));
     for place in 0..6 {
         let one = |n: &mut Net| {
             n.problem.buffers = vec![Buffer::default(); place];
             n.problem.buffers.resize(6, heavy);
         };
-        out.push(case("buffers from one place on", net(one), &refused(&format!("4 fault 9 {}", place + 1))));
+        out.push(case("buffers from one place on", net(one), &refused(&format!("4 fault 10 {}", place + 1))));
     }
 }
 
@@ -147,6 +162,7 @@ fn words(out: &mut Vec<Case>) {
 pub fn cases() -> Vec<Case> {
     let mut out = Vec::new();
     periods(&mut out);
+    skews(&mut out);
     elements(&mut out);
     plans(&mut out);
     ends(&mut out);

@@ -1,8 +1,8 @@
 // Exhaustive search for the best route between two clocks: exact states (cell, load, delay, FIFOs passed), nothing left
-// out but delays above twice the period of the state's side, which nothing can close. A state is what the rest of a
-// route depends on. The states are settled in the order of (latency, steps), over all splits at once; a best route
-// meets each of its states just then, for with an earlier beginning it would be better. "None" is said when no state is
-// left to follow.
+// out but delays above twice the period of the state's side less twice the skew, which nothing can close. A state is
+// what the rest of a route depends on. The states are settled in the order of (latency, steps), over all splits at
+// once; a best route meets each of its states just then, for with an earlier beginning it would be better. "None" is
+// said when no state is left to follow.
 
 use crate::net::{Net, FIFO};
 use crate::rules::{Register, Visit, Wire, BLOCKED, CUT_BELOW, CUT_RIGHT, REGISTER, TAP};
@@ -112,23 +112,28 @@ fn moves(n: &Net, from: State, out: &mut Vec<Move>) {
     }
 }
 
+// The largest closing delay in time on the side after so many FIFOs; none where the skew is above its period.
+fn closes_by(n: &Net, fifos: u32) -> Option<u32> {
+    (2 * n.period(fifos)).checked_sub(2 * n.problem.skew)
+}
+
 // The moves over one wire: each code that the cell takes, within the load limit and the period of the span's side.
 fn arrivals(n: &Net, from: State, cell: u32, wire: Wire, out: &mut Vec<Move>) {
     let (p, fifos) = (&n.problem, from.fifos);
-    let latency = if fifos == 0 { p.period } else { n.source_period };
+    let (latency, Some(most)) = (n.period(fifos), closes_by(n, fifos)) else { return };
     let load = from.load + wire.c;
     let delay = from.delay + wire.r * (2 * from.load + wire.c);
-    if load > p.limit || delay > 2 * latency {
+    if load > p.limit || delay > most {
         return;
     }
     let marks = p.marks[cell as usize];
     let between = cell != p.source && cell != p.sink;
-    let closes = |gate: Register| delay + 2 * (gate.r * load + gate.k) <= 2 * latency;
+    let closes = |gate: Register| delay + 2 * (gate.r * load + gate.k) <= most;
     out.push(Move { visit: (cell, 0), latency: 0, next: Some(State { cell, load, delay, fifos }) });
     if between && marks & BLOCKED == 0 {
         for (i, b) in p.buffers.iter().enumerate() {
             let next = State { cell, load: b.c, delay: delay + 2 * (b.r * load + b.k), fifos };
-            if next.load <= p.limit && next.delay <= 2 * latency {
+            if next.load <= p.limit && next.delay <= most {
                 out.push(Move { visit: (cell, i as u32 + 1), latency: 0, next: Some(next) });
             }
         }
@@ -143,7 +148,8 @@ fn arrivals(n: &Net, from: State, cell: u32, wire: Wire, out: &mut Vec<Move>) {
         let next = State { cell, load: p.register.c, delay: 2 * p.register.setup, fifos };
         out.push(Move { visit: (cell, REGISTER), latency, next: Some(next) });
     }
-    if fifos == 0 && closes(n.fifo) && n.fifo.c <= p.limit && n.fifo.setup <= n.source_period {
+    let starts = closes_by(n, 1).is_some_and(|most| 2 * n.fifo.setup <= most);
+    if fifos == 0 && closes(n.fifo) && n.fifo.c <= p.limit && starts {
         let next = State { cell, load: n.fifo.c, delay: 2 * n.fifo.setup, fifos: 1 };
         out.push(Move { visit: (cell, FIFO), latency, next: Some(next) });
     }
@@ -161,7 +167,7 @@ pub struct Found<'a> {
 pub fn search(n: &Net, most: usize) -> Result<Option<Found<'_>>, TooLarge> {
     let g = n.problem.register;
     let start = State { cell: n.problem.sink, load: g.c, delay: 2 * g.setup, fifos: 0 };
-    if start.load > n.problem.limit || g.setup > n.problem.period {
+    if start.load > n.problem.limit || closes_by(n, 0).is_none_or(|most| start.delay > most) {
         return Ok(None);
     }
     let mut met = Met { states: Vec::new(), labels: Vec::new(), slots: vec![0; 256] };

@@ -1,4 +1,4 @@
-// A net between two clocks: document 01's rules with one FIFO on the route, by request C-15 of document 02.
+// A net between two clocks: document 01's rules with one FIFO on the route, by requests C-15 and C-16 of document 02.
 
 use crate::rules::{Fault, Problem, Register, Visit, REGISTER};
 
@@ -12,7 +12,8 @@ pub struct Net {
     pub fifo: Register,
 }
 
-// A span: the FIFOs passed before it closes (0: it is on the sink's side) and the delay at which it closes.
+// A span: the FIFOs passed before it closes (0: it is on the sink's side) and the delay at which it closes, with twice
+// the skew.
 #[derive(Clone, Copy, Debug, PartialEq)]
 pub struct Span {
     pub fifos: u32,
@@ -69,21 +70,22 @@ impl Net {
         }
     }
 
-    // Refusal 4: the place of the first number outside its range. The source's period comes first, the FIFO after the
-    // register; a buffer has its own place behind.
+    // Refusal 4: the place of the first number outside its range. The source's period comes first, the skew after the
+    // sink's, the FIFO after the register; a buffer has its own place behind.
     pub fn fault(&self) -> Option<String> {
         if !in_range(self.source_period) {
             return Some("1".to_string());
         }
         let place = match self.problem.fault() {
             Some(Fault::Period) => "2",
-            Some(Fault::Limit) => "3",
-            Some(Fault::Horizontal) => "4",
-            Some(Fault::Vertical) => "5",
-            Some(Fault::Register) => "6",
-            _ if self.fifo.out_of_range() => "7",
-            Some(Fault::Count) => "8",
-            Some(Fault::Buffer(place)) => return Some(format!("9 {place}")),
+            Some(Fault::Skew) => "3",
+            Some(Fault::Limit) => "4",
+            Some(Fault::Horizontal) => "5",
+            Some(Fault::Vertical) => "6",
+            Some(Fault::Register) => "7",
+            _ if self.fifo.out_of_range() => "8",
+            Some(Fault::Count) => "9",
+            Some(Fault::Buffer(place)) => return Some(format!("10 {place}")),
             None => return None,
         };
         Some(place.to_string())
@@ -138,7 +140,7 @@ pub fn legal(n: &Net, route: &[Visit]) -> Option<Measured> {
             return None;
         }
         if let Some(gate) = n.closer(code) {
-            let closing = delay + drive(gate.r, gate.k, load);
+            let closing = delay + drive(gate.r, gate.k, load) + 2 * p.skew as u64;
             if closing > 2 * n.period(fifos) as u64 {
                 return None;
             }

@@ -1,7 +1,8 @@
 // Nets about their thresholds: a FIFO quicker than the register over one wire and slower over the other, the periods taken
-// down from one to the next, the FIFO strained, all delays shifted.
+// down from one to the next, the FIFO strained, all delays shifted, the skew about the periods.
 
 use crate::best;
+use crate::make::{near_skew, small_skew};
 use crate::net::{legal, Net};
 use crate::plans;
 use crate::random::Random;
@@ -113,6 +114,39 @@ fn shift(r: &mut Random, n: &mut Net) {
     }
 }
 
+// More skew and longer periods by one number of ticks: every span keeps its spare figure here, too.
+fn shift_skew(r: &mut Random, n: &mut Net) {
+    let most = LONGEST - n.problem.skew.max(n.source_period).max(n.problem.period);
+    let (any, little) = (r.below(most + 1), r.below(most.min(30) + 1));
+    let by = r.pick(&[any, little, little, most]);
+    for number in [&mut n.source_period, &mut n.problem.period, &mut n.problem.skew] {
+        *number += by;
+    }
+}
+
+// Nothing but buffers takes time: a span may close with all of its period taken by the skew.
+fn timeless(n: &mut Net) {
+    let p = &mut n.problem;
+    for gate in [&mut p.register, &mut n.fifo] {
+        *gate = Register { c: gate.c, ..Register::default() };
+    }
+    (p.horizontal.r, p.vertical.r) = (0, 0);
+}
+
+// The skew about one of the periods.
+fn set_skew(r: &mut Random, n: &mut Net) {
+    let period = r.pick(&[n.source_period, n.problem.period]);
+    match r.below(100) {
+        0..25 => shift_skew(r, n),
+        25..30 => n.problem.skew = near_skew(r, period),
+        30..36 => {
+            timeless(n);
+            n.problem.skew = near_skew(r, n.source_period.min(n.problem.period));
+        }
+        _ => {}
+    }
+}
+
 // One wire lighter than the other, and a FIFO whose delay crosses the register's at a load between theirs.
 fn cross_lines(r: &mut Random, n: &mut Net) {
     let p = &mut n.problem;
@@ -133,6 +167,7 @@ fn cross_lines(r: &mut Random, n: &mut Net) {
 pub fn draw(r: &mut Random, most: usize) -> Option<Net> {
     let mut n = plans::draw(r);
     if n.source_period == 0 {
+        n.problem.skew = small_skew(r);
         if r.chance(10) {
             cross_lines(r, &mut n);
         }
@@ -150,6 +185,7 @@ pub fn draw(r: &mut Random, most: usize) -> Option<Net> {
     if r.chance(20) {
         shift(r, &mut n);
     }
+    set_skew(r, &mut n);
     if r.chance(10) {
         std::mem::swap(&mut n.problem.source, &mut n.problem.sink);
     }

@@ -1,6 +1,6 @@
 // What a run's nets were, so that a poor mix shows: each class has a least number.
 
-use crate::best::Found;
+use crate::best::{self, Found};
 use crate::crossed::{Crossed, EACH};
 use crate::jobs::Job;
 use crate::net::{legal, Figures, Net, FIFO};
@@ -18,13 +18,22 @@ pub struct Tally {
 
 const ORDER: [&str; 6] = ["grid", "length", "plan", "element", "ends", "scratch"];
 
+const FEW: usize = 2_000; // the most states that a search may follow to see what the skew changes
+
 const PERIODS: [&str; 6] = ["equal", "Ts = 2 Tk", "Tk = 2 Ts", "other multiples", "co-prime", "others"];
 
 // The classes of one kind, with the least number of each among 4,000 nets.
-const KINDS: [(&str, u64, &[&str]); 17] = [
+const KINDS: [(&str, u64, &[&str]); 20] = [
     ("answer", 100, &["0", "7", "8"]),
     ("refused", 5, &["1", "2", "3", "4", "5", "6"]),
-    ("4: fault", 1, &["1", "2", "3", "4", "5", "6", "7", "8", "9 1", "9 2", "9 3", "9 4", "9 5", "9 6"]),
+    ("4: fault", 1, &["1", "2", "3", "4", "5", "6", "7", "8", "9", "10 1", "10 2", "10 3", "10 4", "10 5", "10 6"]),
+    ("skew of a route", 20, &["0", "1", "2 to 99", "100 and more", "one less than a period", "a period"]),
+    (
+        "skew of none",
+        10,
+        &["0", "below both periods", "a period", "above the source's alone", "above the sink's alone", "above both"],
+    ),
+    ("by the skew", 20, &["none, a route without it", "more registers than without it", "no more than without it"]),
     ("periods", 40, &PERIODS),
     ("FIFO", 50, &["like the register", "unlike it", "like it, equal periods"]),
     ("FIFO with", 10, &["C = L", "K 500 and more", "R 0", "K 0", "C 0", "setup above the register's", "R above", "delay crossing"]),
@@ -183,6 +192,7 @@ impl Tally {
         self.add_if(job.lent as u64 == need, "words", "scratch just enough");
         self.add_if(job.shown && answer.number() > 0, "words", &format!("shown after {}", answer.number()));
         self.add_if(p.source.max(p.sink) > 255, "words", "cells above 255");
+        self.skew(n, answer.route().map(|(_, figures)| figures));
         match answer.route() {
             None => self.none(n),
             Some((route, figures)) => {
@@ -193,6 +203,38 @@ impl Tally {
                 self.route(n, route);
                 self.figures(n, route, figures);
             }
+        }
+    }
+
+    // The skew, and what it changes.
+    fn skew(&mut self, n: &Net, figures: Option<&Figures>) {
+        let (skew, source, sink) = (n.problem.skew, n.source_period, n.problem.period);
+        let (kind, class) = match (figures, skew) {
+            (Some(_), 0) => ("skew of a route", "0"),
+            (Some(_), _) if skew == source.min(sink) => ("skew of a route", "a period"),
+            (Some(_), _) if skew + 1 == source.min(sink) => ("skew of a route", "one less than a period"),
+            (Some(_), 1) => ("skew of a route", "1"),
+            (Some(_), 2..100) => ("skew of a route", "2 to 99"),
+            (Some(_), _) => ("skew of a route", "100 and more"),
+            (None, 0) => ("skew of none", "0"),
+            (None, _) if skew == source.min(sink) => ("skew of none", "a period"),
+            (None, _) => match (skew > source, skew > sink) {
+                (false, false) => ("skew of none", "below both periods"),
+                (true, false) => ("skew of none", "above the source's alone"),
+                (false, true) => ("skew of none", "above the sink's alone"),
+                (true, true) => ("skew of none", "above both"),
+            },
+        };
+        self.add(kind, class);
+        let mut without = n.clone();
+        without.problem.skew = 0;
+        let Some(route) = Some(&without).filter(|_| skew > 0).and_then(|n| best::best(n, FEW).ok()?) else { return };
+        let registers = |figures: &Figures| figures.source_registers + figures.sink_registers;
+        let fewest = registers(&without.figures(&route));
+        self.add_if(figures.is_none(), "by the skew", "none, a route without it");
+        if let Some(most) = figures.map(registers) {
+            self.add_if(most > fewest, "by the skew", "more registers than without it");
+            self.add_if(most <= fewest, "by the skew", "no more than without it");
         }
     }
 

@@ -31,6 +31,7 @@ pub fn strip(marks: &[u32], source_period: u32, period: u32) -> Net {
         horizontal: wire,
         vertical: wire,
         period,
+        skew: 0,
         limit: 63,
         source: 0,
         sink: marks.len() as u32 - 1,
@@ -43,8 +44,12 @@ pub const FIVE: [u32; 5] = [0, 2, 2, 2, 0];
 const SIX: [u32; 6] = [0, 2, 2, 2, 2, 0];
 const THREE: [u32; 3] = [0, 2, 0];
 
+fn five_with(source_period: u32) -> Net {
+    strip(&FIVE, source_period, 26)
+}
+
 pub fn five() -> Net {
-    strip(&FIVE, 12, 26)
+    five_with(12)
 }
 
 fn with(fifo: Register, n: Net) -> Net {
@@ -53,6 +58,16 @@ fn with(fifo: Register, n: Net) -> Net {
 
 fn limited(limit: u32, n: Net) -> Net {
     Net { problem: Problem { limit, ..n.problem }, ..n }
+}
+
+fn skewed(skew: u32, n: Net) -> Net {
+    Net { problem: Problem { skew, ..n.problem }, ..n }
+}
+
+// Nothing takes time.
+fn timeless(n: Net) -> Net {
+    let (gate, wire) = (Register { c: 1, ..Register::default() }, Wire { r: 0, c: 3 });
+    Net { fifo: gate, problem: Problem { register: gate, horizontal: wire, ..n.problem }, ..n }
 }
 
 // R13's two rows: vertical wires cost nothing.
@@ -143,6 +158,24 @@ pub fn cases() -> Vec<Case> {
         ),
         ("R8's buffer on both sides", buffered(22, 22), five_cells("0 0 4 44 0", "4 7 3 1 2 8 1 1 0 7")),
         ("R8's buffer on the sink's side", buffered(26, 22), five_cells("0 0 4 48 0", "4 7 3 1 2 8 1 0 0 7")),
+        // twice the skew on each side
+        ("skew 1: as 12 and 26", skewed(1, strip(&FIVE, 13, 27)), five_cells("1 0 4 53 0", "4 7 3 0 2 8 1 7 0 7")),
+        ("skew 1: 26 allows one step", skewed(1, five_with(13)), five_cells("2 0 4 65 0", "4 7 3 8 2 7 1 7 0 7")),
+        ("skew 1: 12 for the source allows none", skewed(1, five()), none(5)),
+        ("skew 1: 12 for the sink allows none", skewed(1, strip(&FIVE, 26, 12)), none(5)),
+        ("skew 1, spare by each span's own period", skewed(1, strip(&THREE, 14, 20)), through("0 0 2 34 2")),
+        ("skew 8 and no more", skewed(8, strip(&THREE, 20, 21)), through("0 0 2 41 0")),
+        ("skew 9, the source too short", skewed(9, strip(&THREE, 20, 21)), none(3)),
+        ("skew 9, the sink too short", skewed(9, strip(&THREE, 21, 20)), none(3)),
+        ("skew 1, the FIFO by its own figures", skewed(1, with(strong, strip(&THREE, 13, 17))), through("0 0 2 30 0")),
+        ("skew 1, the span from the FIFO", skewed(1, with(late, strip(&THREE, 14, 13))), through("0 0 2 27 0")),
+        ("skew 1, a tick less for it", skewed(1, with(late, strip(&THREE, 13, 13))), none(3)),
+        ("no delay, the skew is both periods", skewed(26, timeless(strip(&THREE, 26, 26))), through("0 0 2 52 0")),
+        ("no delay, the skew above the source's", skewed(26, timeless(strip(&THREE, 25, 26))), none(3)),
+        ("no delay, the skew above the sink's", skewed(26, timeless(strip(&THREE, 26, 25))), none(3)),
+        ("no delay, all 30,000", skewed(30_000, timeless(strip(&THREE, 30_000, 30_000))), through("0 0 2 60000 0")),
+        ("30,000 less 12", skewed(29_988, strip(&THREE, 30_000, 30_000)), through("0 0 2 60000 0")),
+        ("30,000 less 11", skewed(29_989, strip(&THREE, 30_000, 30_000)), none(3)),
     ];
     list.into_iter().map(|(name, net, told)| case(name, Job::ample(net), &told)).collect()
 }

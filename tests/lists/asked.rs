@@ -87,7 +87,8 @@ impl Asked {
     }
 }
 
-// The delay at which the visit closes its span, by the brute force: of a list at fault in nothing but the period.
+// The delay at which the visit closes its span, with twice the skew, by the brute force: of a list at fault in nothing
+// but the period.
 fn closing(p: &Problem, route: &[Visit], at: usize) -> Option<u64> {
     let unbounded = Problem { period: NO_PERIOD, ..p.clone() };
     let closed_before = route[1..at].iter().filter(|visit| visit.1 == 7).count();

@@ -24,6 +24,7 @@ fn problem(r: &mut Random) -> Problem {
         horizontal: slow(r),
         vertical: slow(r),
         period: 30_000,
+        skew: r.pick(&[0, 0, 1, 29_000]),
         limit: 63,
         source: (sink + 1 + r.below(cells - 1)) % cells,
         sink,

@@ -1,5 +1,5 @@
-// The verdict on a list of visits, from document 01's "Legal routes" and document 02's C-11 and C-12: visit by visit,
-// test by test. It has no rule from tests/brute/rules.rs, whose `legal` it is compared with.
+// The verdict on a list of visits, from document 01's "Legal routes" and document 02's C-11, C-12 and C-16: visit by
+// visit, test by test. It has no rule from tests/brute/rules.rs, whose `legal` it is compared with.
 
 use crate::rules::{Problem, Visit, Wire};
 
@@ -109,8 +109,9 @@ fn next(p: &Problem, span: Span, from: u32, (cell, code): Visit, last: bool) -> 
         0 => Ok(Span { load, delay, ..span }),
         7 => {
             let (closing, allowed) = (through(p.register.r, p.register.k), 2 * p.period as u128);
-            test(closing <= allowed, Cause::Period(closing.saturating_sub(allowed)))?;
-            Ok(fresh(p, span.slack.min(allowed - closing)))
+            let needed = closing + 2 * p.skew as u128;
+            test(needed <= allowed, Cause::Period(needed.saturating_sub(allowed)))?;
+            Ok(fresh(p, span.slack.min(allowed - needed)))
         }
         _ => {
             let b = p.buffers[code as usize - 1];

@@ -20,6 +20,7 @@ fn problem(r: &mut Random) -> Problem {
         horizontal: Wire { r: r.within(252, 255), c: 0 },
         vertical: Wire { r: 1, c: 1 },
         period: r.pick(&[1, 30_000, any]),
+        skew: r.pick(&[0, 0, any, 30_000]),
         limit: 63,
         source: 2,
         sink: 3,
@@ -33,7 +34,7 @@ fn driven(buffers: usize) -> Vec<Visit> {
     [(3, REGISTER)].into_iter().chain(between).chain([(2, REGISTER)]).collect()
 }
 
-// The delay at which the first span closes.
+// The delay at which the first span closes, with twice the skew.
 fn closing(p: &Problem, list: &[Visit]) -> u64 {
     let unbounded = Problem { period: NO_PERIOD, ..p.clone() };
     legal(&unbounded, list).expect("only the period is missed").closings[0]

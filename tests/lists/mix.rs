@@ -45,7 +45,7 @@ const CAUSES: [(&str, &[&str]); 16] = [
 ];
 
 const ORDER: [&str; 6] = ["grid", "length", "plan", "element", "ends", "list"];
-const ELEMENTS: [&str; 12] = ["1", "2", "3", "4", "5", "6", "7 1", "7 2", "7 3", "7 4", "7 5", "7 6"];
+const ELEMENTS: [&str; 13] = ["1", "2", "3", "4", "5", "6", "7", "8 1", "8 2", "8 3", "8 4", "8 5", "8 6"];
 const NUMBERS: [&str; 6] = ["1", "2", "3", "4", "5", "17"];
 
 // Spare half-ticks of an accepted list.
@@ -69,6 +69,17 @@ fn miss_name(miss: u128) -> String {
         format!("far missed by {}", FAR_MISSES[far])
     }
 }
+
+const SKEWS: [&str; 8] = [
+    "accepted with skew 0",
+    "accepted with skew 1 and more",
+    "accepted with skew T",
+    "accepted, not with a skew of one more",
+    "period missed with skew 0",
+    "period missed with skew 1 and more",
+    "period missed by the skew alone",
+    "period missed with a skew above T",
+];
 
 const LISTS: [&str; 14] = [
     "accepted with a register on a blocked tap",
@@ -126,6 +137,7 @@ fn kinds() -> Vec<(&'static str, u64, Vec<String>)> {
         ("fault", 30, at("fault ", &FAULTS)),
         ("cause", 5, at("cause ", &CAUSES)),
         ("list", 5, after("", &LISTS)),
+        ("skew", 20, after("", &SKEWS)),
         ("spare", 20, after("spare ", &SLACKS)),
         ("tightest span", 20, after("tightest span ", &TIGHTEST)),
         ("missed by", 10, after("missed by ", &MISSES)),
@@ -181,6 +193,9 @@ impl Mix {
         gates.sort();
         self.add("accepted");
         self.add(&format!("spare {}", slack_name(measured.slack(p))));
+        self.add(if p.skew == 0 { "accepted with skew 0" } else { "accepted with skew 1 and more" });
+        self.add_if(p.skew == p.period, "accepted with skew T");
+        self.add_if(p.skew > 0 && measured.slack(p) < 2, "accepted, not with a skew of one more");
         self.add_if(measured.closings.len() > 1, &format!("tightest span {}", measured.tightest()));
         self.add_if(
             inner.iter().any(|v| v.1 == 7 && p.marks[v.0 as usize] & 3 == 3),
@@ -204,6 +219,9 @@ impl Mix {
             let first = route[1..at].iter().all(|visit| visit.1 != 7);
             self.add(&format!("cause Period {place}"));
             self.add(&miss_name(miss));
+            self.add(if p.skew == 0 { "period missed with skew 0" } else { "period missed with skew 1 and more" });
+            self.add_if(miss <= 2 * p.skew as u128, "period missed by the skew alone");
+            self.add_if(p.skew > p.period, "period missed with a skew above T");
             self.add(if first { "period missed at the first close" } else { "period missed at a later close" });
         } else {
             self.add(&format!("cause {cause:?} {place}"));

@@ -15,8 +15,8 @@ fn slowest(measured: &Measured) -> u64 {
     *measured.closings.iter().max().unwrap()
 }
 
-// The period or the limit that the list just meets, or one less, or any period that it misses; or a wire cut, or a site
-// taken away.
+// The period or the limit that the list just meets, or one less, or any period that it misses; the skew with which it
+// just meets its period, or one more; or a wire cut, or a site taken away.
 pub fn tune(r: &mut Random, p: &mut Problem, list: &[Visit]) {
     if r.chance(40) {
         make_odd(p, list);
@@ -24,7 +24,7 @@ pub fn tune(r: &mut Random, p: &mut Problem, list: &[Visit]) {
     let Some(measured) = unbounded(p, list) else { return };
     let least = slowest(&measured).div_ceil(2).max(1) as u32;
     let heaviest = list.iter().map(|visit| driven(p, visit.1)).max().unwrap();
-    match r.below(15) {
+    match r.below(19) {
         0 | 1 if least <= 30_000 => p.period = least,
         2 | 3 if 1 < least && least <= 30_001 => p.period = least - 1,
         4 if 1 < least => p.period = r.within(1, (least - 1).min(30_000)),
@@ -33,8 +33,20 @@ pub fn tune(r: &mut Random, p: &mut Problem, list: &[Visit]) {
         8 => p.limit = p.register.c.saturating_sub(r.below(2)),
         9 | 10 if heaviest > p.register.c => p.limit = heaviest - 1,
         11 | 12 => cut(r, p, list),
+        15..19 => skew(r, p, slowest(&measured) - 2 * p.skew as u64),
         _ => resite(r, p, list),
     }
+}
+
+// The slowest span closes with this delay, the skew not in it.
+fn skew(r: &mut Random, p: &mut Problem, closing: u64) {
+    if closing > 2 * p.period as u64 {
+        p.period = r.within(closing.div_ceil(2).min(30_000) as u32, 30_000);
+    }
+    let left = (2 * p.period as u64).saturating_sub(closing) as u32 / 2;
+    let more = (left + r.within(1, 3)).min(30_000);
+    let any = r.below(left + 1);
+    p.skew = r.pick(&[left, left, more, more, left.saturating_sub(1), any, 30_000]);
 }
 
 // Another wire, with which the slowest span closes at an odd number of half-ticks, if one of four does that.
@@ -76,7 +88,8 @@ fn resite(r: &mut Random, p: &mut Problem, list: &[Visit]) {
 }
 
 fn spoil_table(r: &mut Random, p: &mut Problem) {
-    match r.below(12) {
+    match r.below(13) {
+        12 => p.skew = r.pick(&[30_001, 30_001, 65_535]),
         0 => p.period = r.pick(&[0, 30_001, 65_535]),
         1 => p.limit = r.pick(&[64, 65_535]),
         2 => p.horizontal.r = r.pick(&[256, 65_535]),

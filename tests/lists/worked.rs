@@ -39,6 +39,7 @@ fn strip(period: u32) -> Problem {
         horizontal: wire,
         vertical: wire,
         period,
+        skew: 0,
         limit: 63,
         source: 0,
         sink: 2,
@@ -276,6 +277,37 @@ fn figures() -> Vec<Case> {
     ]
 }
 
+// Twice the skew is taken off each span's figure.
+fn skews() -> Vec<Case> {
+    let skewed = |skew: u32, p: Problem| Problem { skew, ..p };
+    let odd = |period: u32| Problem { horizontal: Wire { r: 1, c: 3 }, ..strip(period) };
+    vec![
+        case("R1, skew 1: 52 and 2", skewed(1, strip(26)), vec![late(PLAIN, 2, 2), accepted(REGISTERED, 26)]),
+        case("a tick more", skewed(1, strip(27)), vec![accepted(PLAIN, 0), accepted(REGISTERED, 28)]),
+        case("R3, skew 1: 24 and 2", skewed(1, strip(12)), vec![late(REGISTERED, 1, 2), late(PLAIN, 2, 30)]),
+        case("skew 14 and no more", skewed(14, strip(26)), vec![accepted(REGISTERED, 0)]),
+        case("skew 15", skewed(15, strip(26)), vec![late(REGISTERED, 1, 2)]),
+        case("skew T: all of 24", skewed(26, strip(26)), vec![late(REGISTERED, 1, 24)]),
+        case("skew above T", skewed(27, strip(26)), vec![late(REGISTERED, 1, 26)]),
+        case("T 1, skew 30,000", skewed(30_000, strip(1)), vec![late(REGISTERED, 1, 60_022), late(PLAIN, 2, 60_050)]),
+        case("T 30,000, skew 29,988", skewed(29_988, strip(30_000)), vec![accepted(REGISTERED, 0), late(PLAIN, 2, 28)]),
+        case("T and skew 30,000", skewed(30_000, strip(30_000)), vec![late(REGISTERED, 1, 24)]),
+        case("19 and 2 of 22", skewed(1, odd(11)), vec![accepted(REGISTERED, 1)]),
+        case("19 and 2 of 20", skewed(1, odd(10)), vec![late(REGISTERED, 1, 1)]),
+        case("spans of 24, 52 and 24, skew 1", skewed(1, strip(30)), vec![accepted(BACK, 6)]),
+        case("the second span is late by the skew", skewed(1, strip(26)), vec![late(BACK, 3, 2)]),
+        case(
+            "only one is legal with skew 1",
+            skewed(1, strip(26)),
+            vec![
+                better(PLAIN, REGISTERED, "better 0 depth 0 second words 2 7 1 7 0 7"),
+                better(REGISTERED, PLAIN, "better 0 depth 0 first words 2 7 1 7 0 7"),
+            ],
+        ),
+        case("none with skew 15", skewed(15, strip(26)), vec![better(PLAIN, REGISTERED, "better 18 depth 0 words")]),
+    ]
+}
+
 // Tables for one span that closes after n buffers at 66,260 n + 2 setup + 2 R C + 2 K half-ticks, C being 63, and what
 // the first step adds to it: 125 by a wire with R 1, 250 with R 2.
 fn heavy(first: u32, (r, k, setup): (u32, u32, u32), period: u32) -> Problem {
@@ -287,6 +319,7 @@ fn heavy(first: u32, (r, k, setup): (u32, u32, u32), period: u32) -> Problem {
         horizontal: Wire { r: 255, c: 0 },
         vertical: Wire { r: first, c: 1 },
         period,
+        skew: 0,
         limit: 63,
         source: 2,
         sink: 3,
@@ -306,6 +339,7 @@ fn floor() -> Vec<Case> {
         case(name, p, vec![late(&driven(buffers), buffers + 1, told)])
     };
     let largest = (15, 970, 30_000); // adds 63,830
+    let skewed = |skew: u32, p: Problem| Problem { skew, ..p };
     vec![
         about("missed by 999,999,998", heavy(2, (0, 0, 1_915), 1), 15_092, 999_999_998),
         about("missed by 999,999,999", heavy(1, (0, 0, 1_978), 1), 15_092, 999_999_999),
@@ -315,6 +349,9 @@ fn floor() -> Vec<Case> {
         about("the longest period, missed by 999,999,875", heavy(1, largest, 30_000), 15_092, 999_999_875),
         about("the longest period, missed by 1,000,000,000", heavy(2, largest, 30_000), 15_092, 1_000_000_000),
         about("one tick less", heavy(2, largest, 29_999), 15_092, 1_000_000_000),
+        about("missed by 999,999,998, by the skew", skewed(1_915, heavy(2, (0, 0, 0), 1)), 15_092, 999_999_998),
+        about("missed by 1,000,000,000, by the skew", skewed(1_916, heavy(2, (0, 0, 0), 1)), 15_092, 1_000_000_000),
+        about("missed by 1,000,000,002, by the skew", skewed(1_917, heavy(2, (0, 0, 0), 1)), 15_092, 1_000_000_000),
         about("past 2^29", heavy(2, (0, 0, 0), 30_000), 8_104, 8_104 * 66_260 + 250 - 60_000),
         about("past 2^30", heavy(2, (0, 0, 0), 30_000), 16_206, 1_000_000_000),
     ]
@@ -369,6 +406,7 @@ fn past_powers() -> Case {
 fn refusals() -> Vec<Case> {
     let ends = Problem { sink: 0, ..strip(26) };
     let table = Problem { limit: 64, ..ends.clone() };
+    let skew = Problem { skew: 30_001, ..table.clone() };
     let buffer = Problem { buffers: vec![Buffer::default(), Buffer { r: 0, k: 1_001, c: 0 }], ..strip(26) };
     let stray = marked(&[0, 2, 4], table.clone());
     let short = Problem { height: 2, ..stray.clone() };
@@ -394,12 +432,22 @@ fn refusals() -> Vec<Case> {
         case(
             "4 before 5",
             table,
+            vec![judge(list, "judge 4 depth 0 fault 3"), better(PLAIN, list, "better 4 depth 0 fault 3 words")],
+        ),
+        case(
+            "4 of the skew, before L",
+            skew.clone(),
             vec![judge(list, "judge 4 depth 0 fault 2"), better(PLAIN, list, "better 4 depth 0 fault 2 words")],
+        ),
+        case(
+            "4 of the period, before the skew",
+            Problem { period: 0, ..skew },
+            vec![judge(PLAIN, "judge 4 depth 0 fault 1"), better(PLAIN, PLAIN, "better 4 depth 0 fault 1 words")],
         ),
         case(
             "4 of the second buffer",
             buffer,
-            vec![judge(PLAIN, "judge 4 depth 0 fault 7 2"), better(PLAIN, PLAIN, "better 4 depth 0 fault 7 2 words")],
+            vec![judge(PLAIN, "judge 4 depth 0 fault 8 2"), better(PLAIN, PLAIN, "better 4 depth 0 fault 8 2 words")],
         ),
         case("3 before 4", stray, vec![judge(list, "judge 3 depth 0"), better(list, list, "better 3 depth 0 words")]),
         case("2 before 3", short, vec![judge(list, "judge 2 depth 0"), better(list, list, "better 2 depth 0 words")]),
@@ -408,7 +456,8 @@ fn refusals() -> Vec<Case> {
 }
 
 pub fn cases() -> Vec<Case> {
-    [routes(), faults(), figures(), floor(), long(), vec![past_powers()], refusals()].into_iter().flatten().collect()
+    let lists = [routes(), faults(), figures(), skews(), floor(), long(), vec![past_powers()], refusals()];
+    lists.into_iter().flatten().collect()
 }
 
 const NO_NUMBER: &str = "a number is missing";

@@ -73,6 +73,19 @@ whole "a single tap, blocked" "crossing 0 0 2 24 0
 2 7
 1 8
 0 7" "$(clocks '12 12'); $as_register; s/^row.*/row . xt ./; s/^sink.*/sink 2/"
+# twice the skew on both sides: 13 and 26 with a skew are what the period less it is without
+whole "a skew" "crossing 1 0 4 58 0
+4 7
+3 0
+2 8
+1 7
+0 7" "$(clocks '15 28\nskew 2')"
+whole "the largest skew that is in time" "crossing 1 0 4 89974 0
+4 7
+3 0
+2 8
+1 7
+0 7" "$(clocks '29987 30000\nskew 29974')"
 none_crossed() { # NAME TEXT SED
     sed "$3" "$2" >"$work/case.txt"
     told "$1" 1 none "case.txt: $no_reason" tools/route "$work/case.txt"
@@ -82,6 +95,9 @@ none_crossed "a FIFO whose load is above the limit" "$cross" 's/ C 1 setup 2/ C 
 none_crossed "a FIFO whose setup is too long" "$cross" 's/setup 2/setup 14/'
 none_crossed "a source's period just too short" "$cross" "$(clocks '12 30000')"
 none_crossed "a source that is too fast" $two "$(clocks '50 90')"
+none_crossed "a skew too much for the source" "$cross" "$(clocks '13 30000\nskew 1')"
+none_crossed "a skew too much for the sink" "$cross" "$(clocks '30000 12\nskew 1')"
+none_crossed "a skew above a period" "$cross" "$(clocks '13 30000\nskew 14')"
 none_crossed "ends walled off" "$cross" 's/^row.*/row . t t| t ./'
 told "none between two clocks, drawn" 1 "none
 
@@ -115,6 +131,10 @@ refuse_two 3 "$(two_line '# row 4'): cell 59 (row 4, column 11) cuts the wire be
 for period in 0 30001 65535; do
     refuse_two 4 "$clocks: source period $period is outside 1 to 30000" "s/^clocks.*/clocks $period 0/; s/^limit.*/limit 64/"
     refuse_two 4 "$clocks: sink period $period is outside 1 to 30000" "s/^clocks.*/clocks 55 $period/; s/^limit.*/limit 64/"
+done
+refuse_two 4 "$clocks: sink period 0 is outside 1 to 30000" 's/^clocks.*/clocks 55 0/; s/^limit.*/skew 30001\n&/'
+for skew in 30001 65535; do
+    refuse_two 4 "$(two_line '^limit'): skew $skew is outside 0 to 30000" "s/^limit.*/skew $skew\nlimit 64/"
 done
 refuse_two 4 "$(two_line '^limit'): limit 64 is outside 0 to 63" 's/^limit.*/limit 64/; s/^horizontal R 1/horizontal R 256/'
 refuse_two 4 "$(two_line '^horizontal'): horizontal R 256 is outside 0 to 255" 's/^\(horizontal\|vertical\) R 1/\1 R 256/'

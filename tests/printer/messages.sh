@@ -13,7 +13,12 @@ message "$(line '^period'): one number is expected here, not 0" 's/^period .*/pe
 message "$(line '^period'): one number is expected here, not 2" 's/^period .*/period 1 2/'
 message "$last: the text ends without the line 'period'" 's/^period .*//'
 message "$(($(line '^limit') + 1)): limit is given already in line $(line '^limit')" 's/^limit.*/&\n&/'
-message "$(line '^limit'): 'limmit' is not the name of a line; the names are row, size, register, horizontal, vertical, period, clocks, fifo, limit, source, sink, buffer" 's/^limit/limmit/'
+message "$(line '^limit'): 'limmit' is not the name of a line; the names are row, size, register, horizontal, vertical, period, clocks, fifo, skew, limit, source, sink, buffer" 's/^limit/limmit/'
+message "$(($(line '^limit') + 2)): skew is given already in line $(($(line '^limit') + 1))" 's/^limit.*/&\nskew 1\nskew 0/'
+message "$(($(line '^limit') + 1)): one number is expected here, not 0" 's/^limit.*/&\nskew/'
+message "$(($(line '^limit') + 1)): one number is expected here, not 2" 's/^limit.*/&\nskew 1 1/'
+message "$(($(line '^limit') + 1)): '-1' is not a whole number" 's/^limit.*/&\nskew -1/'
+message "$(($(line '^limit') + 1)): 65536 is above 65535, the largest number taken" 's/^limit.*/&\nskew 65536/'
 message "$(line '^register'): setup is missing; the form is: R NUMBER K NUMBER C NUMBER setup NUMBER" 's/ setup 6//'
 message "$(line '^register'): setup has no number; the form is: R NUMBER K NUMBER C NUMBER setup NUMBER" 's/ setup 6/ setup/'
 message "$(line '^horizontal'): 'K' is not expected here; the form is: R NUMBER C NUMBER" 's/^horizontal R 1/horizontal K 1/'
@@ -66,7 +71,7 @@ told "an empty text" 2 "" "/dev/null:1: the text ends without a row of the plan,
 long=$(head -c 100000 /dev/zero | tr '\0' a)
 cut=$(printf 'a%.0s' {1..40})..
 message "$(line '^limit'): '$cut' is not a whole number" "s/^limit.*/limit $long/"
-message "$(line '^limit'): '$cut' is not the name of a line; the names are row, size, register, horizontal, vertical, period, clocks, fifo, limit, source, sink, buffer" "s/^limit.*/$long/"
+message "$(line '^limit'): '$cut' is not the name of a line; the names are row, size, register, horizontal, vertical, period, clocks, fifo, skew, limit, source, sink, buffer" "s/^limit.*/$long/"
 message "$(line '^register'): '$cut' is not expected here; the form is: R NUMBER K NUMBER C NUMBER setup NUMBER" "s/^register.*/register $long 1/"
 message "$(line '# row 2'): cell '$cut': 'a' is none of . x t | _" "s/\.\( *# row 2\)/$long\1/"
 digits=$(tr a 9 <<<"$long")
@@ -79,12 +84,13 @@ bad_job() { # NAME BYTES MESSAGE
     printf "$2" >"$work/bad.job"
     told "$1" 2 "" "bad.job: $3" $job read "$work/bad.job"
 }
-strip='\3\1\0\2\0\1\2\1\1\2\3\2\3\31\77\0\2'
+strip='\3\1\0\2\0\1\2\1\1\2\3\2\3\31\0\77\0\2'
 bad_job "an empty job" '' "the job ends after 0 bytes, at the width"
-bad_job "a job cut short" "$strip" "the job ends after 17 bytes, at the buffer count"
-bad_job "a job cut within a buffer" "$strip"'\1\1' "the job ends after 19 bytes, at buffer 1 K"
-bad_job "bytes left over" "$strip"'\0\0\0' "2 bytes left over after byte 18"
-bad_job "a byte left over" "$strip"'\0\0' "1 byte left over after byte 18"
+bad_job "a job cut short" "$strip" "the job ends after 18 bytes, at the buffer count"
+bad_job "a job cut before its skew" '\3\1\0\2\0\1\2\1\1\2\3\2\3\31' "the job ends after 14 bytes, at the skew"
+bad_job "a job cut within a buffer" "$strip"'\1\1' "the job ends after 20 bytes, at buffer 1 K"
+bad_job "bytes left over" "$strip"'\0\0\0' "2 bytes left over after byte 19"
+bad_job "a byte left over" "$strip"'\0\0' "1 byte left over after byte 19"
 bad_job "a trailing zero" '\3\201\0' "byte 3, the height: a last byte of zero after another"
 bad_job "65,536" '\3\1\200\200\4' "byte 3, the marks of cell 0: 65536 is above 65535"
 bad_job "a fourth byte" '\3\1\200\200\200\1' "byte 3, the marks of cell 0: the number has a fourth byte"

@@ -6,8 +6,8 @@ load="the load limit, no route keeps it even with the period test left out"
 walled="walled off, no chain of uncut wires joins the ends"
 short="the period, even 30000 ticks are too short"
 
-# Without delays every span is in time, and with loads of 0 too every chain of uncut wires is a route.
-no_delays='s/\<\(R\|K\|setup\) [0-9]*/\1 0/g'
+# Without delays and skew every span is in time, and with loads of 0 too every chain of uncut wires is a route.
+no_delays='s/\<\(R\|K\|setup\|skew\) [0-9]*/\1 0/g'
 no_loads="$no_delays; s/\<C [0-9]*/C 0/g"
 at() { echo "s/^period .*/period $1/"; } # TICKS
 force() { # TEXT SED: whether the text with this change has a route, by the brute force
@@ -45,6 +45,13 @@ because "$load" $strip 's/^limit .*/limit 3/' # R7
 because "$load" $strip 's/^limit .*/limit 0/; s/^period .*/period 1/; s/setup 1/setup 30000/'
 because "$walled" $strip 's/^row.*/row . t| ./'
 because "$walled" $strip 's/^row.*/row .| t ./; s/^limit .*/limit 0/; s/^period .*/period 1/'
+because "$period 13 ticks" $strip 's/^period .*/period 12\nskew 1/' # R3 with skew 1
+because "$period 25 ticks" $strip 's/^period .*/period 12\nskew 13/' # above T
+because "$period 30000 ticks" $strip 's/^period .*/period 12\nskew 29988/'
+because "$short" $strip 's/^period .*/period 12\nskew 29989/'
+because "$short" $strip 's/^period .*/period 30000\nskew 30000/'
+because "$load" $strip 's/^period .*/period 12\nskew 30000/; s/^limit .*/limit 3/'
+because "$walled" $strip 's/^period .*/period 12\nskew 30000/; s/^row.*/row . t| ./'
 because "$period 108 ticks" examples/detour.txt 's/^period .*/period 20/'
 because "$load" examples/detour.txt 's/^limit .*/limit 3/'
 because "$walled" examples/detour.txt 's/^\(row *\.   \.   \.   \. *\)\([.t]\)|\?/\1\2|/'
@@ -62,7 +69,7 @@ asked() { # TEXT: with a second program that keeps what it reads
 }
 told "the strip's question" 1 "none: $period 12 ticks" "" asked "$work/bad.txt"
 same "the script of the strip's question" "plan 3 0 2 0
-tables 1 2 1 1 2 3 2 3 11 63
+tables 1 2 1 1 2 3 2 3 11 0 63
 buffers 0
 reason 3 1 0 2" "$(cat "$work/script")"
 missing="missing: No such file or directory (os error 2)"
@@ -104,7 +111,7 @@ differs() { # LINE..: a route exists, or the job is refused
         as_second "'$line'" "the route printer says none, and it says '$line'" "echo '$line'"
     done
 }
-differs "reason 19 depth 0 zeroed 768" "reason 1 depth 0 zeroed 0" "reason 4 depth 0 fault 1 zeroed 0" "reason 4 depth 0 fault 7 1 zeroed 0" \
+differs "reason 19 depth 0 zeroed 768" "reason 1 depth 0 zeroed 0" "reason 4 depth 0 fault 1 zeroed 0" "reason 4 depth 0 fault 8 1 zeroed 0" \
     "reason 6 depth 0 zeroed 0" "reason 0 depth 0 period 10 zeroed 768" "reason 0 depth 0 period 11 zeroed 768" \
     "reason 0 depth 0 period 30001 zeroed 768"
 printf '#!/bin/sh\necho none\n' >"$work/says_none"

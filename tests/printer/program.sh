@@ -25,10 +25,10 @@ told "empty standard input" 0 "refused 15" "" from /dev/null
 told "endless zeros" 0 "refused 1" "" from /dev/zero
 same "endless input" "refused 1" "$(yes | timeout 20 $printer)"
 same "a job, then no end" "refused 15" "$( (cat "$work/job"; yes) | timeout 20 $printer)"
-same "222 bytes, then nothing, the input still open" "refused 15" \
-    "$(timeout 10 $printer < <(yes "" | tr '\n' '\001' | head -c 222; exec sleep 12 2>/dev/null))"
-# 222 bytes decide: a read after them would fail, and is not made
-head -c 222 /dev/zero | tr '\0' '\1' >"$work/ones"
-told "a failed read after 221 bytes" 0 "" "route_printer: standard input: Connection reset by peer" \
-    timeout 20 target/tools/feed broken 221 $printer "$work/ones"
-told "a failed read after 222 bytes" 0 "refused 15" "" timeout 20 target/tools/feed broken 222 $printer "$work/ones"
+same "225 bytes, then nothing, the input still open" "refused 15" \
+    "$(timeout 10 $printer < <(yes "" | tr '\n' '\001' | head -c 225; exec sleep 12 2>/dev/null))"
+# 225 bytes decide: a read after them would fail, and is not made
+head -c 225 /dev/zero | tr '\0' '\1' >"$work/ones"
+told "a failed read after 224 bytes" 0 "" "route_printer: standard input: Connection reset by peer" \
+    timeout 20 target/tools/feed broken 224 $printer "$work/ones"
+told "a failed read after 225 bytes" 0 "refused 15" "" timeout 20 target/tools/feed broken 225 $printer "$work/ones"

@@ -33,6 +33,15 @@ case_spans R12 "s/^period.*/period 22/; s/^row.*/row 0 3 0/; $buffer" "route 1 2
 #    0    1      1      0     24     20"
 spans R13 "route 1 4 24 0" 24 "#    4    2      2      0     24      0
 #    0    4      2      0     24      0" examples/twice.txt
+# with a skew, worked out by hand
+case_spans "R1, skew 1" 's/^period.*/period 26\nskew 1/' "route 1 2 52 26" "52, twice the skew 2" "#    1    2      1      0     24     26
+#    0    1      1      0     24     26"
+case_spans "R1 a tick longer, skew 1" 's/^period.*/skew 1\nperiod 27/' "route 0 2 27 0" "54, twice the skew 2" "#    0    2      2      0     52      0"
+case_spans "R1, skew 0" 's/^period.*/period 26\nskew 0/' "route 0 2 26 0" 52 "#    0    2      2      0     52      0"
+case_spans "the longest period, skew 29,974" 's/^period.*/period 30000\nskew 29974/' "route 0 2 30000 0" "60000, twice the skew 59948" \
+    "#    0    2      2      0     52      0"
+spans "the strip with a skew" "route 1 2 52 26" "52, twice the skew 2" "#    1    2      1      0     24     26
+#    0    1      1      0     24     26" examples/skewed.txt
 case_spans "the longest period" 's/^period.*/period 30000/' "route 0 2 30000 59948" 60000 "#    0    2      2      0     52  59948"
 spans "the wide plan" "route 4 37 300 1" 120 "#  102    0      9      1    119      1
 #  107  102      5      0     71     49
@@ -57,7 +66,7 @@ table_sums() { # FILE
     awk '
         $1 == "route" { figures = $2 + 1 " spans, " $3 " steps, spare " $5; next }
         $1 != "#" { if (!visits++) first = $1; source = $1; next }
-        $2 == "from" { allowed = $NF + 0; at = first; least = allowed; next }
+        $2 == "from" { allowed = $11 - (NF > 11 ? $NF : 0); at = first; least = allowed; next }
         {
             if ($3 != at || $6 + $7 != allowed) print "line " NR " does not fit"
             at = $2

@@ -76,7 +76,7 @@ same "the guide's strip is the strip with these lines" "" "$(guide 'row . t t t'
 plays "tee '$work/script' >/dev/null; echo '$found'"
 told "the strip's question" 0 "$sheet" "" $job route "$work/missing" "$work/program" "$cross"
 same "the script of the strip's question" "plan 5 0 2 2 2 0
-tables 1 2 1 1 2 3 2 3 26 63
+tables 1 2 1 1 2 3 2 3 26 0 63
 buffers 0
 clocks 13 1 2 1 2
 crossing 5 1 0 4 2048" "$(cat "$work/script")"
@@ -84,7 +84,7 @@ no_reason="why there is no route is told of one clock only"
 plays "tee '$work/script' >/dev/null; echo 'crossing 7 depth 0 figures 0 0 0 0 0 visits zeroed 30720'"
 told "the example's question" 1 none "$two: $no_reason" $job route "$work/missing" "$work/program" $two
 same "the script of the example's question" "plan 60 0 0 0 2 0 0 2 0 0 0 0 0 0 0 1 1 5 0 0 0 1 1 2 0 0 0 1 3 5 0 2 0 1 3 1 0 0 0 1 1 5 0 0 0 1 1 1 0 0 0 0 2 0 0 0 0 0 0 2 0
-tables 3 8 2 4 1 2 1 2 75 20
+tables 3 8 2 4 1 2 1 2 75 0 20
 buffers 2 3 4 1 1 7 3
 clocks 55 2 14 3 9
 crossing 12 5 24 35 2048" "$(cat "$work/script")"
@@ -118,6 +118,24 @@ $cross_head 80 source, 26 sink)
 #    2    8    3    7      1      0     26     24      2
 #    0    7    2    8      2      0     80     54     26" "" \
     "crossing 0 depth 0 figures 0 1 4 66 2 visits 4 7 3 7 2 8 1 0 0 7 zeroed 2560" "$work/clocks.txt"
+
+# twice the skew is taken off on both sides
+sed 's/^clocks.*/clocks 15 28\nskew 2/' $cross >"$work/clocks.txt"
+line_told "a skew" 0 "crossing 1 0 4 58 0
+4 7
+3 0
+2 8
+1 7
+0 7
+$cross_head 30 source, 56 sink, twice the skew 4)
+#    2    8    4    7      2      0     56     52      0
+#    1    7    2    8      1      0     30     26      0
+#    0    7    1    7      1      0     30     24      2" "" \
+    "crossing 0 depth 0 figures 1 0 4 58 0 visits 4 7 3 0 2 8 1 7 0 7 zeroed 2560" "$work/clocks.txt"
+plays "tee '$work/script' >/dev/null; echo '$found'"
+told "the question with a skew" 4 "" "program: its route does not fit the plan: its first line says registers 1 0, latency 52" \
+    $job route "$work/missing" "$work/program" "$work/clocks.txt"
+same "its tables" "tables 1 2 1 1 2 3 2 3 28 2 63" "$(grep '^tables' "$work/script")"
 
 # ---- pictures and drawings
 own_line="crossing 0 depth 0 figures 1 1 15 260 4 visits $(sed 1d $here/two_clocks.sheet | grep -v '^#' | paste -s -d ' ') zeroed 30720"
@@ -176,19 +194,20 @@ line_refused() { # NAME NUMBER LINE: REASON, WORDS SED: the player's line after 
         "$work/bad.txt" --picture --svg "$work/drawing.svg"
     [ ! -e "$work/drawing.svg" ] || fail "$1: a refused text has a drawing"
 }
-all='s/^clocks.*/clocks 0 0/; s/^limit.*/limit 64/; s/ R [0-9]*/ R 256/; $a buffer R 256 K 0 C 0'
+all='s/^clocks.*/clocks 0 0/; s/^limit.*/limit 64/; s/ R [0-9]*/ R 256/; $a buffer R 256 K 0 C 0\nskew 30001'
 seven='$a buffer R 0 K 0 C 0\nbuffer R 0 K 0 C 0\nbuffer R 0 K 0 C 0\nbuffer R 0 K 0 C 0\nbuffer R 0 K 0 C 0\nbuffer R 0 K 0 C 0\nbuffer R 0 K 0 C 0'
 line_refused "the source's period" 4 "4: source period 0 is outside 1 to 30000" " fault 1" "$all"
 line_refused "the sink's period" 4 "4: sink period 0 is outside 1 to 30000" " fault 2" "$all"
-line_refused "the load limit" 4 "6: limit 64 is outside 0 to 63" " fault 3" "$all"
-line_refused "the horizontal wire" 4 "8: horizontal R 256 is outside 0 to 255" " fault 4" "$all"
-line_refused "the vertical wire" 4 "9: vertical R 256 is outside 0 to 255" " fault 5" "$all"
-line_refused "the register" 4 "7: register R 256 is outside 0 to 255" " fault 6" "$all"
-line_refused "the FIFO" 4 "5: fifo R 256 is outside 0 to 255" " fault 7" "$all"
-line_refused "seven buffers" 4 "16: 7 buffers are given, and at most 6 are taken" " fault 8" "$seven"
-line_refused "a buffer" 4 "10: buffer 1 R 256 is outside 0 to 255" " fault 9 1" "$all"
-line_refused "a FIFO's setup" 4 "5: fifo setup 30001 is outside 0 to 30000" " fault 7" 's/ setup 2/ setup 30001/'
-line_refused "an element for which the text shows no reason" 4 " a number is outside its range" " fault 7" ''
+line_refused "the skew" 4 "11: skew 30001 is outside 0 to 30000" " fault 3" "$all"
+line_refused "the load limit" 4 "6: limit 64 is outside 0 to 63" " fault 4" "$all"
+line_refused "the horizontal wire" 4 "8: horizontal R 256 is outside 0 to 255" " fault 5" "$all"
+line_refused "the vertical wire" 4 "9: vertical R 256 is outside 0 to 255" " fault 6" "$all"
+line_refused "the register" 4 "7: register R 256 is outside 0 to 255" " fault 7" "$all"
+line_refused "the FIFO" 4 "5: fifo R 256 is outside 0 to 255" " fault 8" "$all"
+line_refused "seven buffers" 4 "16: 7 buffers are given, and at most 6 are taken" " fault 9" "$seven"
+line_refused "a buffer" 4 "10: buffer 1 R 256 is outside 0 to 255" " fault 10 1" "$all"
+line_refused "a FIFO's setup" 4 "5: fifo setup 30001 is outside 0 to 30000" " fault 8" 's/ setup 2/ setup 30001/'
+line_refused "an element for which the text shows no reason" 4 " a number is outside its range" " fault 8" ''
 line_refused "a plan's side" 1 "2: the plan's width is 0 and its height 9; $sides" "" 's/^row.*//; s/^source.*/size 0 9\nsource 0/; s/^sink.*/sink 1/'
 line_refused "a mark" 3 "1: cell 0 (row 0, column 0) has marks 16, outside 0 to 15" "" 's/^row \./row 16/'
 line_refused "the ends" 5 "3: source and sink are both cell 0 (row 0, column 0)" "" 's/^sink.*/sink 0/'
@@ -223,9 +242,9 @@ no_line "none" "bad script: line 4: this word is no command" "route 0 depth 0 fi
     "${found/zeroed 2560/zeroed x}" "${found/ zeroed 2560/}" "${found/visits/words}" "${found/ 0 / 00 }" \
     "${found/figures/fault 1 figures}" "${found/crossing 0/crossing 7}" "${found/crossing 0/crossing 8}" \
     "${none_line/7 depth 0/7 depth 0 fault 1}" "${none_line/7 depth 0/4 depth 0}" "${none_line/7 depth 0/4 depth 0 fault}" \
-    "${none_line/7 depth 0/4 depth 0 fault x}" "${none_line/7 depth 0/4 depth 0 fault 8 1}" \
-    "${none_line/7 depth 0/4 depth 0 fault 9 x}" "${none_line/7 depth 0/5 depth 0 fault 1}"
-for words in "2 depth 0" "6 depth 0" "15 depth 0" "16 depth 0" "19 depth 0" "4 depth 0 fault 0" "4 depth 0 fault 10"; do
+    "${none_line/7 depth 0/4 depth 0 fault x}" "${none_line/7 depth 0/4 depth 0 fault 9 1}" \
+    "${none_line/7 depth 0/4 depth 0 fault 10 x}" "${none_line/7 depth 0/5 depth 0 fault 1}"
+for words in "2 depth 0" "6 depth 0" "15 depth 0" "16 depth 0" "19 depth 0" "4 depth 0 fault 0" "4 depth 0 fault 11"; do
     line="crossing $words figures 0 0 0 0 0 visits zeroed 0"
     as_crossing "the refusal '$words'" "the text cannot be refused with '${line:0:40}..'" "echo '$line'"
 done

@@ -21,6 +21,7 @@ own() { # WORDS PLAN
 told "the guide's sheet" 0 "$(guide accepted:)" "" tools/verdict examples/detour.txt examples/detour.sheet
 own "22 visits, 2 registers, 0 half-ticks spare" examples/detour.txt
 own "3 visits, 0 registers, 0 half-ticks spare" examples/strip.txt
+own "3 visits, 1 register, 26 half-ticks spare" examples/skewed.txt
 own "5 visits, 1 register, 0 half-ticks spare" examples/twice.txt
 own "38 visits, 4 registers, 1 half-tick spare" $here/wide.txt
 own "1024 visits, 11 registers, 0 half-ticks spare" $here/fits.txt
@@ -91,6 +92,20 @@ fault "visit 1 (cell 1, code 7): the span that closes here is 2 half-ticks too l
 strip 's/^period.*/period 1/'
 fault "visit 2 (cell 0, code 7): the span that closes here is 50 half-ticks too long for the period, 1 tick" "$plan" ''
 sed 's/^1 0/1 7/' "$work/strip.sheet" >"$work/two.sheet"
+# twice the skew at each close
+told "the strip with skew 1" 1 "visit 2 (cell 0, code 7): the span that closes here is 2 half-ticks too long for the period, 26 ticks, less the skew, 1 tick" "" \
+    tools/verdict examples/skewed.txt "$work/strip.sheet"
+accepts "its register with skew 1" "3 visits, 1 register, 26 half-ticks spare" examples/skewed.txt "$work/two.sheet"
+strip 's/^period.*/period 27\nskew 1/'
+accepts "a tick more with skew 1" "3 visits, 0 registers, 0 half-ticks spare" "$plan" "$work/strip.sheet"
+strip 's/^period.*/period 26\nskew 14/'
+accepts "skew 14 and no more" "3 visits, 1 register, 0 half-ticks spare" "$plan" "$work/two.sheet"
+strip 's/^period.*/period 26\nskew 15/'
+told "skew 15" 1 "visit 1 (cell 1, code 7): the span that closes here is 2 half-ticks too long for the period, 26 ticks, less the skew, 15 ticks" "" \
+    tools/verdict "$plan" "$work/two.sheet"
+strip 's/^period.*/period 1\nskew 30000/'
+told "T 1, skew 30,000" 1 "visit 1 (cell 1, code 7): the span that closes here is 60022 half-ticks too long for the period, 1 tick, less the skew, 30000 ticks" "" \
+    tools/verdict "$plan" "$work/two.sheet"
 strip 's/^period.*/period 6/; s/^horizontal.*/horizontal R 1 C 1/'
 told "a miss of 1 half-tick" 1 "visit 1 (cell 1, code 7): the span that closes here is 1 half-tick too long for the period, 6 ticks" "" \
     tools/verdict "$plan" "$work/two.sheet"
@@ -137,6 +152,8 @@ refuse_plan 3 "$(line '# row 0'): cell 0 (row 0, column 0) has marks 300, outsid
 refuse_plan 3 "$(line '# row 7'): cell 127 (row 7, column 15) cuts the wire below, and the last row has none" "s/^\(row .*\)\.\( *# row 7\)/\1._\2/; $seven"
 refuse_plan 4 "$(line '^period'): period 0 is outside 1 to 30000" "s/^period .*/period 0/; $seven"
 refuse_plan 4 "$(line '^limit'): limit 64 is outside 0 to 63" "s/^limit .*/limit 64/; $seven"
+refuse_plan 4 "$(line '^limit'): skew 30001 is outside 0 to 30000" "s/^limit .*/skew 30001\nlimit 64/; $seven"
+refuse_plan 4 "$(line '^period'): period 0 is outside 1 to 30000" "s/^period .*/period 0/; s/^limit .*/skew 30001\nlimit 64/"
 refuse_plan 4 "$(line '^horizontal'): horizontal R 256 is outside 0 to 255" 's/^horizontal R 1 /horizontal R 256 /; s/^vertical R 2 /vertical R 256 /'
 refuse_plan 4 "$(line '^vertical'): vertical C 64 is outside 0 to 63" 's/^vertical R 2 C 2/vertical C 64 R 2/; s/ setup 6/ setup 30001/'
 refuse_plan 4 "$(line '^register'): register setup 30001 is outside 0 to 30000" "s/ setup 6/ setup 30001/; $seven"
@@ -185,7 +202,7 @@ no_sheet "1: the text starts with a byte order mark; save it as UTF-8 without on
 no_sheet "4: '3\\u{1b}' is not a whole number" 's/^31 0/3\x1b 0/'
 back_and_forth 2048 >"$work/bad.sheet"
 told "4,098 visits" 2 "" "bad.sheet:4098: the sheet has more than 4096 visits, the most that are judged" tools/verdict "$work/free.txt" "$work/bad.sheet"
-told "a sheet for a plan" 2 "" "examples/detour.sheet:1: 'route' is not the name of a line; the names are row, size, register, horizontal, vertical, period, clocks, fifo, limit, source, sink, buffer" \
+told "a sheet for a plan" 2 "" "examples/detour.sheet:1: 'route' is not the name of a line; the names are row, size, register, horizontal, vertical, period, clocks, fifo, skew, limit, source, sink, buffer" \
     tools/verdict examples/detour.sheet examples/detour.txt
 told "standard input twice" 2 "" "standard input can be the plan or the sheet, not both" tools/verdict - -
 told "a missing sheet" 4 "" "missing.sheet: No such file or directory (os error 2)" tools/verdict examples/detour.txt "$work/missing.sheet"
@@ -199,13 +216,13 @@ closed_pipe tools/verdict examples/detour.txt examples/detour.sheet
 # ---- random sheets: the planner's own are accepted, and every fault of a changed one is shown by the plan
 $job script examples/strip.txt "$work/strip.sheet" >"$work/text"
 same "the script of the strip" "plan 3 0 2 0
-tables 1 2 1 1 2 3 2 3 26 63
+tables 1 2 1 1 2 3 2 3 26 0 63
 buffers 0
 judge 3 1 0 2 6 2 7 1 0 0 7" "$(cat "$work/text")"
 # the longest script: the largest numbers, 4,096 visits, more marks and buffers than it takes
 {
     echo "row$(printf ' 65535%.0s' {1..1200})"
-    printf '%s 65535\n' source sink period limit
+    printf '%s 65535\n' source sink period skew limit
     printf '%s R 65535 C 65535\n' horizontal vertical
     echo "register R 65535 K 65535 C 65535 setup 65535"
     yes "buffer R 65535 K 65535 C 65535" | head -n 30
@@ -213,7 +230,7 @@ judge 3 1 0 2 6 2 7 1 0 0 7" "$(cat "$work/text")"
 { echo "route 0 0 0 0"; yes "65535 65535" | head -n 4096; } >"$work/long.sheet"
 told "the longest script" 3 "refused 1" "long.txt:1: the plan's width is 1200 and its height 1; $sides (refusal 1)" \
     tools/verdict "$work/long.txt" "$work/long.sheet"
-same "the longest script's bytes" 54030 "$($job script "$work/long.txt" "$work/long.sheet" | wc -c)"
+same "the longest script's bytes" 54036 "$($job script "$work/long.txt" "$work/long.sheet" | wc -c)"
 counted() { # NUMBER WORD
     [ "$1" = 1 ] && echo "$1 $2" || echo "$1 $2s"
 }
@@ -240,7 +257,7 @@ while read -r hex; do
         esac
         faults="$faults ${said##*: }"
     done
-done < <(target/brute/brute sample 60 3)
+done < <(target/brute/brute sample 90 3)
 for words in "outside the plan" "not the sink" "not the source" "no uncut wire" "an end must" "no such buffer" \
     "no clock tap" "blocked" "the load is" "the span that"; do
     checks=$((checks + 1))
@@ -295,7 +312,7 @@ says "a visit without number" "it printed no verdict, but" "judge 0 depth 0 visi
 refused="the plan and the sheet cannot be refused with"
 says "a refusal of other calls" "$refused" "judge 6 depth 0"
 says "a plan's wrong length" "$refused" "judge 2 depth 0"
-says "an element that there is not" "$refused" "judge 4 depth 0 fault 8"
+says "an element that there is not" "$refused" "judge 4 depth 0 fault 9"
 says "4 without the element" "$refused" "judge 4 depth 0"
 shown="plan and sheet do not show the fault of its line"
 says "a visit past the last" "$shown" "judge 0 depth 0 visit 3 load"
@@ -331,4 +348,4 @@ lowest="judge 0 depth 0 visit 2 period -1000000000"
 on_program "the lowest figure" 1 "visit 2 (cell 0, code 7): the span that closes here is 1000000000 half-ticks or more too long for the period, 26 ticks" "" \
     "$lowest" "$plan" "$work/strip.sheet"
 on_program "an element for which the text shows no reason" 3 "refused 4" "examples/strip.txt: a number is outside its range (refusal 4)" \
-    "judge 4 depth 0 fault 7 1" examples/strip.txt "$work/strip.sheet"
+    "judge 4 depth 0 fault 8 1" examples/strip.txt "$work/strip.sheet"

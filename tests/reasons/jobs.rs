@@ -1,5 +1,5 @@
-// Jobs on one plan: the limit, the setup and the period put about their thresholds, walls of cuts, questions to be
-// refused.
+// Jobs on one plan: the limit, the setup, the skew and the period put about their thresholds, walls of cuts, questions
+// to be refused.
 
 use crate::explained::LONGEST;
 use crate::plans;
@@ -79,6 +79,15 @@ fn set_setup(r: &mut Random, p: &mut Problem) {
     }
 }
 
+// A skew with which the least period is 30,000, or one more, or anything; none, or the largest.
+fn set_skew(r: &mut Random, p: &mut Problem) {
+    p.skew = 0;
+    let (any, close) = (r.within(1, LONGEST), r.within(LONGEST + 1, LONGEST + 9));
+    let wanted = r.pick(&[LONGEST, LONGEST, LONGEST + 1, LONGEST + 1, close, any, any]);
+    let least = least_period(p).map_or(any, |least| wanted.saturating_sub(least as u32));
+    p.skew = r.pick(&[least, least, least, least, least, least, 0, LONGEST]).min(LONGEST);
+}
+
 // Cells about the sink, grown from it; not the source.
 fn region(r: &mut Random, p: &Problem) -> Vec<bool> {
     let mut inside = vec![false; p.cells() as usize];
@@ -134,7 +143,7 @@ fn job(r: &mut Random, problem: Problem) -> Job {
 
 fn varied(r: &mut Random, drawn: &Problem) -> Problem {
     let mut p = drawn.clone();
-    match r.below(20) {
+    match r.below(26) {
         0..4 => set_limit(r, &mut p),
         4..9 => set_setup(r, &mut p),
         9..12 => set_wall(r, &mut p),
@@ -151,7 +160,16 @@ fn varied(r: &mut Random, drawn: &Problem) -> Problem {
             (p.register.setup, p.register.k) = (LONGEST, p.register.k.max(1)); // no span can close
         }
         15 => std::mem::swap(&mut p.source, &mut p.sink),
-        16 if p.period > 0 => return p, // as it was drawn
+        16 | 25 if p.period > 0 => return p, // as it was drawn
+        20..23 => set_skew(r, &mut p),
+        23 => {
+            set_limit(r, &mut p);
+            set_skew(r, &mut p);
+        }
+        24 => {
+            set_wall(r, &mut p);
+            set_skew(r, &mut p);
+        }
         _ => {}
     }
     set_period(r, &mut p);

@@ -1,6 +1,6 @@
 // Plans with tables to ask about: the brute force's, and shapes that it seldom draws. Period and limit come later.
 
-use crate::make::{self, any_ends, far_ends, scatter, sized, tables, turned, Density};
+use crate::make::{self, any_ends, far_ends, scatter, sized, small_skew, tables, turned, Density};
 use crate::random::Random;
 use crate::rules::{Buffer, Problem, Register, Wire, BLOCKED, TAP};
 
@@ -110,7 +110,7 @@ fn large(r: &mut Random) -> Problem {
 }
 
 pub fn draw(r: &mut Random) -> Problem {
-    match r.below(100) {
+    let mut p = match r.below(100) {
         0..48 => loop {
             if let Some((_, p)) = make::problem(r, STATES) {
                 return p;
@@ -122,5 +122,7 @@ pub fn draw(r: &mut Random) -> Problem {
         85..93 => light_buffer(r),
         93..97 => slow(r),
         _ => large(r),
-    }
+    };
+    p.skew = small_skew(r);
+    p
 }

@@ -21,10 +21,15 @@ pub struct Tally {
 const ORDER: [&str; 6] = ["grid", "length", "plan", "element", "ends", "scratch"];
 
 // The classes of one kind, with the least number of each among 5,000 jobs.
-const KINDS: [(&str, u64, &[&str]); 14] = [
+const KINDS: [(&str, u64, &[&str]); 19] = [
     ("answer", 200, &["walled", "load", "period", "short", "19"]),
     ("refused", 20, &["1", "2", "3", "4", "5", "6"]),
-    ("4: fault", 1, &["1", "2", "3", "4", "5", "6", "7 1", "7 2", "7 3", "7 4", "7 5", "7 6"]),
+    ("4: fault", 1, &["1", "2", "3", "4", "5", "6", "7", "8 1", "8 2", "8 3", "8 4", "8 5", "8 6"]),
+    ("skew 0:", 50, &["walled", "load", "period", "short", "19"]),
+    ("skew below T:", 20, &["walled", "load", "period", "short", "19"]),
+    ("skew T:", 3, &["walled", "load", "period", "short", "19"]),
+    ("skew above T:", 20, &["walled", "load", "period", "short"]),
+    ("by the skew:", 30, &["period, and a route without it", "short, and a period without it"]),
     (
         "period",
         30,
@@ -120,6 +125,7 @@ impl Tally {
         self.add("scratch", if job.lent as u64 == need { "just enough" } else { "more than enough" });
         self.add_if(job.shown, "scratch", "shown");
         self.plan(p);
+        self.skew(p, answer, slowest);
         match answer {
             Explained::RouteExists => self.exists(p, slowest.unwrap()),
             Explained::Because(Reason::Period(t)) => self.period(p, *t, slowest.unwrap()),
@@ -130,6 +136,27 @@ impl Tally {
         if slowest.is_some() {
             self.add_if(needs_lightest(p), "fits:", "only by the lightest buffer");
             self.add_if(p.limit > 0 && !fits(&with_limit(p, p.limit - 1)), "fits:", "L just enough");
+        }
+    }
+
+    fn skew(&mut self, p: &Problem, answer: &Explained, slowest: Option<u64>) {
+        let (told, allowed) = match answer {
+            Explained::Because(Reason::Walled) => ("walled", 0),
+            Explained::Because(Reason::Load) => ("load", 0),
+            Explained::Because(Reason::Period(_)) => ("period", p.period),
+            Explained::Because(Reason::Short) => ("short", LONGEST),
+            _ => ("19", 0),
+        };
+        let kind = match p.skew {
+            0 => "skew 0:",
+            skew if skew < p.period => "skew below T:",
+            skew if skew == p.period => "skew T:",
+            _ => "skew above T:",
+        };
+        self.add(kind, told);
+        if slowest.is_some_and(|slowest| slowest - 2 * p.skew as u64 <= 2 * allowed as u64) {
+            self.add_if(told == "period", "by the skew:", "period, and a route without it");
+            self.add_if(told == "short", "by the skew:", "short, and a period without it");
         }
     }
 

@@ -104,8 +104,9 @@ impl Events {
     }
 }
 
-// The least delay, in half-ticks, that the slowest span of a route has to be allowed; None where no route fits. The
-// bound rises only when nothing is left that happens within it. At most so many events are followed.
+// The least delay, in half-ticks, that the slowest span of a route has to be allowed, twice the skew of every close in
+// it; None where no route fits. The bound rises only when nothing is left that happens within it. At most so many
+// events are followed.
 pub fn slowest(p: &Problem, most: usize) -> Result<Option<u64>, TooLarge> {
     let fresh = 2 * p.register.setup as u64;
     let drive = |r: u32, k: u32, load: u32| 2 * (r as u64 * load as u64 + k as u64);
@@ -121,7 +122,7 @@ pub fn slowest(p: &Problem, most: usize) -> Result<Option<u64>, TooLarge> {
             return Err(TooLarge);
         }
         let (cell, load) = match event {
-            Event::Closes(cell) if cell == p.source => return Ok(Some(bound)),
+            Event::Closes(cell) if cell == p.source => return Ok(Some(bound + 2 * p.skew as u64)),
             Event::Closes(cell) => {
                 events.reach(cell, p.register.c, fresh);
                 continue;

@@ -19,6 +19,7 @@ fn strip(period: u32) -> Problem {
         horizontal: wire,
         vertical: wire,
         period,
+        skew: 0,
         limit: 63,
         source: 0,
         sink: 2,
@@ -51,6 +52,55 @@ fn step(setup: u32, period: u32) -> Problem {
     let register = Register { setup, ..Register::default() };
     let horizontal = Wire { r: 1, c: 1 };
     Problem { width: 2, height: 1, marks: vec![0, 0], register, horizontal, limit: 1, period, sink: 1, ..strip(1) }
+}
+
+// The same, and the step takes no time either.
+fn still(period: u32) -> Problem {
+    Problem { horizontal: Wire { r: 0, c: 1 }, ..step(0, period) }
+}
+
+fn skewed(skew: u32, p: Problem) -> Problem {
+    Problem { skew, ..p }
+}
+
+// Spans of 24 half-ticks, or of 52 with no tap; the period told is longer by the skew.
+fn with_skew() -> Vec<(&'static str, Problem, &'static str)> {
+    let exists = "19 zeroed 768";
+    vec![
+        ("R1, skew 1", skewed(1, strip(26)), exists),
+        ("R3, skew 1", skewed(1, strip(12)), "0 period 13 zeroed 768"),
+        ("R4, skew 1", skewed(1, strip(11)), "0 period 13 zeroed 768"),
+        ("R3, skew T", skewed(12, strip(12)), "0 period 24 zeroed 768"),
+        ("R3, skew above T", skewed(13, strip(12)), "0 period 25 zeroed 768"),
+        ("skew 1,000 at T 1", skewed(1_000, strip(1)), "0 period 1012 zeroed 768"),
+        ("R11, skew 1", skewed(1, marked([0, 1, 0], strip(26))), "0 period 27 zeroed 768"),
+        ("skew 14 and no more", skewed(14, strip(26)), exists),
+        ("skew 15", skewed(15, strip(26)), "0 period 27 zeroed 768"),
+        ("skew 29,988", skewed(29_988, strip(26)), "0 period 30000 zeroed 768"),
+        ("skew 29,988 at T 29,999", skewed(29_988, strip(29_999)), "0 period 30000 zeroed 768"),
+        ("skew 29,988 at T 30,000", skewed(29_988, strip(30_000)), exists),
+        ("skew 29,989", skewed(29_989, strip(26)), "0 short zeroed 768"),
+        ("skew 29,989 at T 30,000", skewed(29_989, strip(30_000)), "0 short zeroed 768"),
+        ("skew 30,000", skewed(30_000, strip(26)), "0 short zeroed 768"),
+        ("skew and setup", skewed(29_900, setup(89, strip(26))), "0 period 30000 zeroed 768"),
+        ("skew and setup, a tick more", skewed(29_900, setup(90, strip(26))), "0 short zeroed 768"),
+        ("skew 30,000, the load limit too low", skewed(30_000, limited(3)), "0 load zeroed 768"),
+        ("skew 30,000, a wire cut", skewed(30_000, marked([4, 2, 0], strip(26))), "0 walled zeroed 768"),
+        ("skew above T, the load limit too low", skewed(27, limited(3)), "0 load zeroed 768"),
+        ("skew above T, a wire cut", skewed(27, marked([4, 2, 0], strip(26))), "0 walled zeroed 768"),
+        ("one half-tick, skew 1 at T 1", skewed(1, step(0, 1)), "0 period 2 zeroed 512"),
+        ("one half-tick, skew 1 at T 2", skewed(1, step(0, 2)), "19 zeroed 512"),
+        ("one half-tick, skew 29,999", skewed(29_999, step(0, 1)), "0 period 30000 zeroed 512"),
+        ("one half-tick, skew 30,000", skewed(30_000, step(0, 1)), "0 short zeroed 512"),
+        ("no delay, skew 7", skewed(7, still(1)), "0 period 7 zeroed 512"),
+        ("no delay, skew T", skewed(7, still(7)), "19 zeroed 512"),
+        ("no delay, skew 30,000", skewed(30_000, still(1)), "0 period 30000 zeroed 512"),
+        ("no delay, T and skew 30,000", skewed(30_000, still(30_000)), "19 zeroed 512"),
+        ("skew 30,001", skewed(30_001, strip(11)), "4 fault 2 zeroed 0"),
+        ("skew 65,535 and L 64", skewed(65_535, limited(64)), "4 fault 2 zeroed 0"),
+        ("T 0 and skew 30,001", skewed(30_001, strip(0)), "4 fault 1 zeroed 0"),
+        ("L 64", limited(64), "4 fault 3 zeroed 0"),
+    ]
 }
 
 pub fn cases() -> Vec<Case> {
@@ -93,9 +143,9 @@ pub fn cases() -> Vec<Case> {
         ("a 4 in the last column", marked([0, 2, 4], strip(11)), "3 zeroed 0"),
         ("T 0", strip(0), "4 fault 1 zeroed 0"),
         ("T 30,001", strip(30_001), "4 fault 1 zeroed 0"),
-        ("setup 30,001", setup(30_001, strip(11)), "4 fault 5 zeroed 0"),
+        ("setup 30,001", setup(30_001, strip(11)), "4 fault 6 zeroed 0"),
         ("equal ends", Problem { source: 2, ..strip(11) }, "5 zeroed 0"),
         ("equal ends and T 0", Problem { source: 2, ..strip(0) }, "4 fault 1 zeroed 0"),
     ];
-    list.into_iter().map(|(name, problem, told)| Case { name, problem, told }).collect()
+    list.into_iter().chain(with_skew()).map(|(name, problem, told)| Case { name, problem, told }).collect()
 }

@@ -101,6 +101,19 @@ pub fn set_on(r: &mut Random, path: &[u32], plan: &[u8]) -> (u32, u32) {
     (cell, (there ^ r.pick(&[1, 2, 2, 4, 8])) & 255)
 }
 
+// None for a good share, small ones, and now and then one about the period, or the largest.
+fn skew(r: &mut Random, period: u32) -> u32 {
+    let near = (period + r.below(3) - 1).min(30_000);
+    let small = r.within(1, 4);
+    match r.below(20) {
+        0..10 => 0,
+        10..17 => small,
+        17 => r.below(period),
+        18 => near,
+        _ => r.pick(&[near, near, 30_000]),
+    }
+}
+
 // Small numbers; now and then numbers of the whole range.
 pub fn tables(r: &mut Random) -> Tables {
     let wide = r.chance(6);
@@ -109,11 +122,12 @@ pub fn tables(r: &mut Random) -> Tables {
     let wires = [n(r, 3, 255), n(r, 3, 15), n(r, 3, 255), n(r, 3, 15)];
     let tight = r.within(4, 20);
     let period = if wide { r.within(1, 30_000) } else { r.pick(&[tight, tight, tight, 26, 40, 60]) };
+    let skew = skew(r, period);
     let limit = if r.chance(60) { 63 } else { r.within(3, 20) };
-    let mut numbers = [0; 10];
+    let mut numbers = [0; 11];
     numbers[..4].copy_from_slice(&register);
     numbers[4..8].copy_from_slice(&wires);
-    numbers[8..].copy_from_slice(&[period, limit]);
+    numbers[8..].copy_from_slice(&[period, skew, limit]);
     let count = r.pick(&[0, 0, 1, 1, 2, 3, 6]);
     let buffers = (0..count).map(|_| [n(r, 2, 255), n(r, 2, 1_000), n(r, 2, 63)]).collect();
     Tables { numbers, buffers }
@@ -121,13 +135,17 @@ pub fn tables(r: &mut Random) -> Tables {
 
 // One number outside its range, or two.
 pub fn spoilt(r: &mut Random, good: &Tables) -> Tables {
-    const MOST: [u32; 10] = [255, 1_000, 63, 30_000, 255, 63, 255, 63, 30_000, 63];
+    const MOST: [u32; 11] = [255, 1_000, 63, 30_000, 255, 63, 255, 63, 30_000, 30_000, 63];
     let mut t = good.clone();
     for _ in 0..r.pick(&[1, 1, 1, 2]) {
         let more = r.pick(&[1, 1, 2, 256, 1_000]);
         if r.chance(50) {
-            let at = r.below(10) as usize;
-            t.numbers[at] = if at == 8 && r.chance(50) { 0 } else { MOST[at] + more };
+            let at = r.below(11) as usize;
+            t.numbers[at] = match at {
+                8 if r.chance(50) => 0,
+                9 if r.chance(30) => 65_535,
+                _ => MOST[at] + more,
+            };
         } else {
             if r.chance(60) {
                 t.buffers.resize(r.pick(&[6, 6, 6, 7, 7, 8, 20]), [1, 1, 1]);
@@ -239,7 +257,7 @@ const NO_NUMBER: &str = "a number is missing";
 const TOO_LARGE: &str = "a number is too large";
 
 // Commands that are wrong at their last word, and what is said of them.
-pub const BAD: [(&str, &str); 36] = [
+pub const BAD: [(&str, &str); 38] = [
     ("jump", NO_COMMAND),
     ("Move", NO_COMMAND),
     ("moves", NO_COMMAND),
@@ -260,6 +278,8 @@ pub const BAD: [(&str, &str); 36] = [
     ("buffers 1 2 3 show", NO_NUMBER),
     ("buffers 7 1 1 1 1 1 1 1 1 1 1 1 1 1 1 1 1 1 1 1 1 show", NO_NUMBER),
     ("tables 1 1 1 1 1 1 1 1 1 show", NO_NUMBER),
+    ("tables 1 1 1 1 1 1 1 1 1 1 show", NO_NUMBER),
+    ("tables 1 1 1 1 1 1 1 1 1 65536", TOO_LARGE),
     ("scratch 524289", TOO_LARGE),
     ("scratch 1000000", TOO_LARGE),
     ("scratch show", NO_NUMBER),

@@ -43,9 +43,12 @@ const APART: [(&str, &str); 4] = [("depth", "full"), ("depth", "empty"), ("depth
 
 const SLACKS: [&str; 4] = ["spare 0", "spare 1", "spare 2 to 9", "spare 10 and more"];
 
-const FAULTS: [&str; 12] = ["1", "2", "3", "4", "5", "6", "7 1", "7 2", "7 3", "7 4", "7 5", "7 6"];
+const FAULTS: [&str; 13] = ["1", "2", "3", "4", "5", "6", "7", "8 1", "8 2", "8 3", "8 4", "8 5", "8 6"];
 
-const KINDS: [(&str, &[&str]); 22] = [
+// The skew of a question that is not refused.
+const SKEWS: [&str; 4] = ["0", "below T", "T", "above T"];
+
+const KINDS: [(&str, &[&str]); 29] = [
     (
         "move",
         &[
@@ -95,7 +98,17 @@ const KINDS: [(&str, &[&str]); 22] = [
     ),
     ("crossing 0:", &SLACKS),
     ("crossing 8:", &SHORT),
-    ("crossing 4: fault", &["1", "2", "3", "4", "5", "6", "7", "8", "9 1", "9 2", "9 3", "9 4", "9 5", "9 6"]),
+    (
+        "crossing 4: fault",
+        &["1", "2", "3", "4", "5", "6", "7", "8", "9", "10 1", "10 2", "10 3", "10 4", "10 5", "10 6"],
+    ),
+    ("route 0: skew", SKEWS.split_at(2).0),
+    ("route 7: skew", &SKEWS),
+    ("reason 0: skew", &SKEWS),
+    ("reason 0: period at skew", &SKEWS),
+    ("reason 19: skew", SKEWS.split_at(2).0),
+    ("crossing 0: skew", SKEWS.split_at(2).0),
+    ("crossing 7: skew", &SKEWS),
     ("route asked again,", &ASKED),
     ("reason asked again,", &ASKED),
     ("crossing asked again,", &ASKED),
@@ -126,6 +139,15 @@ const PLACES: [&str; 4] =
 
 fn slack_name(slack: u64) -> &'static str {
     SLACKS[[1, 2, 10].iter().filter(|&&from| from <= slack).count()]
+}
+
+fn skew_name(skew: u32, period: u32) -> &'static str {
+    SKEWS[match skew {
+        0 => 0,
+        _ if skew < period => 1,
+        _ if skew == period => 2,
+        _ => 3,
+    }]
 }
 
 fn pairs() -> Vec<String> {
@@ -272,9 +294,16 @@ impl Mix {
         };
         self.add("reason 0");
         self.add(&format!("reason 0: {told}"));
+        let period = matches!(answer, Explained::Because(Reason::Period(_)));
+        self.add_if(period, &format!("reason 0: period at skew {}", skew_name(p.skew, p.period)));
         self.add_if(seen.none_below && seen.route.is_some(), "reason seen from both sides");
         self.add_if(seen.none_longest, "reason where no route is at 30,000");
         self.add_if((p.width, p.height) != (record.width, record.height), "reason on sides not the session's");
+    }
+
+    // A question's skew by its number; between two clocks it is held against the lesser period.
+    pub fn skew(&mut self, call: &str, number: u32, skew: u32, period: u32) {
+        self.add(&format!("{call} {number}: skew {}", skew_name(skew, period)));
     }
 
     // A question with its number; `each` scratch words are needed for a cell, so many are lent.

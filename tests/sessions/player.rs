@@ -172,6 +172,7 @@ impl Player {
         self.zeroed = answer.zeroed(q);
         self.fill(&answer.filled());
         mix.words("route", q, question::EACH, self.lent, answer.number());
+        mix.skew("route", answer.number(), self.tables.numbers[9], self.tables.numbers[8]);
         let text = answer.text(&self.tables, q);
         Ok(self.told("route", q, answer.number(), text, mix))
     }
@@ -204,6 +205,7 @@ impl Player {
         self.zeroed = answer.zeroed(&p);
         self.explained = true;
         mix.words("reason", q, question::EACH, self.lent, answer.number());
+        mix.skew("reason", answer.number(), p.skew, p.period);
         Ok(self.told("reason", q, answer.number(), answer.text(&p), mix))
     }
 
@@ -220,6 +222,7 @@ impl Player {
         self.fill(&answer.filled());
         self.crossed = true;
         mix.words("crossing", q, EACH, self.lent, answer.number());
+        mix.skew("crossing", answer.number(), net.problem.skew, net.problem.period.min(net.source_period));
         Ok(self.told("crossing", q, answer.number(), answer.text(&net), mix))
     }
 

@@ -15,7 +15,7 @@ pub const EACH: u32 = 256; // scratch words that a route needs for a cell
 
 #[derive(Clone, Debug, Default)]
 pub struct Tables {
-    pub numbers: [u32; 10], // register R K C setup, horizontal R C, vertical R C, T, L
+    pub numbers: [u32; 11], // register R K C setup, horizontal R C, vertical R C, T, skew, L
     pub buffers: Vec<[u32; 3]>,
 }
 
@@ -62,7 +62,8 @@ pub fn problem(plan: &[u8], t: &Tables, q: &Question) -> Problem {
         horizontal: Wire { r: n[4], c: n[5] },
         vertical: Wire { r: n[6], c: n[7] },
         period: n[8],
-        limit: n[9],
+        skew: n[9],
+        limit: n[10],
         source: q.source,
         sink: q.sink,
         buffers: t.buffers.iter().map(|b| Buffer { r: b[0], k: b[1], c: b[2] }).collect(),
@@ -73,7 +74,7 @@ impl From<&Problem> for Tables {
     fn from(p: &Problem) -> Tables {
         let (g, h, v) = (p.register, p.horizontal, p.vertical);
         Tables {
-            numbers: [g.r, g.k, g.c, g.setup, h.r, h.c, v.r, v.c, p.period, p.limit],
+            numbers: [g.r, g.k, g.c, g.setup, h.r, h.c, v.r, v.c, p.period, p.skew, p.limit],
             buffers: p.buffers.iter().map(|b| [b.r, b.k, b.c]).collect(),
         }
     }
@@ -140,16 +141,17 @@ pub fn needed_period(plan: &[u8], t: &Tables, q: &Question) -> Option<u32> {
     Some(t.numbers[8] - best.slack as u32 / 2)
 }
 
-// The fault's place in document 01's order, and a buffer's place.
+// The fault's place in document 01's order, the skew after T, and a buffer's place.
 pub fn place(fault: rules::Fault) -> String {
     match fault {
         rules::Fault::Period => "1".to_string(),
-        rules::Fault::Limit => "2".to_string(),
-        rules::Fault::Horizontal => "3".to_string(),
-        rules::Fault::Vertical => "4".to_string(),
-        rules::Fault::Register => "5".to_string(),
-        rules::Fault::Count => "6".to_string(),
-        rules::Fault::Buffer(place) => format!("7 {place}"),
+        rules::Fault::Skew => "2".to_string(),
+        rules::Fault::Limit => "3".to_string(),
+        rules::Fault::Horizontal => "4".to_string(),
+        rules::Fault::Vertical => "5".to_string(),
+        rules::Fault::Register => "6".to_string(),
+        rules::Fault::Count => "7".to_string(),
+        rules::Fault::Buffer(place) => format!("8 {place}"),
     }
 }
 

@@ -25,15 +25,15 @@ fn journal(entries: &[[u8; 4]]) -> String {
 // Words that no call has touched.
 const UNTOUCHED: &str = "scratch 65535 * 524288\nvisits 65535 * 2048\n";
 
-const STRIP: &str = "plan 3 0 2 0 tables 1 2 1 1 2 3 2 3 25 63 open 3 1 ";
+const STRIP: &str = "plan 3 0 2 0 tables 1 2 1 1 2 3 2 3 25 0 63 open 3 1 ";
 
 // R1 to R13, as far as moves lead from one to the other.
 fn routes() -> Case {
     let script = STRIP.to_string()
         + "route 3 1 0 2 6 route 3 1 0 2 5 move 1 1 route 3 1 0 2 6 undo route 3 1 0 2 6 "
-        + "tables 1 2 1 1 2 3 2 3 26 63 route 3 1 0 2 6 tables 1 2 1 1 2 3 2 3 11 63 route 3 1 0 2 6 "
-        + "buffers 1 1 1 1 tables 1 2 1 1 2 3 2 3 22 63 route 3 1 0 2 6 move 1 3 route 3 1 0 2 6 "
-        + "buffers 0 plan 6 0 1 0 0 2 0 tables 1 2 1 1 2 3 0 0 12 63 open 3 2 "
+        + "tables 1 2 1 1 2 3 2 3 26 0 63 route 3 1 0 2 6 tables 1 2 1 1 2 3 2 3 11 0 63 route 3 1 0 2 6 "
+        + "buffers 1 1 1 1 tables 1 2 1 1 2 3 2 3 22 0 63 route 3 1 0 2 6 move 1 3 route 3 1 0 2 6 "
+        + "buffers 0 plan 6 0 1 0 0 2 0 tables 1 2 1 1 2 3 0 0 12 0 63 open 3 2 "
         + "route 3 2 0 2 10 move 4 0 route 3 2 0 2 10";
     let lines = "open 0 depth 0\n\
         route 0 depth 0 figures 1 2 50 26 visits 2 7 1 7 0 7 zeroed 768\n\
@@ -58,8 +58,8 @@ fn routes() -> Case {
 fn reasons() -> Case {
     let script = STRIP.to_string()
         + "reason 3 1 0 2 move 1 1 reason 3 1 0 2 move 1 5 reason 3 1 0 2 undo reason 3 1 0 2 undo reason 3 1 0 2 "
-        + "tables 1 2 1 1 2 3 2 3 11 63 reason 3 1 0 2 tables 1 2 1 1 2 3 2 3 26 3 reason 3 1 0 2 "
-        + "move 0 4 reason 3 1 0 2 undo tables 1 2 1 29989 2 3 2 3 11 63 reason 3 1 0 2 tables 1 2 1 29990 2 3 2 3 11 63 reason 3 1 0 2 undo";
+        + "tables 1 2 1 1 2 3 2 3 11 0 63 reason 3 1 0 2 tables 1 2 1 1 2 3 2 3 26 0 3 reason 3 1 0 2 "
+        + "move 0 4 reason 3 1 0 2 undo tables 1 2 1 29989 2 3 2 3 11 0 63 reason 3 1 0 2 tables 1 2 1 29990 2 3 2 3 11 0 63 reason 3 1 0 2 undo";
     let lines = "open 0 depth 0\n\
         reason 19 depth 0 zeroed 768\n\
         move 0 depth 1\n\
@@ -81,9 +81,66 @@ fn reasons() -> Case {
     case("reasons, by moves", &script, lines)
 }
 
+// The strip's tables with this T, skew and L; all three questions of it.
+fn asked(period: u32, skew: u32, limit: u32) -> String {
+    format!("tables 1 2 1 1 2 3 2 3 {period} {skew} {limit} route 3 1 0 2 6 reason 3 1 0 2 crossing 3 1 0 2 6 ")
+}
+
+// Spans of 24 half-ticks, or of 52 without a tap, and twice the skew. The source's period is 13.
+fn skews() -> Case {
+    let tables = [
+        (26, 1, 63),
+        (13, 1, 63),
+        (12, 1, 63),
+        (12, 13, 63),
+        (12, 29_988, 63),
+        (12, 29_989, 63),
+        (12, 30_000, 3),
+        (26, 30_001, 64),
+        (0, 65_535, 63),
+    ];
+    let script = STRIP.to_string()
+        + "clocks 13 1 2 1 1 "
+        + &tables.map(|(period, skew, limit)| asked(period, skew, limit)).concat()
+        + "move 1 1 "
+        + &asked(26, 1, 63)
+        + "move 1 5 "
+        + &asked(26, 30_000, 63);
+    let none = "figures 0 0 0 0 visits zeroed 768\n";
+    let none_crossed = "figures 0 0 0 0 0 visits zeroed 1536\n";
+    let without = |depth: u32, told: &str| {
+        let head = format!("route 7 depth {depth} {none}reason 0 depth {depth} {told} zeroed 768\n");
+        format!("{head}crossing 7 depth {depth} {none_crossed}")
+    };
+    let refused = |route: &str, crossing: &str| {
+        let head = format!("route 4 depth 0 fault {route} figures 0 0 0 0 visits zeroed 0\n");
+        let reason = format!("reason 4 depth 0 fault {route} zeroed 0\n");
+        format!("{head}{reason}crossing 4 depth 0 fault {crossing} figures 0 0 0 0 0 visits zeroed 0\n")
+    };
+    let lines = [
+        "open 0 depth 0\n".to_string(),
+        "route 0 depth 0 figures 1 2 52 26 visits 2 7 1 7 0 7 zeroed 768\nreason 19 depth 0 zeroed 768\n".to_string(),
+        "crossing 0 depth 0 figures 0 0 2 39 0 visits 2 7 1 8 0 7 zeroed 1536\n".to_string(),
+        "route 0 depth 0 figures 1 2 26 0 visits 2 7 1 7 0 7 zeroed 768\nreason 19 depth 0 zeroed 768\n".to_string(),
+        "crossing 0 depth 0 figures 0 0 2 26 0 visits 2 7 1 8 0 7 zeroed 1536\n".to_string(),
+        without(0, "period 13"),
+        without(0, "period 25"),
+        without(0, "period 30000"),
+        without(0, "short"),
+        without(0, "load"),
+        refused("2", "3"),
+        refused("1", "2"),
+        "move 0 depth 1\n".to_string(),
+        without(1, "period 27"),
+        "move 0 depth 2\n".to_string(),
+        without(2, "walled"),
+    ];
+    case("skews, by moves", &script, &lines.concat())
+}
+
 // The strip of five, and what moves make of it: the tables' period is the sink's. Before `clocks` the source's is 0.
 fn crossings() -> Case {
-    let script = "plan 5 0 2 2 2 0 tables 1 2 1 1 2 3 2 3 26 63 open 5 1 crossing 5 1 0 4 10 ".to_string()
+    let script = "plan 5 0 2 2 2 0 tables 1 2 1 1 2 3 2 3 26 0 63 open 5 1 crossing 5 1 0 4 10 ".to_string()
         + "clocks 12 1 2 1 1 crossing 5 1 0 4 10 crossing 5 1 0 4 9 move 2 0 crossing 5 1 0 4 10 move 1 0 "
         + "crossing 5 1 0 4 10 undo undo crossing 5 1 0 4 10 crossing 5 1 4 0 10 move 1 0 crossing 5 1 4 0 10 "
         + "clocks 12 256 2 1 1 crossing 5 1 0 4 10 route 5 1 0 4 10";
@@ -101,7 +158,7 @@ fn crossings() -> Case {
         crossing 0 depth 0 figures 1 0 4 50 0 visits 0 7 1 0 2 8 3 7 4 7 zeroed 2560\n\
         move 0 depth 1\n\
         crossing 0 depth 1 figures 1 0 4 50 0 visits 0 7 1 0 2 8 3 7 4 7 zeroed 2560\n\
-        crossing 4 depth 1 fault 7 figures 0 0 0 0 0 visits zeroed 0\n\
+        crossing 4 depth 1 fault 8 figures 0 0 0 0 0 visits zeroed 0\n\
         route 0 depth 1 figures 1 4 52 0 visits 4 7 3 0 2 7 1 0 0 7 zeroed 1280\n";
     case("a route between two clocks, by moves", &script, lines)
 }
@@ -159,7 +216,7 @@ fn words() -> Case {
     let script = STRIP.to_string()
         + "scratch 767 route 3 1 0 2 6 show scratch 768 route 3 1 0 2 6 show scratch 800 route 3 1 0 2 5 show "
         + "scratch 0 route 3 1 2 2 6 show scratch 768 route 3 1 0 2 6 scratch 767 reason 3 1 0 2 show "
-        + "scratch 768 reason 3 1 0 2 show tables 1 2 1 1 2 3 2 3 11 63 scratch 769 reason 3 1 0 2 show";
+        + "scratch 768 reason 3 1 0 2 show tables 1 2 1 1 2 3 2 3 11 0 63 scratch 769 reason 3 1 0 2 show";
     let plan = format!("plan 0 2 0\n{}", journal(&[]));
     let zeroed = "scratch 0 * 768 65535 * 523520\n";
     let lines = format!(
@@ -185,9 +242,9 @@ fn buffers() -> Case {
         + "buffers 6 256 1 1 1 1 1 1 1 1 1 1 1 1 1 1 1 1 64 route 3 1 0 2 6 "
         + "buffers 6 255 1 1 1 1 1 1 1 1 1 1 1 1 1 1 1 1 64 route 3 1 0 2 6 # the end";
     let lines = "open 0 depth 0\n\
-        route 4 depth 0 fault 6 figures 0 0 0 0 visits zeroed 0\n\
-        route 4 depth 0 fault 7 1 figures 0 0 0 0 visits zeroed 0\n\
-        route 4 depth 0 fault 7 6 figures 0 0 0 0 visits zeroed 0\n";
+        route 4 depth 0 fault 7 figures 0 0 0 0 visits zeroed 0\n\
+        route 4 depth 0 fault 8 1 figures 0 0 0 0 visits zeroed 0\n\
+        route 4 depth 0 fault 8 6 figures 0 0 0 0 visits zeroed 0\n";
     case("seven buffers, comments", &script, lines)
 }
 
@@ -207,6 +264,7 @@ pub fn cases() -> Vec<Case> {
     vec![
         routes(),
         reasons(),
+        skews(),
         crossings(),
         crossing_words(),
         full(),

@@ -1,4 +1,5 @@
-// The bytes of a job: groups of seven bits, lowest first (document 01, "The job and its printed sheet").
+// The bytes of a job: groups of seven bits, lowest first (document 01, "The job and its printed sheet"; document 02, C-16:
+// the skew after the period).
 
 use crate::job::{Job, BUFFER, LARGEST, REGISTER, WIRE};
 use crate::words::counted;
@@ -7,7 +8,7 @@ pub fn encode(job: &Job) -> Vec<u8> {
     let mut numbers = vec![job.width, job.height];
     numbers.extend(&job.marks);
     numbers.extend(job.register.iter().chain(&job.horizontal).chain(&job.vertical));
-    numbers.extend([job.period, job.limit, job.source, job.sink, job.buffers.len() as u32]);
+    numbers.extend([job.period, job.skew, job.limit, job.source, job.sink, job.buffers.len() as u32]);
     numbers.extend(job.buffers.iter().flatten());
     let mut bytes = Vec::new();
     for mut n in numbers {
@@ -64,6 +65,7 @@ pub fn decode(bytes: &[u8]) -> Result<Job, String> {
     job.horizontal = from.numbers("horizontal", &WIRE)?;
     job.vertical = from.numbers("vertical", &WIRE)?;
     job.period = from.number("the period")?;
+    job.skew = from.number("the skew")?;
     job.limit = from.number("the load limit")?;
     job.source = from.number("the source")?;
     job.sink = from.number("the sink")?;

@@ -71,7 +71,11 @@ fn period(job: &Job, visits: &[Visit], slack: i64) -> Option<String> {
     }
     let or_more = if slack == LOWEST { " or more" } else { "" };
     let (miss, period) = (counted(-slack as usize, "half-tick"), counted(job.period as usize, "tick"));
-    Some(format!("the span that closes here is {miss}{or_more} too long for the period, {period}"))
+    let skew = match job.skew {
+        0 => String::new(),
+        skew => format!(", less the skew, {}", counted(skew as usize, "tick")),
+    };
+    Some(format!("the span that closes here is {miss}{or_more} too long for the period, {period}{skew}"))
 }
 
 // Why the visit at this place is at fault; None where neither plan nor sheet shows such a fault. Loads are the planner's

@@ -20,7 +20,7 @@ enum Reply {
 // The place of the element at fault; the last is followed by the buffer's own.
 fn fault_place(words: &[&str]) -> Option<usize> {
     match words {
-        ["fault", "9", buffer] => number::<u32>(buffer).map(|_| 9),
+        ["fault", "10", buffer] => number::<u32>(buffer).map(|_| 10),
         ["fault", place] => number(place),
         _ => None,
     }

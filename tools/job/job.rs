@@ -1,4 +1,4 @@
-// A job's numbers under their names, and the ranges that document 01 gives them. A plan text may give two clocks, which
+// A job's numbers under their names, and the ranges that documents 01 and 02 give them. A plan text may give two clocks, which
 // no job has.
 
 pub const LARGEST: u32 = 65_535; // of any number in a job
@@ -32,6 +32,7 @@ pub fn range(name: &str) -> (u32, u32) {
 }
 
 pub const PERIOD: (u32, u32) = (1, 30_000); // ticks
+pub const SKEW: (u32, u32) = (0, 30_000); // ticks
 pub const LIMIT: (u32, u32) = (0, 63);
 
 // What a net between two clocks has besides.
@@ -50,6 +51,7 @@ pub struct Job {
     pub horizontal: Vec<u32>, // as WIRE
     pub vertical: Vec<u32>,
     pub period: u32, // with two clocks the sink's
+    pub skew: u32,
     pub limit: u32,
     pub source: u32,
     pub sink: u32,

@@ -4,7 +4,7 @@ use crate::files::{failure, Failure, REFUSED};
 use crate::job::{
     range, Job, BUFFER, BUFFERS, CUT_BELOW, CUT_RIGHT, LIMIT, MARKS, PERIOD, PROGRAM_CELLS, PROGRAM_VISITS,
 };
-use crate::job::{REGISTER, SIDE, WIRE};
+use crate::job::{REGISTER, SIDE, SKEW, WIRE};
 use crate::text::Lines;
 
 // The line, where one shows it, and the words.
@@ -55,7 +55,7 @@ fn count(job: &Job, lines: &Lines) -> Option<Reason> {
     })
 }
 
-// What is outside its range, in the order of the calls: T, L, horizontal, vertical, register, buffer count, a buffer.
+// What is outside its range, in the order of the calls: T, skew, L, horizontal, vertical, register, buffer count, a buffer.
 // With two clocks the source's period and the sink's are in T's place, and the FIFO is after the register.
 fn elements(job: &Job, lines: &Lines) -> Vec<Option<Reason>> {
     let each = |what: &str, names: &[&str], values: &[u32]| {
@@ -74,6 +74,7 @@ fn elements(job: &Job, lines: &Lines) -> Vec<Option<Reason>> {
         ],
     };
     all.extend([
+        at("skew", outside("skew", job.skew, SKEW)),
         at("limit", outside("limit", job.limit, LIMIT)),
         at("horizontal", each("horizontal", &WIRE, &job.horizontal)),
         at("vertical", each("vertical", &WIRE, &job.vertical)),

@@ -23,7 +23,8 @@ fn counted(numbers: Vec<u32>, each: usize) -> impl Iterator<Item = u32> {
 // The plan, the tables and what two clocks have besides, then the command that asks about them.
 fn asking(job: &Job, name: &str, more: impl Iterator<Item = u32>) -> String {
     let marks = job.marks.iter().take(PLAN).map(|&marks| marks.min(MARK)).collect();
-    let tables = job.register.iter().chain(&job.horizontal).chain(&job.vertical).chain([&job.period, &job.limit]);
+    let clock = [&job.period, &job.skew, &job.limit];
+    let tables = job.register.iter().chain(&job.horizontal).chain(&job.vertical).chain(clock);
     let buffers = job.buffers.iter().take(BUFFERS).flatten().copied().collect();
     let clocks = job.clocks.iter().map(|c| command("clocks", [c.source_period].iter().chain(&c.fifo).copied()));
     let asked = [job.width, job.height, job.source, job.sink];

@@ -29,7 +29,11 @@ pub fn text(job: &Job) -> String {
     out += &named_line("register", &REGISTER, &job.register);
     out += &named_line("horizontal", &WIRE, &job.horizontal);
     out += &named_line("vertical", &WIRE, &job.vertical);
-    out += &format!("period {}\nlimit {}\n", job.period, job.limit);
+    out += &format!("period {}\n", job.period);
+    if job.skew > 0 {
+        out += &format!("skew {}\n", job.skew);
+    }
+    out += &format!("limit {}\n", job.limit);
     out += &end_line("source", job.source, job);
     out += &end_line("sink", job.sink, job);
     for b in &job.buffers {

@@ -1,4 +1,5 @@
-// The spans of a list of visits, by document 01's arithmetic, apart from the proved code. Delays are in half-ticks.
+// The spans of a list of visits, by the arithmetic of documents 01 and 02, apart from the proved code. Delays are in
+// half-ticks.
 
 use crate::answer::{joined, wire, Visit};
 use crate::job::{Job, CODE_FIFO};
@@ -11,7 +12,7 @@ pub struct Span {
     pub fifos: usize, // passed before its close: with two clocks 0 on the sink's side, 1 on the source's
     pub period: u32,  // T of its side
     pub delay: i64,   // at its close
-    pub slack: i64,   // 2T less that, or LOWEST
+    pub slack: i64,   // 2T less that and twice the skew, or LOWEST
 }
 
 // Load and delay since the end of a span.
@@ -55,7 +56,7 @@ pub fn closed(job: &Job, visits: &[Visit]) -> Result<Vec<Span>, String> {
         }
         if let Some(gate) = job.closing(code) {
             let (period, delay) = (job.period_after(fifos), stage.driven(gate));
-            let slack = (2 * period as i64 - delay).max(LOWEST);
+            let slack = (2 * period as i64 - 2 * job.skew as i64 - delay).max(LOWEST);
             spans.push(Span { to, from, fifos, period, delay, slack });
             (to, stage) = (from, Stage::start(gate));
             fifos += (code == CODE_FIFO) as usize;

@@ -10,8 +10,17 @@ fn counts(visits: &[Visit], span: &Span) -> (usize, usize) {
     (span.from - span.to, between.iter().filter(|visit| visit.code != 0).count())
 }
 
+// What is taken off 2T, if anything.
+fn skew(job: &Job) -> String {
+    match job.skew {
+        0 => String::new(),
+        skew => format!(", twice the skew {}", 2 * skew),
+    }
+}
+
 fn one_clock(job: &Job, visits: &[Visit], spans: &[Span]) -> String {
-    let mut out = format!("# from   to  steps  gates  delay  spare  (half-ticks; 2T = {})\n", 2 * job.period);
+    let allowed = format!("2T = {}{}", 2 * job.period, skew(job));
+    let mut out = format!("# from   to  steps  gates  delay  spare  (half-ticks; {allowed})\n");
     for span in spans {
         let (driver, end) = (visits[span.from].cell, visits[span.to].cell);
         let (steps, gates) = counts(visits, span);
@@ -22,7 +31,7 @@ fn one_clock(job: &Job, visits: &[Visit], spans: &[Span]) -> String {
 
 // Each end with its gate code, and each span with its own 2T.
 fn two_clocks(job: &Job, clocks: &Clocks, visits: &[Visit], spans: &[Span]) -> String {
-    let both = format!("2T = {} source, {} sink", 2 * clocks.source_period, 2 * job.period);
+    let both = format!("2T = {} source, {} sink{}", 2 * clocks.source_period, 2 * job.period, skew(job));
     let mut out = format!("# from code   to code  steps  gates     2T  delay  spare  (half-ticks; {both})\n");
     for span in spans {
         let (driver, end) = (visits[span.from], visits[span.to]);

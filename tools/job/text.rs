@@ -34,8 +34,9 @@ impl Lines {
     }
 }
 
-// Given at most once. A text has `period`, or `clocks` and `fifo`, and all the others.
-const ONCE: [&str; 9] = ["register", "horizontal", "vertical", "period", "clocks", "fifo", "limit", "source", "sink"];
+// Given at most once. A text has `period`, or `clocks` and `fifo`, it may have `skew`, and has all the others.
+const ONCE: [&str; 10] =
+    ["register", "horizontal", "vertical", "period", "clocks", "fifo", "skew", "limit", "source", "sink"];
 
 const HASH: &str = "'#' starts a comment; a blocked cell is drawn x";
 
@@ -105,6 +106,7 @@ impl Parts {
                 _ => return Err("the form is: clocks SOURCE-PERIOD SINK-PERIOD".to_string()),
             },
             "fifo" => self.clocks().fifo = named(words, &REGISTER)?,
+            "skew" => self.job.skew = one_number(words)?,
             "limit" => self.job.limit = one_number(words)?,
             "source" => self.source = Some(end(words)?),
             "sink" => self.sink = Some(end(words)?),
@@ -149,7 +151,7 @@ impl Parts {
     fn misses(&self, name: &str) -> bool {
         let needed = match name {
             "period" => self.job.clocks.is_none(),
-            "clocks" | "fifo" => false,
+            "clocks" | "fifo" | "skew" => false,
             _ => true,
         };
         needed && !self.given(name)

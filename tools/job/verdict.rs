@@ -24,7 +24,7 @@ fn read(text: &str) -> Option<Verdict> {
         ["judge", "0", "depth", "0", "visit", at, ref fault @ ..] => {
             Some(Verdict::AtFault(number(at)?, causes::fault(fault)?))
         }
-        ["judge", "4", "depth", "0", "fault", place] | ["judge", "4", "depth", "0", "fault", place @ "7", _] => {
+        ["judge", "4", "depth", "0", "fault", place] | ["judge", "4", "depth", "0", "fault", place @ "8", _] => {
             Some(Verdict::Refused(4, number(place)?))
         }
         ["judge", refusal, "depth", "0"] => Some(Verdict::Refused(number(refusal)?, 0)),

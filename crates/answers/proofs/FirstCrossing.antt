@@ -19,7 +19,7 @@ use Rattle.answers.specs.Tables.{require, periodInRange, registerOk, ele
 use Rattle.answers.specs.Crossing.{crossingFault, clocksOf, refusedCrossing, crossingAnswer, checkedCrossing, checkedElements}
 use Rattle.answers.proofs.FirstFault.{FirstElement, first-element, element-is, require-passed, period-in, in-period, elements-valid, valid-elements, valid-period}
 
--- the first fault: the source's period, the sink's, then L and what follows it
+-- the first fault: the source's period, the sink's, then the skew and what follows it
 pub data FirstCrossing (t : Tables) (x : Crossing) (list : BufferList) : ElementFault → Type 0 where
   sourcePeriod : periodInRange (x .period) ≡ false → FirstCrossing t x list (At Fault.SourcePeriod)
   sinkPeriod : periodInRange (x .period) ≡ true → periodInRange (t .period) ≡ false → FirstCrossing t x list (At Fault.SinkPeriod)
@@ -88,7 +88,7 @@ module _ (t : Tables) (x : Crossing) (list : BufferList) where
     go Nothing = refl
     go (At f) = refl
 
-  -- with one clock: what was found from L on, without the clocks
+  -- with one clock: what was found from the skew on, without the clocks
   pub tables-elements : periodInRange (t .period) ≡ true → registerOk (x .fifo) ≡ true → _≡_ {A = TablesCheck} (record { fault = checkedElements t x list .fault; elements = checkedElements t x list .elements }) (checkedTables t list)
   unfolding checkedElements checkedTables tablesFault crossingAnswer refusedCrossing tablesAnswer refusedTables
   tables-elements p r = simp (p, r) (go (elementsFault true t list)) where

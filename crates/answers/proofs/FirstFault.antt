@@ -9,7 +9,7 @@ use lib.ListN.{getD}
 use native.Mathlib.Nat.{eq-or-lt-of-le}
 use native.Mathlib.Omega.{arith}
 use borrow.Author.Tests.{leb-true, le-leb, lt-ltb, ltb-true}
-use Rattle.timing.specs.Ranges.{periodMin, periodMax, loadMax, buffersMax}
+use Rattle.timing.specs.Ranges.{periodMin, periodMax, skewMax, loadMax, buffersMax}
 use Rattle.timing.specs.Elements.{BufferInRange, bufferOf, bufferInRange}
 use Rattle.timing.specs.Valid.{Valid}
 use Rattle.timing.proofs.Checked.{wire-in, in-wire, buffer-in, in-buffer, register-in, in-register}
@@ -29,9 +29,12 @@ pub data FirstBuffer (items : List BufferRecord) (i left : ℕ) : ElementFault �
   clean : ((k : ℕ) → i ≤ k → k < i + left → bufferOk (getD items k noBuffer) ≡ true) → FirstBuffer items i left Nothing
   bad : (k : ℕ) → i ≤ k → k < i + left → ((j : ℕ) → i ≤ j → j < k → bufferOk (getD items j noBuffer) ≡ true) → bufferOk (getD items k noBuffer) ≡ false → FirstBuffer items i left (At (Fault.Buffer (k + 1)))
 
--- the tests that pass before each place of the order from L on
+-- the tests that pass before each place of the order from the skew on
+abbrev pub UpToSkew : Tables → Type 0
+UpToSkew t = leb (t .skew) skewMax ≡ true
+
 abbrev pub UpToLimit : Tables → Type 0
-UpToLimit t = leb (t .limit) loadMax ≡ true
+UpToLimit t = UpToSkew t × (leb (t .limit) loadMax ≡ true)
 
 abbrev pub UpToHorizontal : Tables → Type 0
 UpToHorizontal t = UpToLimit t × (wireOk (t .horizontal) ≡ true)
@@ -48,9 +51,10 @@ UpToFifo fifoOk t = UpToRegister t × (fifoOk ≡ true)
 abbrev pub UpToCount : Bool → Tables → BufferList → Type 0
 UpToCount fifoOk t list = UpToFifo fifoOk t × (leb (list .n) buffersMax ≡ true)
 
--- the first fault from L on, by cases in their order
+-- the first fault from the skew on, by cases in their order
 pub data FirstElement (fifoOk : Bool) (t : Tables) (list : BufferList) : ElementFault → Type 0 where
-  limit : leb (t .limit) loadMax ≡ false → FirstElement fifoOk t list (At Fault.Limit)
+  skew : leb (t .skew) skewMax ≡ false → FirstElement fifoOk t list (At Fault.Skew)
+  limit : UpToSkew t → leb (t .limit) loadMax ≡ false → FirstElement fifoOk t list (At Fault.Limit)
   horizontal : UpToLimit t → wireOk (t .horizontal) ≡ false → FirstElement fifoOk t list (At Fault.Horizontal)
   vertical : UpToHorizontal t → wireOk (t .vertical) ≡ false → FirstElement fifoOk t list (At Fault.Vertical)
   register : UpToVertical t → registerOk (t .register) ≡ false → FirstElement fifoOk t list (At Fault.Register)
@@ -58,7 +62,7 @@ pub data FirstElement (fifoOk : Bool) (t : Tables) (list : BufferList) : Element
   count : UpToFifo fifoOk t → leb (list .n) buffersMax ≡ false → FirstElement fifoOk t list (At Fault.Count)
   buffers : {f : ElementFault} → UpToCount fifoOk t list → FirstBuffer (list .items) 0 (list .n) f → FirstElement fifoOk t list f
 
--- the first fault with one clock: T, then L and what follows it
+-- the first fault with one clock: T, then the skew and what follows it
 pub data FirstFault (t : Tables) (list : BufferList) : ElementFault → Type 0 where
   period : periodInRange (t .period) ≡ false → FirstFault t list (At Fault.Period)
   elements : {f : ElementFault} → periodInRange (t .period) ≡ true → FirstElement true t list f → FirstFault t list f
@@ -88,28 +92,30 @@ buffer-is items i (suc left) (clean all) =
 buffer-is items i (suc left) (bad k g h all out) =
     ⊎-elim (λ (e : i ≡ k). rw (e, out)) (λ (l : i < k). simp (all i (omega arith) l) (buffer-is items (i + 1) left (bad k (omega arith) (omega arith) (λ j u v. all j (omega arith) v) out))) (eq-or-lt-of-le g)
 
--- The fault from L on is the first one, and the only one.
+-- The fault from the skew on is the first one, and the only one.
 pub first-element : (fifoOk : Bool) (t : Tables) (list : BufferList) → FirstElement fifoOk t list (elementsFault fifoOk t list)
 unfolding listFault buffersFault
-first-element fifoOk t list = go _ _ _ _ _ _ refl refl refl refl refl refl where
-  go : (l h v r x n : Bool) → leb (t .limit) loadMax ≡ l → wireOk (t .horizontal) ≡ h → wireOk (t .vertical) ≡ v → registerOk (t .register) ≡ r → fifoOk ≡ x → leb (list .n) buffersMax ≡ n → FirstElement fifoOk t list (require l Fault.Limit (require h Fault.Horizontal (require v Fault.Vertical (require r Fault.Register (require x Fault.Fifo (require n Fault.Count (bufferFault (list .items) 0 (list .n))))))))
-  go false h v r x n l' h' v' r' x' n' = limit l'
-  go true false v r x n l' h' v' r' x' n' = horizontal l' h'
-  go true true false r x n l' h' v' r' x' n' = vertical (l', h') v'
-  go true true true false x n l' h' v' r' x' n' = register ((l', h'), v') r'
-  go true true true true false n l' h' v' r' x' n' = fifo (((l', h'), v'), r') x'
-  go true true true true true false l' h' v' r' x' n' = count ((((l', h'), v'), r'), x') n'
-  go true true true true true true l' h' v' r' x' n' = buffers (((((l', h'), v'), r'), x'), n') (first-buffer (list .items) 0 (list .n))
+first-element fifoOk t list = go _ _ _ _ _ _ _ refl refl refl refl refl refl refl where
+  go : (k l h v r x n : Bool) → leb (t .skew) skewMax ≡ k → leb (t .limit) loadMax ≡ l → wireOk (t .horizontal) ≡ h → wireOk (t .vertical) ≡ v → registerOk (t .register) ≡ r → fifoOk ≡ x → leb (list .n) buffersMax ≡ n → FirstElement fifoOk t list (require k Fault.Skew (require l Fault.Limit (require h Fault.Horizontal (require v Fault.Vertical (require r Fault.Register (require x Fault.Fifo (require n Fault.Count (bufferFault (list .items) 0 (list .n)))))))))
+  go false l h v r x n k' l' h' v' r' x' n' = skew k'
+  go true false h v r x n k' l' h' v' r' x' n' = limit k' l'
+  go true true false v r x n k' l' h' v' r' x' n' = horizontal (k', l') h'
+  go true true true false r x n k' l' h' v' r' x' n' = vertical ((k', l'), h') v'
+  go true true true true false x n k' l' h' v' r' x' n' = register (((k', l'), h'), v') r'
+  go true true true true true false n k' l' h' v' r' x' n' = fifo ((((k', l'), h'), v'), r') x'
+  go true true true true true true false k' l' h' v' r' x' n' = count (((((k', l'), h'), v'), r'), x') n'
+  go true true true true true true true k' l' h' v' r' x' n' = buffers ((((((k', l'), h'), v'), r'), x'), n') (first-buffer (list .items) 0 (list .n))
 
 pub element-is : (fifoOk : Bool) (t : Tables) (list : BufferList) {f : ElementFault} → FirstElement fifoOk t list f → elementsFault fifoOk t list ≡ f
 unfolding listFault buffersFault
-element-is fifoOk t list (limit l) = simp l
-element-is fifoOk t list (horizontal l h) = simp (l, h)
-element-is fifoOk t list (vertical (l, h) v) = simp (l, h, v)
-element-is fifoOk t list (register ((l, h), v) r) = simp (l, h, v, r)
-element-is fifoOk t list (fifo (((l, h), v), r) x) = simp (l, h, v, r, x)
-element-is fifoOk t list (count ((((l, h), v), r), x) n) = simp (l, h, v, r, x, n)
-element-is fifoOk t list (buffers (((((l, h), v), r), x), n) f) = simp (l, h, v, r, x, n) (buffer-is (list .items) 0 (list .n) f)
+element-is fifoOk t list (skew k) = simp k
+element-is fifoOk t list (limit k l) = simp (k, l)
+element-is fifoOk t list (horizontal (k, l) h) = simp (k, l, h)
+element-is fifoOk t list (vertical ((k, l), h) v) = simp (k, l, h, v)
+element-is fifoOk t list (register (((k, l), h), v) r) = simp (k, l, h, v, r)
+element-is fifoOk t list (fifo ((((k, l), h), v), r) x) = simp (k, l, h, v, r, x)
+element-is fifoOk t list (count (((((k, l), h), v), r), x) n) = simp (k, l, h, v, r, x, n)
+element-is fifoOk t list (buffers ((((((k, l), h), v), r), x), n) f) = simp (k, l, h, v, r, x, n) (buffer-is (list .items) 0 (list .n) f)
 
 -- The answer is the first fault, and the only one.
 pub first-fault : (t : Tables) (list : BufferList) → FirstFault t list (tablesFault t list)
@@ -161,7 +167,7 @@ pub in-period : (p : ℕ) → periodMin ≤ p → p ≤ periodMax → periodInRa
 unfolding periodInRange
 in-period p l m = simp (le-leb _ _ l, le-leb _ _ m)
 
--- No fault from L on exactly where, with a period in range, the elements are valid and the FIFO is in range.
+-- No fault from the skew on exactly where, with a period in range, the elements are valid and the FIFO is in range.
 pub elements-valid : (fifoOk : Bool) (t : Tables) (list : BufferList) → periodInRange (t .period) ≡ true → elementsFault fifoOk t list ≡ Nothing → Valid (elementsOf t list) × (fifoOk ≡ true)
 unfolding elementsOf wireOk registerOk bufferOk wireFrom registerFrom bufferFrom
 elements-valid fifoOk t list p e =
@@ -170,7 +176,8 @@ elements-valid fifoOk t list p e =
       record {
         least = period-in _ p .0;
         most = period-in _ p .1;
-        limit = leb-true _ _ (a .0 .0 .0 .0 .0 .0);
+        skew = leb-true _ _ (a .0 .0 .0 .0 .0 .0 .0);
+        limit = leb-true _ _ (a .0 .0 .0 .0 .0 .0 .1);
         horizontal = wire-in _ _ (a .0 .0 .0 .0 .0 .1);
         vertical = wire-in _ _ (a .0 .0 .0 .0 .1);
         register = register-in _ _ _ _ (a .0 .0 .0 .1);
@@ -187,7 +194,7 @@ unfolding elementsOf wireOk registerOk bufferOk wireFrom registerFrom bufferFrom
 valid-elements fifoOk t list v x =
     element-is fifoOk t list
     (buffers
-    (((((le-leb _ _ (v .limit), in-wire _ _ (v .horizontal)), in-wire _ _ (v .vertical)), in-register _ _ _ _ (v .register)), x), le-leb _ _ (v .count))
+    ((((((le-leb _ _ (v .skew), le-leb _ _ (v .limit)), in-wire _ _ (v .horizontal)), in-wire _ _ (v .vertical)), in-register _ _ _ _ (v .register)), x), le-leb _ _ (v .count))
     (clean (λ k g h.
     in-buffer _ _ _ (rw (buffer-at list k (omega arith)) at (rw (six-at (listedBuffer list) k (omega (arith, v .count))) at (v .buffers k (omega (arith, v .count))))))))
 
@@ -210,8 +217,8 @@ valid-tables t list v = fault-is t list (elements (valid-period t list v) (rw (v
 
 -- the list's own fault, where the tests before it pass
 pub list-first : (fifoOk : Bool) (t : Tables) (list : BufferList) (f : ElementFault) → UpToFifo fifoOk t → listFault list ≡ f → FirstElement fifoOk t list f
-list-first fifoOk t list f ((((l, h), v), r), x) e =
-    let is : elementsFault fifoOk t list ≡ f = simp (l, h, v, r, x) e in
+list-first fifoOk t list f (((((k, l), h), v), r), x) e =
+    let is : elementsFault fifoOk t list ≡ f = simp (k, l, h, v, r, x) e in
     rw is at (first-element fifoOk t list)
 
 pub read-clean : (list : BufferList) → listFault list ≡ Nothing → checkedList list .buffers ≡ sixPlaces (listedBuffer list)

@@ -33,6 +33,6 @@ crossingAnswer (At f) e k = refusedCrossing f
 unfoldable pub checkedCrossing : Tables → Crossing → BufferList → CrossingCheck
 checkedCrossing t x list = crossingAnswer (crossingFault t x list) (elementsOf t list) (clocksOf x)
 
--- the same from L on
+-- the same from the skew on
 unfoldable pub checkedElements : Tables → Crossing → BufferList → CrossingCheck
 checkedElements t x list = crossingAnswer (elementsFault (registerOk (x .fifo)) t list) (elementsOf t list) (clocksOf x)

@@ -1,12 +1,12 @@
 -- Refusal 4 of document 01: a number outside its range, or over 6 buffers. It carries the first fault in this order:
--- T, L, horizontal wire, vertical wire, register, buffer count, the place of a buffer from 1.
+-- T, the skew (document 02, C-16), L, horizontal wire, vertical wire, register, buffer count, the place of a buffer from 1.
 -- A net between two clocks (document 02, C-15) has its two periods in T's place, and the FIFO after the register: Crossing.antt.
 use Prim.Native.Nat.{ℕ, zero, suc, _+_}
 use mathlib.Core.Bool.{Bool, true, _&&_, cond}
 use mathlib.Core.List.{List, [], _∷_}
 use lib.Dec.{leb, ltb}
 use lib.ListN.{getD}
-use Rattle.timing.specs.Ranges.{loadMax, periodMin, periodMax, buffersMax}
+use Rattle.timing.specs.Ranges.{loadMax, periodMin, periodMax, skewMax, buffersMax}
 use Rattle.timing.specs.Elements.{wireInRange, registerInRange, bufferInRange, wireOf, registerOf, bufferOf}
 use Rattle.timing.specs.declared.elements.Wire.{Wire}
 use Rattle.timing.specs.declared.elements.Register.{Register}
@@ -53,14 +53,18 @@ unfoldable pub listFault : BufferList → ElementFault
 listFault list = require (leb (list .n) buffersMax) Fault.Count (buffersFault list)
 
 -- The order from L on, for every call. `fifoOk` says whether the FIFO's numbers are in range; without a FIFO nothing can fail there.
-abbrev pub elementsFault : Bool → Tables → BufferList → ElementFault
-elementsFault fifoOk t list =
+abbrev pub limitFault : Bool → Tables → BufferList → ElementFault
+limitFault fifoOk t list =
     require (leb (t .limit) loadMax) Fault.Limit
     (require (wireOk (t .horizontal)) Fault.Horizontal
     (require (wireOk (t .vertical)) Fault.Vertical
     (require (registerOk (t .register)) Fault.Register
     (require fifoOk Fault.Fifo
     (listFault list)))))
+
+-- and from the skew on, which stands after the periods
+abbrev pub elementsFault : Bool → Tables → BufferList → ElementFault
+elementsFault fifoOk t list = require (leb (t .skew) skewMax) Fault.Skew (limitFault fifoOk t list)
 
 unfoldable pub tablesFault : Tables → BufferList → ElementFault
 tablesFault t list = require (periodInRange (t .period)) Fault.Period (elementsFault true t list)
@@ -86,6 +90,7 @@ unfoldable pub elementsOf : Tables → BufferList → Elements
 elementsOf t list =
     record {
       period = t .period;
+      skew = t .skew;
       limit = record { 0 = t .limit };
       horizontal = wireFrom (t .horizontal);
       vertical = wireFrom (t .vertical);
@@ -101,6 +106,7 @@ unfoldable pub noElements : Elements
 noElements =
     record {
       period = 0;
+      skew = 0;
       limit = record { 0 = 0 };
       horizontal = wireOf 0 0;
       vertical = wireOf 0 0;

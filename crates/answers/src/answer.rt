@@ -3,12 +3,13 @@ ghost use mathlib.Core.Path.{_≡_};
 ghost use Rattle.answers.specs.Numbers.{refusalNumber, answerNumber, answerFigures};
 
 // Refusal 4: which number was at fault. Buffer holds the buffer's place, from 1.
-// With one clock T is `Period`; between two clocks `SourcePeriod` and `SinkPeriod` stand in its place, and `Fifo` after `Register`.
+// With one clock T is `Period`; between two clocks `SourcePeriod` and `SinkPeriod` stand in its place, and `Fifo` after `Register`. `Skew` is document 02's, C-16.
 pub enum Fault {
     // T
     Period,
     SourcePeriod,
     SinkPeriod,
+    Skew,
     // L
     Limit,
     Horizontal,

@@ -25,6 +25,7 @@ pub struct Tables {
     pub horizontal: WireRecord,
     pub vertical: WireRecord,
     pub period: u16,
+    pub skew: u16,
     pub limit: u16,
 }
 

@@ -91,11 +91,14 @@ fn period_in_range(period: u16) -> bool
     Elements::PERIOD_MIN <= period && period <= Elements::PERIOD_MAX
 }
 
-// All but the periods. With one clock the FIFO's record is of zeros, which are in range.
+// All but the periods, from the skew on. With one clock the FIFO's record is of zeros, which are in range.
 fn check_elements(t: Tables, x: Crossing, read: BuffersRead) -> CrossingCheck
     requires { ⌜ read ≡ checkedList (read .list) ⌝ }
     ensures { λ r. ⌜ r ≡ checkedElements t x (read .list) ⌝ }
 {
+    if Elements::SKEW_MAX < t.skew {
+        return refused_crossing(Fault::Skew);
+    }
     if Elements::LIMIT_MAX < t.limit {
         return refused_crossing(Fault::Limit);
     }
@@ -131,6 +134,7 @@ fn check_elements(t: Tables, x: Crossing, read: BuffersRead) -> CrossingCheck
         fault: ElementFault::Nothing,
         elements: Elements {
             period: t.period,
+            skew: t.skew,
             limit: Load(t.limit),
             horizontal: horizontal,
             vertical: vertical,
@@ -207,6 +211,7 @@ pub fn no_elements() -> Elements
 {
     Elements {
         period: 0,
+        skew: 0,
         limit: Load(0),
         horizontal: Wire::zero(),
         vertical: Wire::zero(),

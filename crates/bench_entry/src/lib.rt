@@ -22,8 +22,8 @@ pub use crossing::bench_crossing;
 pub use explain::bench_explain;
 pub use judge::bench_judge;
 
-// The best route. Returns document 01's number, 0 to 8. `tables` holds ten words: register R K C setup, horizontal R C,
-// vertical R C, T, L. `buffers` holds R K C of each. `figures` gets registers, steps, latency, the fault of refusal 4 and the spare half-ticks.
+// The best route. Returns document 01's number, 0 to 8. `tables` holds eleven words: register R K C setup, horizontal R C,
+// vertical R C, T, skew, L. `buffers` holds R K C of each. `figures` gets registers, steps, latency, the fault of refusal 4 and the spare half-ticks.
 // Other lengths of these three are refused with 15, and nothing is touched.
 #[no_mangle]
 pub extern "C" fn bench_entry(

@@ -13,13 +13,14 @@ fn fault_number(fault: Fault, clocks: u32) -> u32
         Fault::Period => 1,
         Fault::SourcePeriod => 1,
         Fault::SinkPeriod => 2,
-        Fault::Limit => clocks + 1,
-        Fault::Horizontal => clocks + 2,
-        Fault::Vertical => clocks + 3,
-        Fault::Register => clocks + 4,
-        Fault::Fifo => clocks + 5,
-        Fault::Count => 2 * clocks + 4,
-        Fault::Buffer(place) => 2 * clocks + 4 + place as u32,
+        Fault::Skew => clocks + 1,
+        Fault::Limit => clocks + 2,
+        Fault::Horizontal => clocks + 3,
+        Fault::Vertical => clocks + 4,
+        Fault::Register => clocks + 5,
+        Fault::Fifo => clocks + 6,
+        Fault::Count => 2 * clocks + 5,
+        Fault::Buffer(place) => 2 * clocks + 5 + place as u32,
     }
 }
 

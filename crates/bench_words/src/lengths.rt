@@ -16,7 +16,7 @@ const CLOCK_NUMBERS: usize = 5;
 // How many words tell an answer between two clocks.
 const CROSSING_RESULTS: usize = 6;
 
-// Ten words of tables, three words a buffer.
+// Eleven words of tables, three words a buffer.
 fn inputs_right(tables: usize, buffers: usize) -> bool
     ensures { λ r. ⌜ r ≡ inputsRight tables buffers ⌝ }
 {

@@ -5,10 +5,11 @@ use native.Mathlib.Omega.{arith}
 use lib.ListN.{length, getD, replicate, length-append, length-replicate}
 use Rattle.timing.specs.declared.elements.Wire.{Wire}
 use Rattle.timing.specs.declared.elements.Buffer.{Buffer}
-use Rattle.timing.specs.Ranges.{resistanceMax, delayMax, loadMax, periodMin, periodMax, buffersMax}
+use Rattle.timing.specs.declared.elements.Elements.{Elements}
+use Rattle.timing.specs.Ranges.{resistanceMax, delayMax, loadMax, periodMin, periodMax, skewMax, buffersMax}
 use Rattle.timing.specs.Elements.{WireInRange, BufferInRange, wireOf, driverOf, bufferOf, registerOf}
 use Rattle.timing.specs.Valid.{Valid}
-use Rattle.cases.specs.Cases.{Each, none, more, tables, strip, buffers, case1, case2, case3, case4, case5, case6, case7, case8, case9, case10, case11, case12, case13, cases}
+use Rattle.cases.specs.Cases.{Each, none, more, tables, strip, buffers, case1, case2, case3, case4, case5, case6, case7, case8, case9, case10, case11, case12, case13, cases, withSkew, skewedCase, skewed1, skewed3, skewedCases}
 
 buffer-in-range : (r k c : ℕ) → r ≤ resistanceMax → k ≤ delayMax → c ≤ loadMax → BufferInRange (bufferOf r k c)
 unfolding bufferOf driverOf
@@ -33,6 +34,7 @@ module _ (period limit : ℕ) (vertical : Wire) (least : periodMin ≤ period) (
       record {
         least = least;
         most = most;
+        skew = omega arith;
         limit = load;
         horizontal = wire-in-range 2 3 (omega arith) (omega arith);
         vertical = wire;
@@ -52,6 +54,9 @@ module _ (period limit : ℕ) (vertical : Wire) (least : periodMin ≤ period) (
       right zero = buffer-in-range 1 1 1 (omega arith) (omega arith) (omega arith)
       right (suc i) = no-buffers 5 i
 
+plain : (period limit : ℕ) → periodMin ≤ period → period ≤ periodMax → limit ≤ loadMax → Valid (tables period limit (wireOf 2 3) [])
+plain period limit least most load = none-valid period limit (wireOf 2 3) least most load (wire-in-range 2 3 (omega arith) (omega arith))
+
 -- every case's tables
 pub valid : Each (λ c. Valid (c .elements)) cases
 unfolding strip case1 case2 case3 case4 case5 case6 case7 case8 case9 case10 case11 case12 case13
@@ -70,8 +75,28 @@ valid =
     (more case12 (buffered 22 63 (omega arith) (omega arith) (omega arith))
     (more case13 (none-valid 12 63 (wireOf 0 0) (omega arith) (omega arith) (omega arith) (wire-in-range 0 0 (omega arith) (omega arith))) none))))))))))))
   where
-    plain : (period limit : ℕ) → periodMin ≤ period → period ≤ periodMax → limit ≤ loadMax → Valid (tables period limit (wireOf 2 3) [])
-    plain period limit least most load = none-valid period limit (wireOf 2 3) least most load (wire-in-range 2 3 (omega arith) (omega arith))
-
     buffered : (period limit : ℕ) → periodMin ≤ period → period ≤ periodMax → limit ≤ loadMax → Valid (tables period limit (wireOf 2 3) buffers)
     buffered period limit least most load = one-valid period limit (wireOf 2 3) least most load (wire-in-range 2 3 (omega arith) (omega arith))
+
+-- the same with a skew
+pub skew-valid : (s : ℕ) (e : Elements) → s ≤ skewMax → Valid e → Valid (withSkew s e)
+unfolding withSkew
+skew-valid s e h v =
+    record {
+      least = v .least;
+      most = v .most;
+      skew = h;
+      limit = v .limit;
+      horizontal = v .horizontal;
+      vertical = v .vertical;
+      register = v .register;
+      count = v .count;
+      places = v .places;
+      buffers = v .buffers;
+    }
+
+pub valid-skewed : Each (λ c. Valid (c .elements)) skewedCases
+unfolding strip case1 case3 skewedCase skewed1 skewed3
+valid-skewed =
+    more skewed1 (skew-valid 1 _ (omega arith) (plain 26 63 (omega arith) (omega arith) (omega arith)))
+    (more skewed3 (skew-valid 1 _ (omega arith) (plain 12 63 (omega arith) (omega arith) (omega arith))) none)

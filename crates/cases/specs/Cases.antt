@@ -1,4 +1,4 @@
--- Document 01, "Routes worked through": R1 to R13 as one list, with the visits that the paper leaves out, and what it means that a case is right.
+-- Document 01, "Routes worked through": R1 to R13 as one list, and R1 and R3 with skew 1 (document 02, C-16) as another, with the visits that the paper leaves out, and what it means that a case is right.
 use Prim.Native.Nat.{ℕ, _-_}
 use mathlib.Core.Path.{_≡_}
 use mathlib.Core.List.{List, [], _∷_, _++_}
@@ -62,6 +62,7 @@ unfoldable pub tables : ℕ → ℕ → Wire → List Buffer → Elements
 tables period limit vertical buffers =
     record {
       period = period;
+      skew = 0;
       limit = record { 0 = limit };
       horizontal = wireOf 2 3;
       vertical = vertical;
@@ -149,3 +150,38 @@ case13 =
 abbrev pub cases : List Case
 cases =
     case1 ∷ case2 ∷ case3 ∷ case4 ∷ case5 ∷ case6 ∷ case7 ∷ case8 ∷ case9 ∷ case10 ∷ case11 ∷ case12 ∷ case13 ∷ []
+
+-- "With skew 1, R1 becomes one register and latency 52, and R3 becomes 7."
+
+unfoldable pub withSkew : ℕ → Elements → Elements
+withSkew s e =
+    record {
+      period = e .period;
+      skew = s;
+      limit = e .limit;
+      horizontal = e .horizontal;
+      vertical = e .vertical;
+      register = e .register;
+      count = e .count;
+      buffers = e .buffers;
+    }
+
+-- a case with this skew
+unfoldable pub skewedCase : ℕ → Case → Expected → Case
+skewedCase s c expected =
+    record {
+      plan = c .plan;
+      elements = withSkew s (c .elements);
+      source = c .source;
+      sink = c .sink;
+      expected = expected;
+    }
+
+unfoldable pub skewed1 : Case
+skewed1 = skewedCase 1 case1 (route 1 2 52 (pos 26) (straight 7))
+
+unfoldable pub skewed3 : Case
+skewed3 = skewedCase 1 case3 noRoute
+
+abbrev pub skewedCases : List Case
+skewedCases = skewed1 ∷ skewed3 ∷ []

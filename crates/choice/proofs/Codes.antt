@@ -13,7 +13,7 @@ use lib.ListN.{length, getD}
 use lib.Signed.{leZ}
 use Rattle.timing.specs.declared.elements.Elements.{Elements}
 use Rattle.timing.specs.Ranges.{periodMax}
-use Rattle.timing.specs.Formulas.{gateDelay, bufferLoad, registerDriver}
+use Rattle.timing.specs.Formulas.{gateDelay, skewed, bufferLoad, registerDriver}
 use Rattle.timing.proofs.SlackLaws.{slack-below}
 use Rattle.rules.specs.Rules.{Rules, noGate, registerCode, fifoCode, isClosing}
 use Rattle.rules.specs.Legal.{mayStand}
@@ -144,7 +144,7 @@ module _ (net : Net) (marks : List ℕ) (exits : ℕ) (words : List ℕ) (at : S
   unfolding goesAt closeCost
   goes-closing code h =
       simp
-      (ne-eqb code noGate (closing-some code h), is-true (isClosing code) h, net-closer net marks (at .cell) code, net-bound net marks 0 (at .side), slack-below (2 * periodAt net at) (at .delay .0 + gateDelay (registerDriver (gateAt net code)) (at .load .0)))
+      (ne-eqb code noGate (closing-some code h), is-true (isClosing code) h, net-closer net marks (at .cell) code, net-bound net marks 0 (at .side), slack-below (2 * periodAt net at) (at .delay .0 + gateDelay (skewed (net .problem .elements .skew) (registerDriver (gateAt net code))) (at .load .0)))
 
   -- Nothing below the first buffer's code goes on, if a buffer may stand here at all
   module _ (late : early ≡ false) where

@@ -10,7 +10,7 @@ use Rattle.timing.specs.declared.elements.Wire.{Wire}
 use Rattle.timing.specs.declared.elements.Register.{Register}
 use Rattle.timing.specs.declared.elements.Elements.{Elements}
 use Rattle.timing.specs.Ranges.{loadMax, periodMax}
-use Rattle.timing.specs.Formulas.{gateDelay, bufferDriver, bufferLoad, registerDriver, registerLoad, setupDelay}
+use Rattle.timing.specs.Formulas.{gateDelay, skewed, bufferDriver, bufferLoad, registerDriver, registerLoad, setupDelay}
 use Rattle.timing.specs.Slack.{slackOf, smaller}
 use Rattle.timing.specs.Elements.{WireInRange, RegisterInRange}
 use Rattle.timing.specs.Valid.{Valid}
@@ -117,7 +117,7 @@ pub record LeaveAsks (net : Net) (at : State) (code : ℕ) : Type 0 where
 -- the spare figure of a span that closes here with this code
 abbrev pub slackWith : Net → State → ℕ → ℤ
 slackWith net at code =
-    slackOf (2 * periodAt net at) (at .delay .0 + gateDelay (registerDriver (gateAt net code)) (at .load .0))
+    slackOf (2 * periodAt net at) (at .delay .0 + gateDelay (skewed (net .problem .elements .skew) (registerDriver (gateAt net code))) (at .load .0))
 
 -- the load and the delay after the gate with this code
 unfoldable pub leftLoad : Net → State → ℕ → ℕ

@@ -120,7 +120,10 @@ fn closes(plan: &[u8], scratch: &[u16], net: Net, exits: usize, at: State, code:
     if !may_close(scratch, plan.len(), exits, at, code) {
         return false;
     }
-    0 <= net.gate(code).slack(net.period(at.side), at.load, at.delay)
+    let closer = net.gate(code);
+    let period = net.period(at.side);
+    let skew = net.problem.elements.skew;
+    0 <= closer.slack(period, skew, at.load, at.delay)
 }
 
 // The first code with which a visit to the cell goes on, 9 for none.
@@ -158,7 +161,8 @@ fn leave(net: Net, at: State, code: u16) -> State
     }
     if 7 <= code {
         let gate = net.gate(code);
-        let close = gate.slack(net.period(at.side), at.load, at.delay);
+        let skew = net.problem.elements.skew;
+        let close = gate.slack(net.period(at.side), skew, at.load, at.delay);
         let side = side_after(at.side, code);
         return State {
             cell: at.cell,

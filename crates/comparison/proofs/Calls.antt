@@ -68,7 +68,7 @@ module _ (q : Question) (a b : List ℕ) where
     compared e f = rw (first-five q _ five, e, f, comparisonAfter)
 
 -- a list is handed back only by the comparison of two routes
-by-check : (k : Check) (q : Question) (a b : List ℕ) (x : Comparison) → comparisonAfter k q a b ≡ x → ((j : Refusal) → Refused j ≡ x → ⊥) → comparisonFor (rulesAsked q) (routeIn a) (routeIn b) ≡ x
+by-check : (k : Check) (q : Question) (a b : List ℕ) (x : Comparison) → comparisonAfter k (rulesAsked q) a b ≡ x → ((j : Refusal) → Refused j ≡ x → ⊥) → comparisonFor (rulesAsked q) (routeIn a) (routeIn b) ≡ x
 unfolding comparisonAfter
 by-check passes q a b x e n = e
 by-check (fails j) q a b x e n = absurd (n j e)

@@ -20,13 +20,17 @@ comparisonFor R a b =
     (cond (legal R b && ranksBefore registers b a) Second First)
     (cond (legal R b) Second (Refused Refusal.NoneLegal))
 
--- refusals 1 to 5, then 17 for either list; then the comparison
-unfoldable pub comparisonAfter : Check → Question → List ℕ → List ℕ → Comparison
-comparisonAfter passes q a b = comparisonFor (rulesAsked q) (routeIn a) (routeIn b)
-comparisonAfter (fails r) q a b = Refused r
+-- Refusals 1 to 5, then 17 for either list; then the comparison, under any rules R; the call's own are those of the question.
+
+unfoldable pub comparisonAfter : Check → Rules → List ℕ → List ℕ → Comparison
+comparisonAfter passes R a b = comparisonFor R (routeIn a) (routeIn b)
+comparisonAfter (fails r) R a b = Refused r
+
+abbrev pub comparisonUnder : Rules → Question → List ℕ → List ℕ → Comparison
+comparisonUnder R q a b = comparisonAfter (questionChecks q (orElse (badList a || badList b) Refusal.RouteList passes)) R a b
 
 unfoldable pub comparisonOf : Question → List ℕ → List ℕ → Comparison
-comparisonOf q a b = comparisonAfter (questionChecks q (orElse (badList a || badList b) Refusal.RouteList passes)) q a b
+comparisonOf q a b = comparisonUnder (rulesAsked q) q a b
 
 -- What is handed back of two lists: "the caller's own words", or an empty part
 abbrev pub Handed : Comparison → RefT (List ℕ) → RefT (List ℕ) → RefT (List ℕ) → Type 0

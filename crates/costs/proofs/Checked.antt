@@ -1,8 +1,8 @@
--- A checked buffer and register are in range.
+-- A checked buffer is in range.
 use Prim.Native.Nat.{ℕ, _≤_, _<_}
 use Rattle.timing.specs.declared.elements.Elements.{Elements}
 use Rattle.timing.specs.Elements.{DriverInRange}
-use Rattle.timing.specs.Formulas.{bufferDriver, bufferLoad, registerDriver}
+use Rattle.timing.specs.Formulas.{bufferDriver, bufferLoad}
 use Rattle.timing.specs.Ranges.{loadMax, buffersMax}
 use Rattle.timing.specs.Valid.{Valid}
 use Rattle.costs.specs.Costs.{bufferAt}
@@ -14,7 +14,3 @@ buffer-driver-fits v i h = v .buffers i h .driver
 pub buffer-load-most : {e : Elements} → Valid e → (i : ℕ) → i < buffersMax → bufferLoad (bufferAt e i) ≤ loadMax
 unfolding bufferLoad bufferAt
 buffer-load-most v i h = v .buffers i h .load
-
-pub register-driver-fits : {e : Elements} → Valid e → DriverInRange (registerDriver (e .register))
-unfolding registerDriver
-register-driver-fits v = v .register .driver

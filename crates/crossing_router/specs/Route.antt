@@ -53,15 +53,17 @@ answerFor R source sink room (found r) =
     cond (leb (2 * (steps r + 1)) room) (CrossingAnswer.Found (figuresOf R source sink r)) (CrossingAnswer.NoRoom (figuresOf R source sink r))
 answerFor R source sink room none = CrossingAnswer.Refused Refusal.NoRoute
 
--- The three parts of the effect. `scratch` and `visits` are the words lent.
+-- The three parts of the effect. `scratch` and `visits` are the words lent. Answer and visits are told under any rules R; the call's own are those asked about.
 
-unfoldable pub answerAfter : Check → CrossingQuestion → List ℕ → CrossingAnswer
-answerAfter passes c visits =
-    answerFor (rulesCrossed c) (c .crossing .period) (c .question .tables .period) (length visits) (best (rulesCrossed c))
-answerAfter (fails r) c visits = CrossingAnswer.Refused r
+unfoldable pub answerAfter : Check → Rules → CrossingQuestion → List ℕ → CrossingAnswer
+answerAfter passes R c visits = answerFor R (c .crossing .period) (c .question .tables .period) (length visits) (best R)
+answerAfter (fails r) R c visits = CrossingAnswer.Refused r
+
+abbrev pub crossingAnswerUnder : Rules → CrossingQuestion → List ℕ → List ℕ → CrossingAnswer
+crossingAnswerUnder R c scratch visits = answerAfter (checks c (length scratch)) R c visits
 
 unfoldable pub crossingAnswerOf : CrossingQuestion → List ℕ → List ℕ → CrossingAnswer
-crossingAnswerOf c scratch visits = answerAfter (checks c (length scratch)) c visits
+crossingAnswerOf c scratch visits = crossingAnswerUnder (rulesCrossed c) c scratch visits
 
 unfoldable pub scratchAfter : Check → CrossingQuestion → List ℕ → List ℕ
 scratchAfter passes c scratch = zeroed (cellsAsked (c .question) * crossingWords) scratch
@@ -70,12 +72,15 @@ scratchAfter (fails r) c scratch = scratch
 unfoldable pub crossingScratchOf : CrossingQuestion → List ℕ → List ℕ
 crossingScratchOf c scratch = scratchAfter (checks c (length scratch)) c scratch
 
-unfoldable pub visitsAfter : Check → CrossingQuestion → List ℕ → List ℕ
-visitsAfter passes c visits = visitsFor (best (rulesCrossed c)) visits
-visitsAfter (fails r) c visits = visits
+unfoldable pub visitsAfter : Check → Rules → List ℕ → List ℕ
+visitsAfter passes R visits = visitsFor (best R) visits
+visitsAfter (fails r) R visits = visits
+
+abbrev pub crossingVisitsUnder : Rules → CrossingQuestion → List ℕ → List ℕ → List ℕ
+crossingVisitsUnder R c scratch visits = visitsAfter (checks c (length scratch)) R visits
 
 unfoldable pub crossingVisitsOf : CrossingQuestion → List ℕ → List ℕ → List ℕ
-crossingVisitsOf c scratch visits = visitsAfter (checks c (length scratch)) c visits
+crossingVisitsOf c scratch visits = crossingVisitsUnder (rulesCrossed c) c scratch visits
 
 -- All three: what a call answers, and what it leaves in the words lent.
 pub record Crossed (c : CrossingQuestion) (scratch scratch′ visits visits′ : List ℕ) (r : CrossingAnswer) : Type 0 where

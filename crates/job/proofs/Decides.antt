@@ -1,6 +1,6 @@
--- The first 222 bytes of a job decide its reading.
+-- The first 225 bytes of a job decide its reading.
 -- Each stage is local: one that goes on has taken few bytes, and one that refuses has looked at few. The longest job that reads whole has
--- 2 + 128 + 36 + 1 + 54 = 221 bytes (width and height, marks, twelve numbers, the count, eighteen numbers), and one byte more says whether any is left over.
+-- 2 + 128 + 39 + 1 + 54 = 224 bytes (width and height, marks, thirteen numbers, the count, eighteen numbers), and one byte more says whether any is left over.
 use Prim.Native.Nat.{ℕ, zero, suc, _+_, _*_, _≤_}
 use mathlib.Core.Path.{_≡_, refl}
 use mathlib.Core.Bool.{Bool, true, false, cond}
@@ -14,6 +14,7 @@ use Rattle.timing.specs.Ranges.{buffersMax}
 use Rattle.router.specs.Route.{Question}
 use Rattle.numbers.specs.Numbers.{Read, numberMax, number}
 use Rattle.numbers.specs.Runs.{Run, jobFault, run}
+use Rattle.job.specs.Fields.{tableNumbers}
 use Rattle.job.specs.Job.{Reading, refuses, jobBytes, sizeFault, cellsMax, marksMax, markNumber, gridNumber, countNumber, withNumber, withRun, askedOf, questionFrom, ended, buffersFrom, countFrom, tablesFrom, marksFrom, sized, readJob}
 use Rattle.job.specs.declared.read.Asked.{Asked}
 use Rattle.job.proofs.Stages.{grid-sides}
@@ -66,19 +67,19 @@ count-cut marks a m bytes h =
     let few : n ≤ buffersMax = ltb-false buffersMax n e in
     buffers-cut marks a n k rest few (omega (arith, size-small n (omega arith)))))
 
-tables-cut : (w h : ℕ) (marks : List ℕ) (m : ℕ) (bytes : List ℕ) → 92 ≤ m → tablesFrom w h marks (take m bytes) ≡ tablesFrom w h marks bytes
+tables-cut : (w h : ℕ) (marks : List ℕ) (m : ℕ) (bytes : List ℕ) → 95 ≤ m → tablesFrom w h marks (take m bytes) ≡ tablesFrom w h marks bytes
 unfolding tablesFrom
 tables-cut w h marks m bytes long =
-    with-run (λ vs rest. countFrom marks (askedOf w h vs) rest) (numbers-cut 12 m bytes (omega arith))
-    (λ vs rest k most. count-cut marks (askedOf w h vs) k rest (omega (arith, bytes-are 12 3)))
+    with-run (λ vs rest. countFrom marks (askedOf w h vs) rest) (numbers-cut (tableNumbers + 2) m bytes (omega arith))
+    (λ vs rest k most. count-cut marks (askedOf w h vs) k rest (omega (arith, bytes-are (tableNumbers + 2) 3)))
 
-marks-cut : (w h m : ℕ) (bytes : List ℕ) → w * h ≤ cellsMax → 220 ≤ m → marksFrom w h (take m bytes) ≡ marksFrom w h bytes
+marks-cut : (w h m : ℕ) (bytes : List ℕ) → w * h ≤ cellsMax → 223 ≤ m → marksFrom w h (take m bytes) ≡ marksFrom w h bytes
 unfolding marksFrom
 marks-cut w h m bytes few long =
     with-run (λ marks rest. tablesFrom w h marks rest) (marks-run (w * h) m bytes (omega arith))
     (λ marks rest k most. tables-cut w h marks k rest (omega (arith, bytes-are (w * h) 1)))
 
-sized-cut : (w h m : ℕ) (bytes : List ℕ) → 222 ≤ m + size w + size h → sized w h (take m bytes) ≡ sized w h bytes
+sized-cut : (w h m : ℕ) (bytes : List ℕ) → jobBytes ≤ m + size w + size h → sized w h (take m bytes) ≡ sized w h bytes
 unfolding sized
 sized-cut w h m bytes long =
     unless (gridFault w h) gridNumber (cond (ltb cellsMax (w * h)) (refuses sizeFault) (marksFrom w h (take m bytes))) (cond (ltb cellsMax (w * h)) (refuses sizeFault) (marksFrom w h bytes)) (λ g.

@@ -1,5 +1,5 @@
 -- A job that asks has at most 128 cells and at most six buffers.
-use Prim.Native.Nat.{ℕ, _*_, _≤_}
+use Prim.Native.Nat.{ℕ, _+_, _*_, _≤_}
 use mathlib.Core.Path.{_≡_, refl}
 use mathlib.Core.Bool.{Bool, true, false, cond}
 use mathlib.Core.List.{List, [], _∷_}
@@ -10,7 +10,7 @@ use Rattle.timing.specs.Ranges.{buffersMax}
 use Rattle.router.specs.Route.{Question}
 use Rattle.numbers.specs.Numbers.{Read, value, fault, numberMax, number}
 use Rattle.numbers.specs.Runs.{Run, values, refused, jobFault, run}
-use Rattle.job.specs.Fields.{bufferListOf}
+use Rattle.job.specs.Fields.{tableNumbers, bufferListOf}
 use Rattle.job.specs.Job.{Reading, asks, refuses, sizeFault, cellsMax, marksMax, markNumber, gridNumber, countNumber, withNumber, withRun, askedOf, questionFrom, ended, buffersFrom, countFrom, tablesFrom, marksFrom, sized, readJob}
 use Rattle.job.specs.declared.read.Asked.{Asked}
 
@@ -59,7 +59,7 @@ count-small marks a bytes c =
 tables-small : (w h : ℕ) (marks bytes : List ℕ) → w * h ≤ cellsMax → Sound Small (tablesFrom w h marks bytes)
 unfolding tablesFrom askedOf
 tables-small w h marks bytes c =
-    with-run (run 12 numberMax jobFault bytes) (λ vs rest. countFrom marks (askedOf w h vs) rest)
+    with-run (run (tableNumbers + 2) numberMax jobFault bytes) (λ vs rest. countFrom marks (askedOf w h vs) rest)
     (λ vs rest. count-small marks (askedOf w h vs) rest c)
 
 marks-small : (w h : ℕ) (bytes : List ℕ) → w * h ≤ cellsMax → Sound Small (marksFrom w h bytes)

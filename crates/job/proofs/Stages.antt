@@ -1,5 +1,5 @@
 -- Each stage of the reading, by what was read there.
-use Prim.Native.Nat.{ℕ, _*_, _≤_, _<_}
+use Prim.Native.Nat.{ℕ, _+_, _*_, _≤_, _<_}
 use mathlib.Core.Path.{_≡_, sym, ap, _∙_}
 use mathlib.Core.Bool.{true, false, _||_}
 use mathlib.Core.List.{List}
@@ -15,7 +15,7 @@ use Rattle.timing.specs.Ranges.{buffersMax}
 use Rattle.answers.specs.declared.records.Tables.{Tables}
 use Rattle.numbers.specs.Numbers.{value, fault, numberMax, number, readOf}
 use Rattle.numbers.specs.Runs.{Run, values, refused, jobFault, run, runOf}
-use Rattle.job.specs.Fields.{tablesOf}
+use Rattle.job.specs.Fields.{tableNumbers, tablesOf}
 use Rattle.job.specs.Job.{sizeFault, cellsMax, marksMax, markNumber, gridNumber, countNumber, withNumber, withRun, askedOf, ended, buffersFrom, countFrom, tablesFrom, marksFrom, sized, readJob, marksOf, readingOf}
 use Rattle.numbers.specs.declared.number.Number.{Number}
 use Rattle.numbers.specs.declared.series.Series.{Series}
@@ -74,11 +74,11 @@ module _ (plan words : List ℕ) (marks : List ℕ) (a : Asked) (bytes : List �
   count-more n rest e h = rw (e, withNumber, le-ltb buffersMax n h)
 
 module _ (w h : ℕ) (marks bytes : List ℕ) where
-  pub tables-refused : (plan words : List ℕ) (k : ℕ) → run 12 numberMax jobFault bytes ≡ refused k → readingOf plan words (Job.Refused k) ≡ tablesFrom w h marks bytes
+  pub tables-refused : (plan words : List ℕ) (k : ℕ) → run (tableNumbers + 2) numberMax jobFault bytes ≡ refused k → readingOf plan words (Job.Refused k) ≡ tablesFrom w h marks bytes
   unfolding readingOf tablesFrom withRun
   tables-refused plan words k e = rw (e, withRun)
 
-  pub tables-more : (vs rest : List ℕ) → run 12 numberMax jobFault bytes ≡ values vs rest → countFrom marks (askedOf w h vs) rest ≡ tablesFrom w h marks bytes
+  pub tables-more : (vs rest : List ℕ) → run (tableNumbers + 2) numberMax jobFault bytes ≡ values vs rest → countFrom marks (askedOf w h vs) rest ≡ tablesFrom w h marks bytes
   unfolding tablesFrom withRun
   tables-more vs rest e = rw (e, withRun)
 
@@ -90,8 +90,8 @@ module _ (w h : ℕ) (marks bytes : List ℕ) where
   unfolding marksFrom withRun
   marks-more vs rest same e = rw (e, withRun, same)
 
--- the tables that stand in the first ten of twelve words
-same-tables : (words : List ℕ) → tablesOf words ≡ tablesOf (take 12 words)
+-- the tables that stand in the first words
+same-tables : (words : List ℕ) → tablesOf words ≡ tablesOf (take (tableNumbers + 2) words)
 unfolding tablesOf
 same-tables words =
     λ j. record {
@@ -99,21 +99,22 @@ same-tables words =
       horizontal = record { resistance = at 4 (omega arith) j; load = at 5 (omega arith) j };
       vertical = record { resistance = at 6 (omega arith) j; load = at 7 (omega arith) j };
       period = at 8 (omega arith) j;
-      limit = at 9 (omega arith) j;
+      skew = at 9 (omega arith) j;
+      limit = at 10 (omega arith) j;
     }
   where
-    at : (k : ℕ) → k < 12 → getD words k 0 ≡ getD (take 12 words) k 0
-    at k h = sym (getD-take 12 words k 0 h)
+    at : (k : ℕ) → k < tableNumbers + 2 → getD words k 0 ≡ getD (take (tableNumbers + 2) words) k 0
+    at k h = sym (getD-take (tableNumbers + 2) words k 0 h)
 
-pub asked-is : (w h : ℕ) (words : List ℕ) (t : Tables) → t ≡ tablesOf words → record { width = w; height = h; tables = t; source = getD words 10 0; sink = getD words 11 0 } ≡ askedOf w h (take 12 words)
+pub asked-is : (w h : ℕ) (words : List ℕ) (t : Tables) → t ≡ tablesOf words → record { width = w; height = h; tables = t; source = getD words tableNumbers 0; sink = getD words (tableNumbers + 1) 0 } ≡ askedOf w h (take (tableNumbers + 2) words)
 unfolding askedOf
 asked-is w h words t e =
     λ j. record {
       width = w;
       height = h;
       tables = (e ∙ same-tables words) j;
-      source = sym (getD-take 12 words 10 0 (omega arith)) j;
-      sink = sym (getD-take 12 words 11 0 (omega arith)) j;
+      source = sym (getD-take (tableNumbers + 2) words tableNumbers 0 (omega arith)) j;
+      sink = sym (getD-take (tableNumbers + 2) words (tableNumbers + 1) 0 (omega arith)) j;
     }
 
 module _ (plan words bytes : List ℕ) where
@@ -141,11 +142,11 @@ module _ (plan words bytes : List ℕ) where
   unfolding sized
   sized-marks w h e g = rw (e, le-ltb cellsMax (w * h) g)
 
-pub tables-whole : (w h : ℕ) (plan words rest bytes : List ℕ) (t : Tables) → t ≡ tablesOf words → run 12 numberMax jobFault bytes ≡ values (take 12 words) rest → (a : Asked) → a ≡ record { width = w; height = h; tables = t; source = getD words 10 0; sink = getD words 11 0 } → countFrom (marksOf plan a) a rest ≡ tablesFrom w h (take (w * h) plan) bytes
+pub tables-whole : (w h : ℕ) (plan words rest bytes : List ℕ) (t : Tables) → t ≡ tablesOf words → run (tableNumbers + 2) numberMax jobFault bytes ≡ values (take (tableNumbers + 2) words) rest → (a : Asked) → a ≡ record { width = w; height = h; tables = t; source = getD words tableNumbers 0; sink = getD words (tableNumbers + 1) 0 } → countFrom (marksOf plan a) a rest ≡ tablesFrom w h (take (w * h) plan) bytes
 unfolding marksOf askedOf
 tables-whole w h plan words rest bytes t e r a same =
     ap (λ (b : Asked). countFrom (marksOf plan b) b rest) (same ∙ asked-is w h words t e)
-    ∙ tables-more w h (take (w * h) plan) bytes (take 12 words) rest r
+    ∙ tables-more w h (take (w * h) plan) bytes (take (tableNumbers + 2) words) rest r
 
 -- marks that were read fit a byte
 pub marks-small : (n refusal : ℕ) (words bytes rest : List ℕ) → run n marksMax refusal bytes ≡ values (take n words) rest → (k : ℕ) → k < n → getD words k 0 < 256

@@ -6,7 +6,7 @@ use Rattle.answers.specs.declared.records.BufferRecord.{BufferRecord}
 use Rattle.answers.specs.declared.records.BufferList.{BufferList}
 use Rattle.answers.specs.declared.records.Tables.{Tables}
 
--- register R K C setup, horizontal R C, vertical R C, T, L
+-- register R K C setup, horizontal R C, vertical R C, T, skew (document 02, C-16: "directly after T"), L
 unfoldable pub tablesOf : List ℕ → Tables
 tablesOf vs =
     record {
@@ -14,12 +14,13 @@ tablesOf vs =
       horizontal = record { resistance = getD vs 4 0; load = getD vs 5 0 };
       vertical = record { resistance = getD vs 6 0; load = getD vs 7 0 };
       period = getD vs 8 0;
-      limit = getD vs 9 0;
+      skew = getD vs 9 0;
+      limit = getD vs 10 0;
     }
 
 -- how many numbers the tables have
 abbrev pub tableNumbers : ℕ
-tableNumbers = 10
+tableNumbers = 11
 
 -- the buffer at index i: R K C; zeros past the end
 unfoldable pub bufferRecordAt : List ℕ → ℕ → BufferRecord

@@ -1,5 +1,5 @@
 -- The reading of a whole job, in document 01's order: width, height, the marks of each cell, register R K C setup,
--- horizontal R C, vertical R C, T, L, source, sink, buffer count, then R K C of each. The first fault met decides.
+-- horizontal R C, vertical R C, T, skew, L, source, sink, buffer count, then R K C of each. The first fault met decides.
 use Prim.Native.Nat.{ℕ, _+_, _*_}
 use mathlib.Core.Bool.{cond}
 use mathlib.Core.List.{List, [], _∷_}
@@ -32,7 +32,7 @@ cellsMax = 128
 
 -- the first bytes that decide what a job asks (proofs/Decides: `job-decided`)
 abbrev pub jobBytes : ℕ
-jobBytes = 222
+jobBytes = 225
 
 -- a mark above it is refused while reading
 abbrev pub marksMax : ℕ

@@ -11,9 +11,9 @@ use answers::Tables;
 use answers::WireRecord;
 
 // How many numbers the tables have.
-pub const TABLE_NUMBERS: usize = 10;
+pub const TABLE_NUMBERS: usize = 11;
 
-// The tables, from their ten numbers in the job's order.
+// The tables, from their eleven numbers in the job's order.
 pub fn tables_of(words: &[u16]) -> Tables
     requires { ⌜ tableNumbers ≤ length (now words) ⌝ }
     ensures { λ r. ⌜ r ≡ tablesOf (now (words .entry)) ⌝ }
@@ -34,7 +34,8 @@ pub fn tables_of(words: &[u16]) -> Tables
             load: words[7],
         },
         period: words[8],
-        limit: words[9],
+        skew: words[9],
+        limit: words[10],
     }
 }
 

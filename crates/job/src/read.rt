@@ -5,6 +5,7 @@ ghost use Prim.Native.Nat.{ℕ, _*_, _≤_};
 ghost use lib.ListN.{length, take, drop};
 ghost use Rattle.timing.specs.Ranges.{buffersMax};
 ghost use Rattle.job.specs.Job.{cellsMax, readJob, marksFrom, tablesFrom, countFrom, buffersFrom, marksOf, readingOf};
+use crate::fields::TABLE_NUMBERS;
 use crate::fields::copy_marks;
 use crate::fields::tables_of;
 use answers::Tables;
@@ -19,6 +20,13 @@ use plan::grid_fault;
 const CELLS_MAX: usize = 128;
 
 const MARKS_MAX: u16 = 15;
+
+// The places of the source and the sink after the tables' numbers, and how many numbers that makes.
+const SOURCE: usize = TABLE_NUMBERS;
+
+const SINK: usize = TABLE_NUMBERS + 1;
+
+const NUMBERS: usize = TABLE_NUMBERS + 2;
 
 const BUFFERS_MAX: u16 = 6;
 
@@ -94,7 +102,7 @@ fn read_tables(job: &[u8], at: usize, width: u16, height: u16, words: &mut [u16]
     requires { ⌜ cellsMax ≤ length (now words) ⌝ }
     ensures { λ r. ⌜ ((plan : List ℕ) → readingOf plan (now (words .exit)) r ≡ tablesFrom width height (take (width * height) plan) (drop at (now (job .entry)))) ⌝ }
 {
-    let tables = read_series(job, at, 12, u16::MAX, JOB_FAULT, words);
+    let tables = read_series(job, at, NUMBERS, u16::MAX, JOB_FAULT, words);
     match tables {
         Series::Refused(n) => Job::Refused(n),
         Series::Read(next) => {
@@ -102,8 +110,8 @@ fn read_tables(job: &[u8], at: usize, width: u16, height: u16, words: &mut [u16]
                 width: width,
                 height: height,
                 tables: tables_of(words),
-                source: words[10],
-                sink: words[11],
+                source: words[SOURCE],
+                sink: words[SINK],
             };
             read_count(job, next, asked, words)
         }

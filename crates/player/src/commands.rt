@@ -99,7 +99,7 @@ fn read_register(src: &[u8], c: Cursor) -> RegisterRead {
     }
 }
 
-// tables R K C S R C R C T L
+// tables R K C S R C R C T SK L
 pub fn set_tables(src: &[u8], c: Cursor, p: Player) -> Turn {
     let read = read_register(src, c);
     let register = read.register;
@@ -108,7 +108,8 @@ pub fn set_tables(src: &[u8], c: Cursor, p: Player) -> Turn {
     let vr = read_number(src, hl.cursor, MAX);
     let vl = read_number(src, vr.cursor, MAX);
     let period = read_number(src, vl.cursor, MAX);
-    let limit = read_number(src, period.cursor, MAX);
+    let skew = read_number(src, period.cursor, MAX);
+    let limit = read_number(src, skew.cursor, MAX);
     let tables = Tables {
         register: register,
         horizontal: WireRecord {
@@ -120,6 +121,7 @@ pub fn set_tables(src: &[u8], c: Cursor, p: Player) -> Turn {
             load: vl.value,
         },
         period: period.value,
+        skew: skew.value,
         limit: limit.value,
     };
     let mut q = p;

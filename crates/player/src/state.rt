@@ -62,6 +62,7 @@ pub fn new_player() -> Player {
             horizontal: wire,
             vertical: wire,
             period: 0,
+            skew: 0,
             limit: 0,
         },
         crossing: Crossing {

@@ -1,4 +1,4 @@
--- The first 222 bytes decide what is printed.
+-- The first 225 bytes decide what is printed.
 use Prim.Native.Nat.{ℕ}
 use mathlib.Core.Path.{_≡_, ap}
 use mathlib.Core.List.{List}

@@ -1,5 +1,5 @@
 -- All that the route printer writes for the bytes of a job: document 01, "The job and its printed sheet".
--- `proofs/Decides` says that the first 222 bytes decide it.
+-- `proofs/Decides` says that the first 225 bytes decide it.
 use Prim.Native.Nat.{ℕ, _*_, _≤_}
 use mathlib.Core.Path.{_≡_}
 use mathlib.Core.List.{List, _++_}

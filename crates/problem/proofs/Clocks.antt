@@ -10,7 +10,7 @@ use lib.ListN.{length}
 use Rattle.timing.specs.declared.elements.Elements.{Elements}
 use Rattle.timing.specs.declared.clocks.Clocks.{Clocks}
 use Rattle.timing.specs.Elements.{RegisterInRange}
-use Rattle.timing.specs.Formulas.{registerDriver, registerLoad, setupDelay}
+use Rattle.timing.specs.Formulas.{skewed, registerDriver, registerLoad, setupDelay}
 use Rattle.timing.specs.Clocks.{oneClock}
 use Rattle.timing.proofs.OneClock.{one-valid}
 use Rattle.rules.specs.Rules.{Rules, registerCode, fifoCode, rulesOf}
@@ -86,7 +86,7 @@ module _ (net : Net) (marks : List ℕ) where
   unfolding netRules rulesBetween
   net-fresh-delay code = refl
 
-  pub net-closer : (cell code : ℕ) → R .closer cell code ≡ registerDriver (gateFor e x code)
+  pub net-closer : (cell code : ℕ) → R .closer cell code ≡ skewed (e .skew) (registerDriver (gateFor e x code))
   unfolding netRules rulesBetween
   net-closer cell code = refl
 

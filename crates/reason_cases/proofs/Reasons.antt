@@ -8,14 +8,14 @@ use Rattle.timing.specs.Relaxed.{atPeriod}
 use Rattle.timing.specs.Valid.{Valid}
 use Rattle.answers.specs.declared.explained.Reason.{Reason}
 use Rattle.answers.specs.declared.explained.Explained.{Explained}
-use Rattle.cases.specs.Cases.{Case, tables, strip, case4, case11}
+use Rattle.cases.specs.Cases.{Case, tables, strip, case3, case4, case11, withSkew, skewedCase, skewed3}
 use Rattle.reasons.specs.Reasons.{routedAt, smallestPeriod}
 use Rattle.reasons.proofs.Order.{timed-routed, light-routed}
 use Rattle.reasons.proofs.Periods.{smallest-is, no-smallest}
 use Rattle.reasons.proofs.Values.{explained-exists, explained-because, reason-walled, reason-load, reason-short, reason-period}
 use Rattle.reason_cases.specs.Reasons.{Gives, setupCase, WorkedReasons}
 use Rattle.reason_cases.proofs.Tests.{has, hasAt, hasRelaxed, tests}
-use Rattle.reason_cases.proofs.Tables.{valid4, valid11, valid-setup}
+use Rattle.reason_cases.proofs.Tables.{valid4, valid11, valid-skewed3, valid-setup}
 
 module _ (c : Case) (valid : Valid (c .elements)) (none : has c ≡ false) where
   own : hasAt c (c .elements .period) ≡ false
@@ -44,13 +44,14 @@ module _ (c : Case) (valid : Valid (c .elements)) (none : has c ≡ false) where
 
 -- R4 gives period 12; R7 gives load.
 pub worked-reasons : WorkedReasons
-unfolding tables strip case4 case11
+unfolding tables strip case3 case4 case11 withSkew skewedCase skewed3
 worked-reasons =
     record {
       fourth = next-period case4 valid4 (tests .own4) _ refl (omega arith) (tests .next4);
       seventh = explained-because _ _ _ _ (tests .own7) (reason-load _ _ _ _ (tests .chain7) (tests .heavy7));
       first = explained-exists _ _ _ _ (tests .own1);
       eleventh = next-period case11 valid11 (tests .own11) _ refl (omega arith) (tests .next11);
+      third = next-period skewed3 valid-skewed3 (tests .own-skewed) _ refl (omega arith) (tests .next-skewed);
       cut = explained-because _ _ _ _ (tests .own-cut) (reason-walled _ _ _ _ (tests .wall-cut));
       setup = too-short setupCase valid-setup (tests .own-setup) (tests .light-setup) (tests .longest-setup);
     }

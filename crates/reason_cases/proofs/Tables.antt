@@ -6,8 +6,8 @@ use Rattle.timing.specs.declared.elements.Elements.{Elements}
 use Rattle.timing.specs.Elements.{wireOf, driverOf, registerOf}
 use Rattle.timing.specs.Ranges.{setupMax, periodMin, periodMax}
 use Rattle.timing.specs.Valid.{Valid}
-use Rattle.cases.specs.Cases.{tables, strip, case4, case11}
-use Rattle.cases.proofs.Tables.{none-valid}
+use Rattle.cases.specs.Cases.{tables, strip, case3, case4, case11, skewedCase, skewed3}
+use Rattle.cases.proofs.Tables.{none-valid, skew-valid}
 use Rattle.reason_cases.specs.Reasons.{withSetup, setupCase}
 
 plain : (period : ℕ) → periodMin ≤ period → period ≤ periodMax → Valid (tables period 63 (wireOf 2 3) [])
@@ -21,6 +21,7 @@ setup-valid setup e h v =
     record {
       least = v .least;
       most = v .most;
+      skew = v .skew;
       limit = v .limit;
       horizontal = v .horizontal;
       vertical = v .vertical;
@@ -37,6 +38,10 @@ valid4 = plain 11 (omega arith) (omega arith)
 pub valid11 : Valid (case11 .elements)
 unfolding strip case11
 valid11 = plain 25 (omega arith) (omega arith)
+
+pub valid-skewed3 : Valid (skewed3 .elements)
+unfolding strip case3 skewedCase skewed3
+valid-skewed3 = skew-valid 1 _ (omega arith) (plain 12 (omega arith) (omega arith))
 
 pub valid-setup : Valid (setupCase .elements)
 unfolding setupCase

@@ -90,7 +90,7 @@ module _ (q : Question) (scratch : ℕ) (pass : checks q scratch ≡ passes) whe
 
   -- What the call answers is true.
   pub explained-true : Explains q (explainedOf q scratch)
-  unfolding explainedOf explainedAfter explainedFor
+  unfolding explainedOf explainedAfter reasonFor
   explained-true = rw pass (go own refl)
     where
       go : (x : Bool) → own ≡ x → Explains q (elim x [ true ↦ Explained.Refused Refusal.RouteExists | false ↦ Explained.Because reason ])
@@ -99,7 +99,7 @@ module _ (q : Question) (scratch : ℕ) (pass : checks q scratch ≡ passes) whe
 
   -- Nothing else is true.
   pub explained-only : {x : Explained} → Explains q x → x ≡ explainedOf q scratch
-  unfolding explainedOf explainedAfter
+  unfolding explainedOf explainedAfter explainedFor
   explained-only (Explains.hasRoute r h) = rw pass (sym (explained-exists _ _ _ _ (meaning.is-routed q scratch pass r h)))
   explained-only (Explains.walledOff n c) =
       rw pass (sym (explained-because _ _ _ _ (meaning.not-routed q scratch pass n) (reason-walled _ _ _ _ wall)))

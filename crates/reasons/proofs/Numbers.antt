@@ -17,7 +17,7 @@ use Rattle.answers.specs.declared.tables.ElementFault.the-variants.{Nothing, At
 use Rattle.question.specs.Question.{Question, Check, passes, fails, afterPlan, afterTables, orElse, questionChecks}
 use Rattle.router.specs.Route.{cellsAsked, cellWords, checks}
 use Rattle.reasons.specs.Explains.{Explains}
-use Rattle.reasons.specs.Reasons.{explainedAfter, explainedOf}
+use Rattle.reasons.specs.Reasons.{explainedAfter, explainedOf, rulesWith}
 use Rattle.reasons.proofs.Explained.{explained-true}
 
 -- a check passes, or fails with 6 at most
@@ -60,6 +60,6 @@ pub explained-number : (q : Question) (scratch : ℕ) → (explainedNumber (expl
 unfolding explainedOf explainedAfter
 explained-number q scratch = go (checks q scratch) refl (checks-number q scratch)
   where
-    go : (k : Check) → checks q scratch ≡ k → UpToSix k → (explainedNumber (explainedAfter (checks q scratch) q) ≤ 6) ⊎ (explainedNumber (explainedAfter (checks q scratch) q) ≡ 19)
+    go : (k : Check) → checks q scratch ≡ k → UpToSix k → (explainedNumber (explainedAfter (checks q scratch) (rulesWith q) q) ≤ 6) ⊎ (explainedNumber (explainedAfter (checks q scratch) (rulesWith q) q) ≡ 19)
     go passes pass h = explains-number (explained-true q scratch pass)
     go (fails r) e h = rw e (inl h)

@@ -10,7 +10,7 @@ use Rattle.question.specs.Checked.{problemAsked}
 use Rattle.question.proofs.Checks.{cells-asked}
 use Rattle.router.specs.Route.{Question, cellWords, passes, fails, questionChecks, checks, scratchAfter, scratchOf}
 use Rattle.router.proofs.Refusals.{all-passed}
-use Rattle.reasons.specs.Reasons.{explainedAfter, explainedOf, Explaining}
+use Rattle.reasons.specs.Reasons.{explainedFor, explainedAfter, explainedOf, Explaining}
 use Rattle.reasons.specs.Probe.{explainedBy, ReasonDone}
 
 module _ (q : Question) (scratch : List ℕ) where
@@ -21,7 +21,7 @@ module _ (q : Question) (scratch : List ℕ) where
 
   -- the checks have passed, and the problem is explained
   pub explained : questionChecks q passes ≡ passes → length (q .marks) * cellWords ≤ length scratch → (scratch′ : List ℕ) (r : Explained) → ReasonDone (problemAsked q) (q .marks) scratch scratch′ r → Explaining q scratch scratch′ r
-  unfolding explainedOf explainedAfter scratchOf scratchAfter explainedBy planFor problemAsked
+  unfolding explainedOf explainedAfter scratchOf scratchAfter explainedBy explainedFor planFor problemAsked
   explained five room scratch′ r d =
       let pass = all-passed q scratch [] five room in
       record { answer = rw (pass, explainedAfter) (d .answer); scratchLeft = rw (pass, scratchAfter) (rw (cells-asked q passes five) at (d .zero-words)) }

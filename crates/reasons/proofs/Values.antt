@@ -11,7 +11,7 @@ use Rattle.rules.specs.Rules.{rulesOf}
 use Rattle.answers.specs.declared.answer.Refusal.{Refusal}
 use Rattle.answers.specs.declared.explained.Reason.{Reason}
 use Rattle.answers.specs.declared.explained.Explained.{Explained}
-use Rattle.reasons.specs.Reasons.{routed, smallestPeriod, periodReason, reasonFor, explainedFor}
+use Rattle.reasons.specs.Reasons.{routed, routedAt, smallestPeriod, periodReason, reasonFor, explainedFor}
 
 module _ (p : Plan) (e : Elements) (a b : ℕ) where
   -- the definition's three tests
@@ -25,25 +25,25 @@ module _ (p : Plan) (e : Elements) (a b : ℕ) where
   fromRoute x = elim x [ true ↦ Explained.Refused Refusal.RouteExists | false ↦ Explained.Because (reasonFor p e a b) ]
 
   pub explained-exists : routed (rulesOf p e a b) ≡ true → explainedFor p e a b ≡ Explained.Refused Refusal.RouteExists
-  unfolding explainedFor
+  unfolding explainedFor reasonFor
   explained-exists is = ap fromRoute is
 
   pub explained-because : routed (rulesOf p e a b) ≡ false → {r : Reason} → reasonFor p e a b ≡ r → explainedFor p e a b ≡ Explained.Because r
-  unfolding explainedFor
+  unfolding explainedFor reasonFor
   explained-because is because = ap fromRoute is ∙ ap Explained.Because because
 
   pub reason-walled : routed (rulesOf p (relaxed false e) a b) ≡ false → reasonFor p e a b ≡ Reason.WalledOff
-  unfolding reasonFor
+  unfolding reasonFor smallestPeriod routedAt
   reason-walled wall = ap fromChain wall
 
   module _ (chain : routed (rulesOf p (relaxed false e) a b) ≡ true) where
     pub reason-load : routed (rulesOf p (relaxed true e) a b) ≡ false → reasonFor p e a b ≡ Reason.Load
-    unfolding reasonFor
+    unfolding reasonFor smallestPeriod routedAt
     reason-load heavy = ap fromChain chain ∙ ap fromLoads heavy
 
     module _ (light : routed (rulesOf p (relaxed true e) a b) ≡ true) where
       by-period : reasonFor p e a b ≡ periodReason (smallestPeriod p e a b)
-      unfolding reasonFor
+      unfolding reasonFor smallestPeriod routedAt
       by-period = ap fromChain chain ∙ ap fromLoads light
 
       pub reason-short : periodMax < smallestPeriod p e a b → reasonFor p e a b ≡ Reason.TooShort

@@ -35,26 +35,44 @@ smallestPeriod p e a b = firstFrom (routedAt p e a b) periodMin periodMax
 unfoldable pub periodReason : ℕ → Reason
 periodReason t = cond (leb t periodMax) (Reason.Period t) Reason.TooShort
 
--- walled off: no route even where nothing has a delay or a load; load: none where nothing has a delay
-unfoldable pub reasonFor : Plan → Elements → ℕ → ℕ → Reason
-reasonFor p e a b =
-    elim (routed (rulesOf p (relaxed false e) a b)) [
+-- The reason under any rules that follow from tables; the call's own are `rulesWith`.
+
+-- walled off: no route even where nothing has a delay or a load; load: none where nothing has a delay; else the first period
+abbrev pub reasonWith : (Elements → Rules) → Elements → Reason
+reasonWith rules e =
+    elim (routed (rules (relaxed false e))) [
       | false ↦ Reason.WalledOff
-      | true ↦ elim (routed (rulesOf p (relaxed true e) a b)) [ false ↦ Reason.Load | true ↦ periodReason (smallestPeriod p e a b) ]
+      | true ↦ elim (routed (rules (relaxed true e))) [
+        | false ↦ Reason.Load
+        | true ↦ periodReason (firstFrom (λ t. routed (rules (atPeriod t e))) periodMin periodMax)
+      ]
     ]
 
 -- 19 where a route exists
-unfoldable pub explainedFor : Plan → Elements → ℕ → ℕ → Explained
-explainedFor p e a b =
-    elim (routed (rulesOf p e a b)) [ true ↦ Explained.Refused Refusal.RouteExists | false ↦ Explained.Because (reasonFor p e a b) ]
+abbrev pub explainedWith : (Elements → Rules) → Elements → Explained
+explainedWith rules e =
+    elim (routed (rules e)) [ true ↦ Explained.Refused Refusal.RouteExists | false ↦ Explained.Because (reasonWith rules e) ]
 
-unfoldable pub explainedAfter : Check → Question → Explained
-explainedAfter passes q = explainedFor (planOf (q .width) (q .height) (q .marks)) (elementsOf (q .tables) (q .buffers)) (q .source) (q .sink)
-explainedAfter (fails r) q = Explained.Refused r
+unfoldable pub reasonFor : Plan → Elements → ℕ → ℕ → Reason
+reasonFor p e a b = reasonWith (λ d. rulesOf p d a b) e
+
+unfoldable pub explainedFor : Plan → Elements → ℕ → ℕ → Explained
+explainedFor p e a b = explainedWith (λ d. rulesOf p d a b) e
+
+unfoldable pub explainedAfter : Check → (Elements → Rules) → Question → Explained
+explainedAfter passes rules q = explainedWith rules (elementsOf (q .tables) (q .buffers))
+explainedAfter (fails r) rules q = Explained.Refused r
+
+abbrev pub explainedUnder : (Elements → Rules) → Question → ℕ → Explained
+explainedUnder rules q scratch = explainedAfter (checks q scratch) rules q
+
+-- the question's rules with any tables
+abbrev pub rulesWith : Question → Elements → Rules
+rulesWith q d = rulesOf (planOf (q .width) (q .height) (q .marks)) d (q .source) (q .sink)
 
 -- the answer; `scratch` is how many words are lent
 unfoldable pub explainedOf : Question → ℕ → Explained
-explainedOf q scratch = explainedAfter (checks q scratch) q
+explainedOf q scratch = explainedUnder (rulesWith q) q scratch
 
 -- Both: what the call answers, and what it leaves in the scratch words, which is what a route call leaves.
 pub record Explaining (q : Question) (scratch scratch′ : List ℕ) (r : Explained) : Type 0 where

@@ -62,7 +62,7 @@ pub fn write_fault(answer: Answer) -> bool {
     write_element(refusal)
 }
 
-// Each clock has a period before L, and each clock but one a FIFO before the count.
+// Each clock has a period before the skew, and each clock but one a FIFO before the count.
 fn write_place(fault: Fault, clocks: u64) -> bool
     requires { ⌜ clocks ≤ 2 ⌝ }
 {
@@ -70,13 +70,14 @@ fn write_place(fault: Fault, clocks: u64) -> bool
         Fault::Period => write_number(1),
         Fault::SourcePeriod => write_number(1),
         Fault::SinkPeriod => write_number(2),
-        Fault::Limit => write_number(clocks + 1),
-        Fault::Horizontal => write_number(clocks + 2),
-        Fault::Vertical => write_number(clocks + 3),
-        Fault::Register => write_number(clocks + 4),
-        Fault::Fifo => write_number(clocks + 5),
-        Fault::Count => write_number(2 * clocks + 4),
-        Fault::Buffer(place) => write_number(2 * clocks + 5) && write_number(place as u64),
+        Fault::Skew => write_number(clocks + 1),
+        Fault::Limit => write_number(clocks + 2),
+        Fault::Horizontal => write_number(clocks + 3),
+        Fault::Vertical => write_number(clocks + 4),
+        Fault::Register => write_number(clocks + 5),
+        Fault::Fifo => write_number(clocks + 6),
+        Fault::Count => write_number(2 * clocks + 5),
+        Fault::Buffer(place) => write_number(2 * clocks + 6) && write_number(place as u64),
     }
 }
 

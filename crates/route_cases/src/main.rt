@@ -1,4 +1,4 @@
-// Runs document 01's R1 to R13, and each refusal 1 to 8, through the route call, and prints a line of each.
+// Runs document 01's R1 to R13, R1 and R3 with skew 1 (document 02, C-16), and each refusal 1 to 8, through the route call, and prints a line of each.
 mod call;
 
 use answers::BufferList;
@@ -33,6 +33,7 @@ fn case(period: u16, limit: u16, buffers: usize) -> Call {
             horizontal: wire,
             vertical: wire,
             period: period,
+            skew: 0,
             limit: limit,
         },
         list: BufferList {
@@ -79,6 +80,20 @@ fn r13() -> bool {
     c.tables.vertical.resistance = 0;
     c.tables.vertical.load = 0;
     run(b"R13", &[0, 1, 0, 0, 2, 0], c)
+}
+
+// The strip with this period and this skew.
+fn skewed(label: &[u8], period: u16, skew: u16) -> bool {
+    let mut c = case(period, 63, 0);
+    c.tables.skew = skew;
+    run(label, &[0, 2, 0], c)
+}
+
+fn with_skew() -> bool {
+    skewed(b"R1, skew 1", 26, 1)
+        && skewed(b"R3, skew 1", 12, 1)
+        && skewed(b"the longest skew and period", 30_000, 30_000)
+        && skewed(b"a period more than the skew", 30_000, 29_999)
 }
 
 // A plan that is said to be of this size, with the strip's tables.
@@ -136,6 +151,7 @@ fn buffer_fault() -> bool {
 fn element_refusals() -> bool {
     strip(b"period 0", 0, 63, 0)
         && strip(b"period 30001", 30001, 63, 0)
+        && skewed(b"skew 30001", 26, 30001)
         && strip(b"limit 64", 26, 64, 0)
         && horizontal_fault()
         && vertical_fault()
@@ -169,6 +185,7 @@ fn all() -> bool {
     r1_to_r7()
         && r8_to_r12()
         && r13()
+        && with_skew()
         && size_refusals()
         && mark_refusals()
         && element_refusals()

@@ -5,7 +5,7 @@ use printer::read_deciding;
 use printer::write_answer;
 
 // The bytes of input that decide; `read_deciding` asks for just so many.
-const INPUT: usize = 222;
+const INPUT: usize = 225;
 
 fn main() {
     let mut space = [0u8; INPUT];

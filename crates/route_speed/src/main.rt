@@ -33,6 +33,7 @@ fn tables(period: u16) -> Tables {
         horizontal: wire,
         vertical: wire,
         period: period,
+        skew: 0,
         limit: 63,
     }
 }

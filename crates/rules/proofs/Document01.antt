@@ -11,7 +11,7 @@ use Rattle.plan.specs.Plan.{Plan, cells, marksAt, blocked, tap}
 use Rattle.plan.specs.Joined.{joined}
 use Rattle.timing.specs.declared.elements.Elements.{Elements}
 use Rattle.timing.specs.Ranges.{buffersMax}
-use Rattle.timing.specs.Formulas.{registerDriver, registerLoad, setupDelay}
+use Rattle.timing.specs.Formulas.{skewed, registerDriver, registerLoad, setupDelay}
 use Rattle.timing.specs.Elements.{bufferOf}
 use Rattle.rules.specs.Rules.{Rules, noGate, registerCode, fifoCode, isClosing, siteOf, wireBetween, rulesOf}
 use Rattle.rules.specs.Legal.{isEnd, mayStand}
@@ -69,7 +69,7 @@ module _ (p : Plan) (e : Elements) (from to : ℕ) where
   unfolding rulesOf
   rules-fresh-delay code = refl
 
-  pub rules-closer : (cell code : ℕ) → rulesOf p e from to .closer cell code ≡ registerDriver (e .register)
+  pub rules-closer : (cell code : ℕ) → rulesOf p e from to .closer cell code ≡ skewed (e .skew) (registerDriver (e .register))
   unfolding rulesOf
   rules-closer cell code = refl
 

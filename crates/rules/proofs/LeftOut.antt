@@ -9,7 +9,7 @@ use Rattle.plan.specs.Plan.{Plan, cells}
 use Rattle.plan.specs.Joined.{horizontal, joined}
 use Rattle.plan.proofs.Joined.{joined-in}
 use Rattle.timing.specs.declared.elements.Elements.{Elements}
-use Rattle.timing.specs.Formulas.{wireDelay, wireLoad, gateDelay, registerDriver, registerLoad, setupDelay}
+use Rattle.timing.specs.Formulas.{wireDelay, wireLoad, gateDelay, skewed, registerDriver, registerLoad, setupDelay}
 use Rattle.timing.specs.Elements.{registerOf, driverOf}
 use Rattle.timing.specs.Relaxed.{atPeriod, relaxedWire, relaxedRegister, relaxed}
 use Rattle.rules.specs.Rules.{Rules, wireBetween, siteOf, rulesOf}
@@ -29,7 +29,7 @@ module _ (p : Plan) (e : Elements) (from to : ℕ) where
   R d = rulesOf p d from to
 
   pub relaxed-timeless : (loads : Bool) → Timeless (rulesOf p (relaxed loads e) from to)
-  unfolding rulesOf relaxed wireBetween relaxedRegister registerOf driverOf registerDriver setupDelay gateDelay
+  unfolding rulesOf relaxed wireBetween relaxedRegister registerOf driverOf skewed registerDriver setupDelay gateDelay
   relaxed-timeless loads =
       record {
         wires = λ a b load. wire (horizontal p a b) load;

@@ -12,3 +12,4 @@ pub mod Crossing
 pub mod Looser
 pub mod LeftOut
 pub mod Slack
+pub mod Skew

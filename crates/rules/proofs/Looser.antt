@@ -9,7 +9,7 @@ use Rattle.plan.specs.Joined.{horizontal}
 use Rattle.timing.specs.declared.elements.Wire.{Wire}
 use Rattle.timing.specs.declared.elements.Buffer.{Buffer}
 use Rattle.timing.specs.declared.elements.Elements.{Elements}
-use Rattle.timing.specs.Formulas.{registerDriver, registerLoad, setupDelay}
+use Rattle.timing.specs.Formulas.{skewed, registerDriver, registerLoad, setupDelay}
 use Rattle.timing.specs.Elements.{bufferOf, registerOf, driverOf}
 use Rattle.timing.proofs.Relaxed.{buffer-at, wire-load, wire-quick, buffer-load, buffer-quick}
 use Rattle.timing.specs.Relaxed.{atPeriod, relaxedWire, relaxedBuffer, relaxedRegister, relaxed}
@@ -31,7 +31,7 @@ pub record Looser (d e : Elements) : Type 0 where
   pub vertical : NotWorseWire (e .vertical) (d .vertical)
   pub load : registerLoad (e .register) ≤ registerLoad (d .register)
   pub setup : setupDelay (e .register) ≤ setupDelay (d .register)
-  pub driver : Quicker (registerDriver (e .register)) (registerDriver (d .register))
+  pub driver : Quicker (skewed (e .skew) (registerDriver (e .register))) (skewed (d .skew) (registerDriver (d .register)))
   pub count : d .count ≡ e .count
   pub buffers : (i : ℕ) → NotWorseBuffer (bufferAt e i) (bufferAt d i)
 
@@ -74,7 +74,7 @@ later-looser e t u h =
       vertical = wire-grows (e .vertical);
       load = omega arith;
       setup = omega arith;
-      driver = driver-grows (registerDriver (e .register));
+      driver = driver-grows (skewed (e .skew) (registerDriver (e .register)));
       count = refl;
       buffers = λ i. buffer-grows (bufferAt e i);
     }
@@ -95,7 +95,7 @@ bare-looser e =
       vertical = bare-wire (e .vertical);
       load = omega arith;
       setup = omega arith;
-      driver = driver-grows (driverOf 0 0);
+      driver = driver-grows (skewed 0 (driverOf 0 0));
       count = refl;
       buffers = λ i. rw (buffer-at true (e .buffers) i, buffer-at false (e .buffers) i) (bare-buffer (bufferAt e i));
     }

@@ -7,7 +7,7 @@ use Rattle.plan.specs.Plan.{Plan, marksAt, tap}
 use Rattle.timing.specs.declared.elements.Register.{Register}
 use Rattle.timing.specs.declared.elements.Elements.{Elements}
 use Rattle.timing.specs.declared.clocks.Clocks.{Clocks}
-use Rattle.timing.specs.Formulas.{registerDriver, registerLoad, setupDelay}
+use Rattle.timing.specs.Formulas.{skewed, registerDriver, registerLoad, setupDelay}
 use Rattle.rules.specs.Rules.{Rules, fifoCode, rulesOf}
 use Rattle.rules.specs.Legal.{Route}
 use Rattle.rules.specs.Ranking.{codeSevens}
@@ -40,7 +40,7 @@ rulesBetween p e x from to =
       buffer = R .buffer;
       start = R .start;
       fresh = λ code. record { load = registerLoad (gateFor e x code); delay = setupDelay (gateFor e x code) };
-      closer = λ cell code. registerDriver (gateFor e x code);
+      closer = λ cell code. skewed (e .skew) (registerDriver (gateFor e x code));
       fifos = x .fifos;
       -- at most twice the span's own period
       bound = λ span f. 2 * periodOn e x f + 1;

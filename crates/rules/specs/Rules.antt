@@ -10,7 +10,7 @@ use Rattle.timing.specs.declared.elements.Wire.{Wire}
 use Rattle.timing.specs.declared.elements.Driver.{Driver}
 use Rattle.timing.specs.declared.elements.Buffer.{Buffer}
 use Rattle.timing.specs.declared.elements.Elements.{Elements}
-use Rattle.timing.specs.Formulas.{registerDriver, registerLoad, setupDelay}
+use Rattle.timing.specs.Formulas.{skewed, registerDriver, registerLoad, setupDelay}
 use Rattle.timing.specs.Elements.{bufferOf}
 
 -- load, and delay in half-ticks, at a visit
@@ -84,7 +84,8 @@ rulesOf p e from to =
       buffer = λ code. getD (e .buffers) (code - 1) (bufferOf 0 0 0);
       start = record { load = registerLoad (e .register); delay = setupDelay (e .register) };
       fresh = λ code. record { load = registerLoad (e .register); delay = setupDelay (e .register) };
-      closer = λ cell code. registerDriver (e .register);
+      -- with the skew in its delay (document 02, C-16): a closing delay plus twice the skew is at most 2T (`in-time` in proofs/Skew.antt)
+      closer = λ cell code. skewed (e .skew) (registerDriver (e .register));
       fifos = 0;
       -- at most 2T
       bound = λ span fifos. 2 * e .period + 1;

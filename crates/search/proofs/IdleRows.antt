@@ -10,6 +10,7 @@ use lib.ListN.{getD}
 use Rattle.timing.specs.declared.elements.Driver.{Driver}
 use Rattle.timing.specs.Formulas.{wireLoad, gateDelay, registerDriver}
 use Rattle.timing.specs.Valid.{Valid}
+use Rattle.timing.proofs.Skew.{skew-paid}
 use Rattle.plan.specs.Joined.{horizontal}
 use Rattle.plan.proofs.Truth.{is-true}
 use Rattle.rules.specs.Rules.{registerCode, fifoCode, rulesOf, wireBetween}
@@ -39,7 +40,7 @@ module _ (net : Net) (valid : Valid (net .problem .elements)) (marks : List ℕ)
       go true = h
       go false = v
 
-  -- the rows say what closing costs
+  -- the rows say what closing costs, but for the skew
   no-quicker : (costs : List ℕ) (a b at bt from : ℕ) → RowAt (gateCost (registerDriver (gateFor (net .problem .elements) (net .clocks) a)) (net .problem .elements .limit .0)) at costs → RowAt (gateCost (registerDriver (gateFor (net .problem .elements) (net .clocks) b)) (net .problem .elements .limit .0)) bt costs → from ≤ wireLoad (net .problem .elements .horizontal) → from ≤ wireLoad (net .problem .elements .vertical) → ((l : ℕ) → from ≤ l → l < rowWords → getD costs (bt + l) 0 ≤ getD costs (at + l) 0) → NoQuicker (netRules net marks) a b
   unfolding closeCost loadAt
   no-quicker costs a b at bt from rowA rowB h v less n c l linked fits =
@@ -53,6 +54,8 @@ module _ (net : Net) (valid : Valid (net .problem .elements)) (marks : List ℕ)
         less x (omega (arith, wire-least from h v c n)) short,
         rowA x short,
         rowB x short,
+        skew-paid (net .problem .elements .skew) (registerDriver (gateFor (net .problem .elements) (net .clocks) a)) x,
+        skew-paid (net .problem .elements .skew) (registerDriver (gateFor (net .problem .elements) (net .clocks) b)) x,
         gate-cost (registerDriver (gateFor (net .problem .elements) (net .clocks) a)) (net .problem .elements .limit .0) x most,
         gate-cost (registerDriver (gateFor (net .problem .elements) (net .clocks) b)) (net .problem .elements .limit .0) x most,
       ))

@@ -9,7 +9,7 @@
 //     undo                   an undo
 //     depth D                puts D into the record
 //     byte AT VALUE          puts a byte into the journal
-//     tables R K C S R C R C T L     register, horizontal wire, vertical wire, period, load limit
+//     tables R K C S R C R C T SK L     register, horizontal wire, vertical wire, period, skew, load limit
 //     buffers N R K C ..     a list of N buffers, at most 20
 //     clocks TS R K C S      the source's period and the FIFO, for a net between two clocks
 //     scratch N              N scratch words are lent to each route, crossing or reason call, at most 524,288, which is what it starts with

@@ -5,7 +5,7 @@ use mathlib.Core.Bool.{false}
 use mathlib.Core.List.{List}
 use native.Mathlib.Omega.{arith}
 use lib.ListN.{length, getD}
-use Rattle.timing.specs.Formulas.{gateDelay, registerDriver, bufferLoad}
+use Rattle.timing.specs.Formulas.{gateDelay, skewed, registerDriver, bufferLoad}
 use Rattle.rules.specs.Rules.{Rules, rulesOf, registerCode}
 use Rattle.rows.specs.Rows.{viewOf}
 use Rattle.problem.specs.declared.Problem.{Problem}
@@ -23,7 +23,7 @@ module _ (p : Problem) (marks : List ℕ) where
   abbrev R : Rules
   R = rulesFor p marks
 
-  closer-named : (cell : ℕ) → R .closer cell registerCode ≡ registerDriver (p .elements .register)
+  closer-named : (cell : ℕ) → R .closer cell registerCode ≡ skewed (p .elements .skew) (registerDriver (p .elements .register))
   unfolding rulesFor rulesOf
   closer-named cell = refl
 
@@ -33,7 +33,7 @@ module _ (p : Problem) (marks : List ℕ) where
 
   module _ (t : ℕ) (old : List ℕ) (count cell load delay : ℕ) (asks : ArriveAsks p marks t old count cell load delay) where
     abbrev closing : ℕ
-    closing = delay + gateDelay (registerDriver (p .elements .register)) load
+    closing = delay + gateDelay (skewed (p .elements .skew) (registerDriver (p .elements .register))) load
 
     -- It has passed.
     module _ (mid : List ℕ) (c1 : ℕ) (e : Eased (length marks) (p .elements .limit .0) cell load delay old count mid c1) where

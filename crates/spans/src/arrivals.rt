@@ -65,7 +65,7 @@ fn ease_buffers(
     waiting
 }
 
-// The span closes at the cell with this delay. At the source the route ends; elsewhere the next span starts there, once the period allows it.
+// The span closes at the cell with this delay, the skew in it. At the source the route ends; elsewhere the next span starts there, once the period allows it.
 fn shut(
     plan: &[u8],
     scratch: &mut [u16],
@@ -134,6 +134,6 @@ pub fn arrive(
         }
     }
     let register = elements.register;
-    let closing = register.driver().after(load, delay).0;
+    let closing = register.closing(elements.skew, load, delay).0;
     shut(plan, scratch, p, period, cell, closing, waiting)
 }

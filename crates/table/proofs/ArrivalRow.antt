@@ -10,9 +10,11 @@ use lib.ListN.{length, getD}
 use Rattle.plan.specs.Plan.{marksAt}
 use Rattle.timing.specs.declared.elements.Register.{Register}
 use Rattle.timing.specs.declared.elements.Elements.{Elements}
-use Rattle.timing.specs.Formulas.{gateDelay, bufferDriver, bufferLoad, registerDriver}
+use Rattle.timing.specs.Formulas.{gateDelay, skewed, bufferDriver, bufferLoad, registerDriver}
+use Rattle.timing.proofs.Skew.{skew-paid}
 use Rattle.rules.specs.Rules.{Rules, noGate, registerCode, fifoCode}
 use Rattle.rules.specs.Legal.{mayStand}
+use Rattle.rules.specs.Crossing.{gateFor}
 use Rattle.plan.proofs.Truth.{both, parts, is-true, is-false, of-true, of-false, neqb→ne, ne→neqb}
 use Rattle.rules.proofs.Document01.{BufferSite, no-gate-stands, buffer-site, buffer-stands}
 use Rattle.rules.proofs.Clocks.{gate-register}
@@ -157,9 +159,16 @@ module _ (net : Net) (marks words : List ℕ) (cell : ℕ) (ready : NetReady net
   unfoldable pub through : ℕ → ℕ
   through l = only (leb l (e .limit .0)) (max (getD words (cell * rowWords + l) 0) (maxBelow 6 (λ i. viaBuffer R A cell l (suc i))))
 
-  -- what a close at a gate leaves of `top`
+  -- what twice the skew leaves of `top`
+  abbrev rest : ℕ → ℕ
+  rest top = top - 2 * e .skew
+
+  -- and what a close at a gate does
   abbrev left : ℕ → Register → ℕ → ℕ → ℕ
-  left code gate top l = cond (seedOf (length marks) words code cell) (top - gateDelay (registerDriver gate) l) 0
+  left code gate top l = cond (seedOf (length marks) words code cell) (rest top - gateDelay (registerDriver gate) l) 0
+
+  paid : (top l : ℕ) (gate : Register) → top - gateDelay (skewed (e .skew) (registerDriver gate)) l ≡ rest top - gateDelay (registerDriver gate) l
+  paid top l gate = omega (arith, skew-paid (e .skew) (registerDriver gate) l)
 
   passes : T (mayStand R cell noGate)
   unfolding rulesFor
@@ -170,7 +179,7 @@ module _ (net : Net) (marks words : List ℕ) (cell : ℕ) (ready : NetReady net
   unfolding arrival viaClose closeCost only fifoOf
   whole top l h =
       simp
-      (is-true (mayStand R cell noGate) passes, budget-word l h, limit-named net marks, net-closer net marks cell registerCode, net-closer net marks cell fifoCode, gate-register e (net .clocks))
+      (is-true (mayStand R cell noGate) passes, budget-word l h, limit-named net marks, net-closer net marks cell registerCode, net-closer net marks cell fifoCode, gate-register e (net .clocks), paid top l (e .register), paid top l (gateFor e (net .clocks) fifoCode))
 
   pub limited-through : site p marks cell ≡ false → (l : ℕ) → limited words cell (e .limit .0) l ≡ through l
   unfolding through
@@ -194,17 +203,17 @@ module _ (net : Net) (marks words : List ℕ) (cell : ℕ) (ready : NetReady net
     abbrev before : ℕ
     before = max (getD words (cell * rowWords + l) 0) (maxBelow 6 (λ i. viaBuffer R A cell l (suc i)))
 
-    after-register : getD mid (to + l) 0 ≡ through l → getD past (to + l) 0 ≡ seeded (seedOf (length marks) words registerCode cell) mid to top costs registerAt l → getD past (to + l) 0 ≡ cond within (max before (left registerCode (e .register) top l)) 0
+    after-register : getD mid (to + l) 0 ≡ through l → getD past (to + l) 0 ≡ seeded (seedOf (length marks) words registerCode cell) mid to (rest top) costs registerAt l → getD past (to + l) 0 ≡ cond within (max before (left registerCode (e .register) top l)) 0
     unfolding through seeded only
     after-register here then =
         then
-        ∙ (ap (λ (z : ℕ). cond (seedOf (length marks) words registerCode cell) z (getD mid (to + l) 0)) (raised-driven mid to top costs registerAt (registerDriver (e .register)) (e .limit .0) (costed .register) fits l h)
-        ∙ raised-seed within (seedOf (length marks) words registerCode cell) (getD mid (to + l) 0) before (top - gateDelay (registerDriver (e .register)) l) here)
+        ∙ (ap (λ (z : ℕ). cond (seedOf (length marks) words registerCode cell) z (getD mid (to + l) 0)) (raised-driven mid to (rest top) costs registerAt (registerDriver (e .register)) (e .limit .0) (costed .register) (omega (arith, fits)) l h)
+        ∙ raised-seed within (seedOf (length marks) words registerCode cell) (getD mid (to + l) 0) before (rest top - gateDelay (registerDriver (e .register)) l) here)
 
-    pub seeded-arrival : getD mid (to + l) 0 ≡ through l → getD past (to + l) 0 ≡ seeded (seedOf (length marks) words registerCode cell) mid to top costs registerAt l → seeded (seedOf (length marks) words fifoCode cell) past to top costs fifoAt l ≡ arrival R (seedOf (length marks) words) top A cell l
+    pub seeded-arrival : getD mid (to + l) 0 ≡ through l → getD past (to + l) 0 ≡ seeded (seedOf (length marks) words registerCode cell) mid to (rest top) costs registerAt l → seeded (seedOf (length marks) words fifoCode cell) past to (rest top) costs fifoAt l ≡ arrival R (seedOf (length marks) words) top A cell l
     unfolding seeded only
     seeded-arrival here then =
-        ap (λ (z : ℕ). cond (seedOf (length marks) words fifoCode cell) z (getD past (to + l) 0)) (raised-driven past to top costs fifoAt (registerDriver (fifoOf net)) (e .limit .0) (costed .fifo) fits l h)
-        ∙ (raised-seed within (seedOf (length marks) words fifoCode cell) (getD past (to + l) 0) (max before (left registerCode (e .register) top l)) (top - gateDelay (registerDriver (fifoOf net)) l) (after-register here then)
+        ap (λ (z : ℕ). cond (seedOf (length marks) words fifoCode cell) z (getD past (to + l) 0)) (raised-driven past to (rest top) costs fifoAt (registerDriver (fifoOf net)) (e .limit .0) (costed .fifo) (omega (arith, fits)) l h)
+        ∙ (raised-seed within (seedOf (length marks) words fifoCode cell) (getD past (to + l) 0) (max before (left registerCode (e .register) top l)) (rest top - gateDelay (registerDriver (fifoOf net)) l) (after-register here then)
         ∙ (regrouped within (getD words (cell * rowWords + l) 0) (maxBelow 6 (λ i. viaBuffer R A cell l (suc i))) (left registerCode (e .register) top l) (left fifoCode (fifoOf net) top l)
         ∙ sym (whole top l h)))

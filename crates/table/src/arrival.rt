@@ -1,8 +1,9 @@
 // The arrival row of one cell: its budget row, raised by what each gate that may stand there gives.
 ghost use mathlib.Core.Path.{_≡_};
-ghost use Prim.Native.Nat.{_+_, _*_};
+ghost use Prim.Native.Nat.{_+_, _*_, _-_, _≤_};
 ghost use lib.ListN.{length, getD};
 ghost use Rattle.budget.specs.Table.{arrival};
+ghost use Rattle.timing.specs.Ranges.{skewMax};
 ghost use Rattle.layout.specs.Layout.{arrivalAt};
 ghost use Rattle.rows.specs.Words.{Filled};
 ghost use Rattle.costs.specs.Costs.{rowWords};
@@ -19,6 +20,7 @@ use layout::SEEDS;
 use plan::is_blocked;
 use problem::Net;
 use problem::Problem;
+use rows::above;
 use rows::copy_row;
 use rows::raise_row;
 use rows::view;
@@ -72,25 +74,27 @@ pub fn marks_seed(mark: u16, code: u16) -> bool
     mark == 15
 }
 
-// Where the word at `mark` says that a span may close with this code, the arrival row at `to` is raised to what the gate's costs at `base` leave of `top`.
+// Where the word at `mark` says that a span may close with this code, the arrival row at `to` is raised to what twice the skew and the gate's costs at `base` leave of `top`.
 fn raise_seed(
     scratch: &mut [u16],
     mark: usize,
     code: u16,
     to: usize,
     top: u16,
+    skew: u16,
     costs: &[u16; COSTS],
     base: usize,
 )
-    requires { ⌜ SeedAsks mark to base (now scratch) ⌝ }
-    ensures { λ _. ⌜ Filled (seeded (marksSeed (getD (now (scratch .entry)) mark 0) code) (now (scratch .entry)) to top (now (costs .entry)) base) to rowWords (now (scratch .entry)) (now (scratch .exit)) ⌝ }
+    requires { ⌜ SeedAsks mark to base (now scratch) × (skew ≤ skewMax) ⌝ }
+    ensures { λ _. ⌜ Filled (seeded (marksSeed (getD (now (scratch .entry)) mark 0) code) (now (scratch .entry)) to (top - 2 * skew) (now (costs .entry)) base) to rowWords (now (scratch .entry)) (now (scratch .exit)) ⌝ }
 {
     if marks_seed(scratch[mark], code) {
-        raise_row(scratch, to, top, costs, base);
+        let rest = above(top, 2 * skew);
+        raise_row(scratch, to, rest, costs, base);
     }
 }
 
-// The arrival row of a cell, in the one row that there is for it. A span may close there with a delay below `top`.
+// The arrival row of a cell, in the one row that there is for it. A span may close there with a delay, the skew in it, below `top`.
 pub fn fill_arrival(
     plan: &[u8],
     scratch: &mut [u16],
@@ -109,6 +113,7 @@ pub fn fill_arrival(
     if takes_buffers(plan[cell], net.problem, cell) {
         raise_buffers(scratch, cell, to, elements, costs);
     }
-    raise_seed(scratch, n * SEEDS + cell, 7, to, top, costs, REGISTER);
-    raise_seed(scratch, n * SEEDS + cell, 8, to, top, costs, FIFO);
+    let skew = elements.skew;
+    raise_seed(scratch, n * SEEDS + cell, 7, to, top, skew, costs, REGISTER);
+    raise_seed(scratch, n * SEEDS + cell, 8, to, top, skew, costs, FIFO);
 }

@@ -4,4 +4,5 @@ pub mod Checked
 pub mod OneClock
 pub mod Relaxed
 pub mod Signed
+pub mod Skew
 pub mod SlackLaws

@@ -51,6 +51,7 @@ period-valid e t v least most =
     record {
       least = least;
       most = most;
+      skew = v .skew;
       limit = v .limit;
       horizontal = v .horizontal;
       vertical = v .vertical;
@@ -87,6 +88,7 @@ module _ (loads : Bool) where
       record {
         least = v .least;
         most = v .most;
+        skew = omega arith;
         limit = v .limit;
         horizontal = wire-fits _ (v .horizontal);
         vertical = wire-fits _ (v .vertical);

@@ -14,6 +14,10 @@ wireDelay w load = w .resistance .0 * (2 * load + w .load .0)
 unfoldable pub gateDelay : Driver → ℕ → ℕ
 gateDelay g load = 2 * (g .resistance .0 * load + g .delay)
 
+-- What drives a span that closes, with the skew of the clock in its delay: 2·(R·load + K + skew). So a closing delay by it is document 01's "plus twice the skew" (document 02, C-16; `skew-paid` in proofs/Skew.antt).
+unfoldable pub skewed : ℕ → Driver → Driver
+skewed s g = record { resistance = g .resistance; delay = g .delay + s }
+
 -- the load that one step of wire adds
 unfoldable pub wireLoad : Wire → ℕ
 wireLoad w = w .load .0

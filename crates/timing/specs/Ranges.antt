@@ -24,6 +24,10 @@ periodMin = 1
 abbrev pub periodMax : ℕ
 periodMax = 30000
 
+-- the skew, in ticks (document 02, C-16)
+abbrev pub skewMax : ℕ
+skewMax = 30000
+
 -- the longest list of buffers
 abbrev pub buffersMax : ℕ
 buffersMax = 6

@@ -13,6 +13,7 @@ unfoldable pub atPeriod : ℕ → Elements → Elements
 atPeriod t e =
     record {
       period = t;
+      skew = e .skew;
       limit = e .limit;
       horizontal = e .horizontal;
       vertical = e .vertical;
@@ -21,7 +22,7 @@ atPeriod t e =
       buffers = e .buffers;
     }
 
--- every R and K and the setup are 0; the loads C stay where `loads`, and are 0 elsewhere
+-- every R and K, the setup and the skew are 0; the loads C stay where `loads`, and are 0 elsewhere
 
 unfoldable pub relaxedWire : Bool → Wire → Wire
 relaxedWire loads w = wireOf 0 (cond loads (wireLoad w) 0)
@@ -36,6 +37,7 @@ unfoldable pub relaxed : Bool → Elements → Elements
 relaxed loads e =
     record {
       period = e .period;
+      skew = 0;
       limit = e .limit;
       horizontal = relaxedWire loads (e .horizontal);
       vertical = relaxedWire loads (e .vertical);

@@ -12,7 +12,7 @@ missMost = 1000000000
 abbrev pub slackMost : ℤ
 slackMost = pos 60000
 
--- "2T less the closing delay, zero when it just fits, below zero by the miss, at lowest -1,000,000,000"; `allowed` is 2T, `used` the closing delay
+-- "2T less the closing delay, zero when it just fits, below zero by the miss, at lowest -1,000,000,000"; `allowed` is 2T, `used` the closing delay with the skew in it ("The spare figure is after skew")
 unfoldable pub slackOf : ℕ → ℕ → ℤ
 slackOf allowed used = pos allowed -ℤ pos (min used (allowed + missMost))
 

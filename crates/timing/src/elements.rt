@@ -2,11 +2,11 @@
 ghost use mathlib.Core.Path.{_≡_};
 ghost use mathlib.Core.List.{map};
 ghost use Prim.Native.Nat.{_+_, _*_, _≤_};
-ghost use Rattle.timing.specs.Ranges.{loadMax, periodMax, sumMost};
+ghost use Rattle.timing.specs.Ranges.{loadMax, periodMax, skewMax, sumMost};
 ghost use Rattle.timing.specs.Valid.{Valid};
 ghost use Rattle.timing.specs.Slack.{slackOf};
 ghost use Rattle.timing.specs.Relaxed.{atPeriod, relaxedWire, relaxedBuffer, relaxedRegister, relaxed};
-ghost use Rattle.timing.specs.Formulas.{wireDelay, gateDelay, wireLoad, bufferDriver, bufferLoad, registerDriver, registerLoad, setupDelay};
+ghost use Rattle.timing.specs.Formulas.{wireDelay, gateDelay, skewed, wireLoad, bufferDriver, bufferLoad, registerDriver, registerLoad, setupDelay};
 ghost use Rattle.timing.specs.Elements.{WireInRange, DriverInRange, RegisterInRange, checkedWire, checkedBuffer, checkedRegister, wireOf, bufferOf, registerOf};
 use crate::units::HalfTicks;
 use crate::units::Load;
@@ -36,9 +36,10 @@ pub struct Register {
     setup: u16,
 }
 
-// The checked tables: codes 1 to count are the first buffers. The period is in ticks.
+// The checked tables: codes 1 to count are the first buffers. The period and the skew are in ticks.
 pub struct Elements {
     pub period: u16,
+    pub skew: u16,
     pub limit: Load,
     pub horizontal: Wire,
     pub vertical: Wire,
@@ -68,6 +69,8 @@ impl Elements {
 
     pub const PERIOD_MAX: u16 = 30_000;
 
+    pub const SKEW_MAX: u16 = 30_000;
+
     pub const LIMIT_MAX: u16 = Load::MAX;
 
     pub const BUFFERS_MAX: usize = 6;
@@ -75,10 +78,10 @@ impl Elements {
     // The spare half-ticks of a span that comes to a register with this load and delay and closes there.
     pub fn slack(self, load: Load, delay: HalfTicks) -> i32
         requires { ⌜ Valid self × ((load .0 ≤ loadMax) × (delay .0 ≤ sumMost)) ⌝ }
-        ensures { λ r. ⌜ r ≡ slackOf (2 * self .period) (delay .0 + gateDelay (registerDriver (self .register)) (load .0)) ⌝ }
+        ensures { λ r. ⌜ r ≡ slackOf (2 * self .period) (delay .0 + gateDelay (skewed (self .skew) (registerDriver (self .register))) (load .0)) ⌝ }
     {
         let register = self.register;
-        register.slack(self.period, load, delay)
+        register.slack(self.period, self.skew, load, delay)
     }
 
     // The same tables with another period, in ticks.
@@ -90,7 +93,7 @@ impl Elements {
         e
     }
 
-    // The same tables with every delay left out, and every load too unless `loads`.
+    // The same tables with every delay and the skew left out, and every load too unless `loads`.
     pub fn relaxed(self, loads: bool) -> Elements
         ensures { λ r. ⌜ r ≡ relaxed loads self ⌝ }
     {
@@ -100,6 +103,7 @@ impl Elements {
         let given = self.buffers;
         let buffers = relaxed_buffers(given, loads);
         let mut e = self;
+        e.skew = 0;
         e.horizontal = horizontal.relaxed(loads);
         e.vertical = vertical.relaxed(loads);
         e.register = register.relaxed(loads);
@@ -338,12 +342,21 @@ impl Register {
         }
     }
 
-    // The spare half-ticks of a span that comes here with this load and delay and closes, within this period in ticks. It is in time where they are not below zero.
-    pub fn slack(self, period: u16, load: Load, delay: HalfTicks) -> i32
-        requires { ⌜ RegisterInRange self × ((period ≤ periodMax) × ((load .0 ≤ loadMax) × (delay .0 ≤ sumMost))) ⌝ }
-        ensures { λ r. ⌜ r ≡ slackOf (2 * period) (delay .0 + gateDelay (registerDriver self) (load .0)) ⌝ }
+    // The closing delay of a span that comes here with this load and delay, and twice this skew, in ticks.
+    pub fn closing(self, skew: u16, load: Load, delay: HalfTicks) -> HalfTicks
+        requires { ⌜ RegisterInRange self × ((skew ≤ skewMax) × ((load .0 ≤ loadMax) × (delay .0 ≤ sumMost))) ⌝ }
+        ensures { λ r. ⌜ r .0 ≡ delay .0 + gateDelay (skewed skew (registerDriver self)) (load .0) ⌝ }
     {
-        self.driver().after(load, delay).slack(period)
+        let after = self.driver().after(load, delay);
+        after.plus(HalfTicks(2 * skew as u32))
+    }
+
+    // The spare half-ticks of a span that comes here with this load and delay and closes, within this period and with this skew, in ticks. It is in time where they are not below zero.
+    pub fn slack(self, period: u16, skew: u16, load: Load, delay: HalfTicks) -> i32
+        requires { ⌜ RegisterInRange self × ((period ≤ periodMax) × ((skew ≤ skewMax) × ((load .0 ≤ loadMax) × (delay .0 ≤ sumMost)))) ⌝ }
+        ensures { λ r. ⌜ r ≡ slackOf (2 * period) (delay .0 + gateDelay (skewed skew (registerDriver self)) (load .0)) ⌝ }
+    {
+        self.closing(skew, load, delay).slack(period)
     }
 
     // The delay with which a span starts at this register.

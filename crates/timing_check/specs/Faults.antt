@@ -1,7 +1,7 @@
 -- The tables that the checks vary, and a number for each fault of theirs.
 use Prim.Native.Nat.{ℕ}
 use mathlib.Core.List.{[], _∷_}
-use Rattle.answers.specs.declared.answer.Fault.the-variants.{Period, SourcePeriod, SinkPeriod, Limit, Horizontal, Vertical, Register, Fifo, Count, Buffer}
+use Rattle.answers.specs.declared.answer.Fault.the-variants.{Period, SourcePeriod, SinkPeriod, Skew, Limit, Horizontal, Vertical, Register, Fifo, Count, Buffer}
 use Rattle.answers.specs.declared.tables.ElementFault.{ElementFault}
 use Rattle.answers.specs.declared.tables.ElementFault.the-variants.{Nothing, At}
 use Rattle.answers.specs.declared.records.Tables.{Tables}
@@ -23,16 +23,18 @@ faultNumber (At Count) = 106
 faultNumber (At SourcePeriod) = 107
 faultNumber (At SinkPeriod) = 108
 faultNumber (At Fifo) = 109
+faultNumber (At Skew) = 110
 faultNumber (At (Buffer place)) = place
 
--- the strip's tables, with these numbers for period, limit, the resistances of wires and register
-unfoldable pub tablesWith : ℕ → ℕ → ℕ → ℕ → ℕ → Tables
-tablesWith p l h v r =
+-- the strip's tables, with these numbers for period, skew, limit, the resistances of wires and register
+unfoldable pub tablesWith : ℕ → ℕ → ℕ → ℕ → ℕ → ℕ → Tables
+tablesWith p sk l h v r =
     record {
       register = record { resistance = r; delay = 2; load = 1; setup = 1 };
       horizontal = record { resistance = h; load = 3 };
       vertical = record { resistance = v; load = 3 };
       period = p;
+      skew = sk;
       limit = l;
     }
 
@@ -44,8 +46,8 @@ listWith n b =
       items = noBuffer ∷ record { resistance = b; delay = 1; load = 1 } ∷ noBuffer ∷ noBuffer ∷ noBuffer ∷ noBuffer ∷ [];
     }
 
-unfoldable pub faultWith : ℕ → ℕ → ℕ → ℕ → ℕ → ℕ → ℕ → ℕ
-faultWith p l h v r n b = faultNumber (tablesFault (tablesWith p l h v r) (listWith n b))
+unfoldable pub faultWith : ℕ → ℕ → ℕ → ℕ → ℕ → ℕ → ℕ → ℕ → ℕ
+faultWith p sk l h v r n b = faultNumber (tablesFault (tablesWith p sk l h v r) (listWith n b))
 
 -- the source's period and a FIFO with these numbers
 unfoldable pub crossingWith : ℕ → ℕ → ℕ → ℕ → ℕ → Crossing

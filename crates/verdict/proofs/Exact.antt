@@ -59,7 +59,7 @@ module _ (q : Question) (ws : List ℕ) where
   unfolding verdictOf verdictAfter
   answered v other = go checked refl
     where
-      go : (k : Check) → checked ≡ k → verdictAfter k q ws ≡ v → Judgeable q ws
+      go : (k : Check) → checked ≡ k → verdictAfter k (rulesAsked q) ws ≡ v → Judgeable q ws
       go passes e h = judgeable e
       go (fails r) e h = absurd (other r h)
 
@@ -67,7 +67,7 @@ module _ (q : Question) (ws : List ℕ) where
   unfolding verdictOf verdictAfter
   is-refused r = go checked refl
     where
-      go : (k : Check) → checked ≡ k → verdictAfter k q ws ≡ Refused r → checked ≡ fails r
+      go : (k : Check) → checked ≡ k → verdictAfter k (rulesAsked q) ws ≡ Refused r → checked ≡ fails r
       go passes e h = absurd (judge-answers (rulesAsked q) (routeIn ws) r h)
       go (fails s) e h = e ∙ cc
 

@@ -14,7 +14,7 @@ use Rattle.plan.proofs.Truth.{is-true, is-false, or-right}
 use Rattle.timing.specs.declared.elements.Elements.{Elements}
 use Rattle.timing.specs.declared.elements.Buffer.{Buffer}
 use Rattle.timing.specs.Elements.{bufferOf}
-use Rattle.timing.specs.Formulas.{gateDelay, bufferDriver, bufferLoad, registerDriver, registerLoad, setupDelay}
+use Rattle.timing.specs.Formulas.{gateDelay, bufferDriver, bufferLoad, skewed, registerDriver, registerLoad, setupDelay}
 use Rattle.timing.specs.Slack.{slackOf, smaller}
 use Rattle.timing.specs.Valid.{Valid}
 use Rattle.timing.proofs.SlackLaws.{slack-capped}
@@ -35,7 +35,7 @@ bufferOfCode e code = getD (e .buffers) (code - 1) (bufferOf 0 0 0)
 
 -- the figure that the code has for the close of a span at a point
 abbrev pub closeOf : Elements → Point → ℤ
-closeOf e at = slackOf (2 * e .period) (at .delay .0 + gateDelay (registerDriver (e .register)) (at .load .0))
+closeOf e at = slackOf (2 * e .period) (at .delay .0 + gateDelay (skewed (e .skew) (registerDriver (e .register))) (at .load .0))
 
 -- between the ends the register's own load is within the limit
 light-own : (last : Bool) (e : Elements) (own : ℕ) → (last || leb (registerLoad (e .register)) (e .limit .0)) ≡ true → last ≡ false → own ≡ registerLoad (e .register) → own ≤ e .limit .0
@@ -86,7 +86,7 @@ module _ (P : Plan) (e : Elements) (from to : ℕ) (last : Bool) (a : Place) (ce
       unfolding slackAt closing rulesOf
       close-is =
           let allowed : 2 * e .period + 1 - 1 ≡ 2 * e .period = omega arith in
-          rw (allowed, k .load, k .delay) (sym (slack-capped (2 * e .period) (s .delay) (gateDelay (registerDriver (e .register)) (s .load)) delayCap (omega (arith, v .most))))
+          rw (allowed, k .load, k .delay) (sym (slack-capped (2 * e .period) (s .delay) (gateDelay (skewed (e .skew) (registerDriver (e .register))) (s .load)) delayCap (omega (arith, v .most))))
 
       by-sign : (b : Bool) → ltZ (closeOf e at) (pos 0) ≡ b → inTime R (a .span) (a .fifos) s (visit registerCode) ≡ not b
       unfolding rulesOf

@@ -68,11 +68,14 @@ unfoldable pub judgeRoute : Rules → Route → Verdict
 judgeRoute R [] = Accepted slackMost
 judgeRoute R (v ∷ vs) = elim (firstCheck R v) [ wrong f ↦ AtFault 0 f | right ↦ judgeFrom R 1 (startPlace R v) slackMost vs ]
 
--- Refusals 1 to 5, then 17; then the verdict.
+-- Refusals 1 to 5, then 17; then the verdict. It is told under any rules R; the call's own are those of the question.
 
-unfoldable pub verdictAfter : Check → Question → List ℕ → Verdict
-verdictAfter passes q ws = judgeRoute (rulesAsked q) (routeIn ws)
-verdictAfter (fails r) q ws = Refused r
+unfoldable pub verdictAfter : Check → Rules → List ℕ → Verdict
+verdictAfter passes R ws = judgeRoute R (routeIn ws)
+verdictAfter (fails r) R ws = Refused r
+
+abbrev pub verdictUnder : Rules → Question → List ℕ → Verdict
+verdictUnder R q ws = verdictAfter (questionChecks q (orElse (badList ws) Refusal.RouteList passes)) R ws
 
 unfoldable pub verdictOf : Question → List ℕ → Verdict
-verdictOf q ws = verdictAfter (questionChecks q (orElse (badList ws) Refusal.RouteList passes)) q ws
+verdictOf q ws = verdictUnder (rulesAsked q) q ws

@@ -33,7 +33,7 @@ period-requires c κs = search needs
 slack-requires : tie.Need-slack-requires
 slack-requires c κs =
     let start = c .before .before .before .before .before .before in
-    (rw (c .before .gate .ensures) (net-gate-in (start .args .net) (start .args .plan .now) (start .pre .0 .ready) _), (rw (c .period .ensures) (period-most (start .args .net) (start .args .plan .now) (start .pre .0 .ready) (start .args .at)), (start .pre .0 .light, omega (arith, start .pre .0 .early))))
+    (rw (c .before .gate .ensures) (net-gate-in (start .args .net) (start .args .plan .now) (start .pre .0 .ready) _), (rw (c .period .ensures) (period-most (start .args .net) (start .args .plan .now) (start .pre .0 .ready) (start .args .at)), (start .pre .0 .ready .ready .valid .skew, (start .pre .0 .light, omega (arith, start .pre .0 .early)))))
 
 returns-2 : tie.Need-returns-2
 returns-2 c =

@@ -44,7 +44,7 @@ period-requires c κs = search needs
 slack-requires : tie.Need-slack-requires
 slack-requires c κs =
     let start = c .before .before .before .before in
-    (rw (c .before .gate .ensures) (start .pre .gate), (rw (c .period .ensures) (start .pre .period), (start .pre .light, omega (arith, start .pre .early))))
+    (rw (c .before .gate .ensures) (start .pre .gate), (rw (c .period .ensures) (start .pre .period), (start .pre .valid .skew, (start .pre .light, omega (arith, start .pre .early)))))
 
 side-after-requires : tie.Need-side-after-requires
 side-after-requires c κs = search needs

@@ -21,7 +21,9 @@ mul-cells : tie.Need-mul-cells
 mul-cells c = search needs
 
 slice-aggregate-route-with : tie.Need-slice-aggregate-route-with
-slice-aggregate-route-with c = sym (length-take-le (c .before .before .before .before .before .before .before .before .before .before .args .asked .width * c .before .before .before .before .before .before .before .before .before .before .args .asked .height) (c .before .before .before .before .before .before .before .before .before .before .args .plan .now) (omega arith))
+slice-aggregate-route-with c =
+    let start = c .before .before .before .before .before .before .before .before .before .before in
+    sym (length-take-le (start .args .asked .width * start .args .asked .height) (start .args .plan .now) (omega (arith, start .pre .0)))
 
 route-with-requires : tie.Need-route-with-requires
 route-with-requires c κs = search needs

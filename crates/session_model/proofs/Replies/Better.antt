@@ -35,7 +35,7 @@ module _ (q : Question) (a b : List ℕ) where
   compare-only (secondBetter pass h k) = rw pass (sym (better-second (rulesAsked q) (routeIn a) (routeIn b) .1 (h, k)))
   compare-only (neitherLegal pass h k) = rw pass (sym (better-none (rulesAsked q) (routeIn a) (routeIn b) .1 (h, k)))
 
-  after-checks : (k : Check) → listChecks q (badList a || badList b) ≡ k → CompareAnswered q a b (comparisonAfter k q a b)
+  after-checks : (k : Check) → listChecks q (badList a || badList b) ≡ k → CompareAnswered q a b (comparisonAfter k (rulesAsked q) a b)
   unfolding comparisonAfter comparisonFor
   after-checks (fails r) e = notCompared r e
   after-checks passes e =

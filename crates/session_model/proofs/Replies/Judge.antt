@@ -21,7 +21,7 @@ module _ (q : Question) (ws : List ℕ) where
   judge-only (isAccepted pass h) = rw pass (sym (legal-accepted (rulesAsked q) (routeIn ws) h))
   judge-only (isAtFault i f pass h) = rw pass (sym (fault-first (rulesAsked q) (routeIn ws) i f .1 h))
 
-  after-checks : (k : Check) → listChecks q (badList ws) ≡ k → JudgeAnswered q ws (verdictAfter k q ws)
+  after-checks : (k : Check) → listChecks q (badList ws) ≡ k → JudgeAnswered q ws (verdictAfter k (rulesAsked q) ws)
   unfolding verdictAfter
   after-checks (fails r) e = notJudged r e
   after-checks passes e = go (judgeRoute (rulesAsked q) (routeIn ws)) refl

@@ -8,7 +8,7 @@ use Rattle.answers.specs.declared.explained.Explained.{Explained}
 use Rattle.question.specs.Question.{Question, Check, passes, fails}
 use Rattle.router.specs.Route.{cellWords, checks, scratchOf}
 use Rattle.reasons.specs.Explains.{Explains}
-use Rattle.reasons.specs.Reasons.{explainedAfter, explainedOf}
+use Rattle.reasons.specs.Reasons.{rulesWith, explainedAfter, explainedOf}
 use Rattle.session_model.specs.Asks.Asking.{Asking, zeroedWords, zeros}
 
 -- the call is lent scratch words, too
@@ -36,7 +36,7 @@ explainGives q scratch =
 
 -- what the model gives: from the length of what is lent alone
 unfoldable pub explainAfter : Check → Question → ExplainReply
-explainAfter passes q = record { answer = explainedAfter passes q; zeroed = zeros cellWords q }
+explainAfter passes q = record { answer = explainedAfter passes (rulesWith q) q; zeroed = zeros cellWords q }
 explainAfter (fails r) q = record { answer = Explained.Refused r; zeroed = [] }
 
 unfoldable pub explainReply : Question → ℕ → ExplainReply

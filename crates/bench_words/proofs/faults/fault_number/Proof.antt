@@ -47,11 +47,17 @@ add-result-5 c = search needs
 enum-told-9 : tie.Need-enum-told-9
 enum-told-9 c = search needs
 
+add-result-6 : tie.Need-add-result-6
+add-result-6 c = search needs
+
+enum-told-10 : tie.Need-enum-told-10
+enum-told-10 c = search needs
+
 mul-result : tie.Need-mul-result
 mul-result c = search needs
 
-add-result-6 : tie.Need-add-result-6
-add-result-6 c = search needs
+add-result-7 : tie.Need-add-result-7
+add-result-7 c = search needs
 
 enum-known-fault : tie.Need-enum-known-fault
 enum-known-fault c = search needs
@@ -59,14 +65,14 @@ enum-known-fault c = search needs
 mul-result-2 : tie.Need-mul-result-2
 mul-result-2 c = search needs
 
-add-result-7 : tie.Need-add-result-7
-add-result-7 c = search needs
+add-result-8 : tie.Need-add-result-8
+add-result-8 c = search needs
 
 cast-result : tie.Need-cast-result
 cast-result c = search needs
 
-add-result-8 : tie.Need-add-result-8
-add-result-8 c = search needs
+add-result-9 : tie.Need-add-result-9
+add-result-9 c = search needs
 
 returns : tie.Need-returns
 returns c = search needs
@@ -96,7 +102,10 @@ returns-9 : tie.Need-returns-9
 returns-9 c = sym (ap (faultPlace (c .before .before .args .clocks)) (c .enum-told9 .given .1))
 
 returns-10 : tie.Need-returns-10
-returns-10 c = sym (ap (faultPlace (c .before .before .before .args .clocks)) (c .before .fault .given .1))
+returns-10 c = sym (ap (faultPlace (c .before .before .args .clocks)) (c .enum-told10 .given .1))
+
+returns-11 : tie.Need-returns-11
+returns-11 c = sym (ap (faultPlace (c .before .before .before .args .clocks)) (c .before .fault .given .1))
 
 pub fault-number-spec : {M : Type 1} → statement M
 fault-number-spec =
@@ -116,13 +125,15 @@ fault-number-spec =
     enum-told-8
     add-result-5
     enum-told-9
-    mul-result
     add-result-6
+    enum-told-10
+    mul-result
+    add-result-7
     enum-known-fault
     mul-result-2
-    add-result-7
-    cast-result
     add-result-8
+    cast-result
+    add-result-9
     returns
     returns-2
     returns-3
@@ -132,4 +143,5 @@ fault-number-spec =
     returns-7
     returns-8
     returns-9
-    returns-10)
+    returns-10
+    returns-11)

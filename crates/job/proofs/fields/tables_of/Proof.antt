@@ -1,4 +1,4 @@
--- `job::fields::tables_of` meets its contract: ten words in the order of the fields.
+-- `job::fields::tables_of` meets its contract: eleven words in the order of the fields.
 use mathlib.Core.Path.{refl}
 use borrow.Author.Needs.{needs}
 use Rattle.job.specs.Fields.{tablesOf}
@@ -35,6 +35,9 @@ shared-slice-read-t22 c = search needs
 shared-slice-read-t24 : tie.Need-shared-slice-read-t24
 shared-slice-read-t24 c = search needs
 
+shared-slice-read-t26 : tie.Need-shared-slice-read-t26
+shared-slice-read-t26 c = search needs
+
 returns : tie.Need-returns
 unfolding tablesOf
 returns c = refl
@@ -53,4 +56,5 @@ tables-of-spec =
     shared-slice-read-t19
     shared-slice-read-t22
     shared-slice-read-t24
+    shared-slice-read-t26
     returns)

@@ -6,13 +6,11 @@ use borrow.Author.Needs.{needs}
 use borrow.Author.Tests.{not-true, not-false}
 use lib.Dec.{T-not}
 use Rattle.plan.proofs.Truth.{of-true, of-false}
-use Rattle.timing.specs.Formulas.{registerDriver}
 use Rattle.rules.specs.Rules.{registerCode}
 use Rattle.rules.specs.Legal.{mayStand}
 use Rattle.problem.specs.Problem.{rulesFor}
 use Rattle.spans.specs.Opens.{MayClose}
 use Rattle.spans.proofs.Eases.{ground-space, limit-row}
-use Rattle.costs.proofs.Checked.{register-driver-fits}
 use Rattle.spans.proofs.Arriving.{source-named, passed-asks, Through, through-none, through-buffers, arrived-open, shut-asks, arrived-shut}
 use Rattle.spans.proofs.arrivals.arrive.Statement.{statement}
 use Rattle.spans.proofs.arrivals.arrive.Tie as tie
@@ -76,31 +74,26 @@ returns c =
     let may = mayStand (rulesFor (a .p) (a .plan .now)) (a .cell) registerCode in
     arrived-open (a .p) (a .plan .now) (a .period) (a .scratch .now) (a .count) (a .cell) (a .load .0) (a .delay .0) (start .pre) _ _ (through (c .before .before .before .before)) (⊎-elim (λ e. c .before .before .if2 .taken (e ∙ source-named (a .p) (a .plan .now))) (λ t. T-not may (of-false may (sym (c .before .may-register .ensures) ∙ not-true _ (c .if3 .taken))) t))
 
-driver-requires : tie.Need-driver-requires
-driver-requires c κs = search needs
-
-after-requires : tie.Need-after-requires
-after-requires c κs =
-    let start = c .before .before .before .before .before .before .before .before .before .before .before .before .before .before .before .before .before in
-    let driver : c .driver .result ≡ registerDriver (start .args .p .elements .register) = c .driver .ensures in
+closing-requires : tie.Need-closing-requires
+closing-requires c κs =
+    let start = c .before .before .before .before .before .before .before .before .before .before .before .before .before .before .before .before in
     let v = start .pre .ground .ready .valid in
-    (rw driver (register-driver-fits v), (omega (arith, start .pre .light, v .limit), omega (arith, start .pre .early)))
+    (v .register, (omega (arith, v .skew), (omega (arith, start .pre .light, v .limit), omega (arith, start .pre .early))))
 
 shut-requires : tie.Need-shut-requires
 shut-requires c κs =
-    let start = c .before .before .before .before .before .before .before .before .before .before .before .before .before .before .before .before .before .before .before in
+    let start = c .before .before .before .before .before .before .before .before .before .before .before .before .before .before .before .before .before .before in
     let a = start .args in
-    let after = c .before .after .ensures in
-    rw (after, c .before .before .driver .ensures) (shut-asks (a .p) (a .plan .now) (a .period) (a .scratch .now) (a .count) (a .cell) (a .load .0) (a .delay .0) (start .pre) _ _ (through (c .before .before .before .before .before .before)) (closes (c .before .before .before .before)))
+    rw (c .before .closing .ensures) (shut-asks (a .p) (a .plan .now) (a .period) (a .scratch .now) (a .count) (a .cell) (a .load .0) (a .delay .0) (start .pre) _ _ (through (c .before .before .before .before .before)) (closes (c .before .before .before)))
 
 same-length-2 : tie.Need-same-length-2
-same-length-2 c = c .before .before .shut .ensures .0 .same ∙ through (c .before .before .before .before .before .before .before .before .before) .eases .same
+same-length-2 c = c .before .before .shut .ensures .0 .same ∙ through (c .before .before .before .before .before .before .before .before) .eases .same
 
 returns-2 : tie.Need-returns-2
 returns-2 c =
-    let start = c .before .before .before .before .before .before .before .before .before .before .before .before .before .before .before .before .before .before .before .before .before .before in
+    let start = c .before .before .before .before .before .before .before .before .before .before .before .before .before .before .before .before .before .before .before .before .before in
     let a = start .args in
-    arrived-shut (a .p) (a .plan .now) (a .period) (a .scratch .now) (a .count) (a .cell) (a .load .0) (a .delay .0) (start .pre) _ _ (through (c .before .before .before .before .before .before .before .before .before)) _ _ (rw (c .before .before .before .before .after .ensures, c .before .before .before .before .before .driver .ensures) at (c .before .before .shut .ensures))
+    arrived-shut (a .p) (a .plan .now) (a .period) (a .scratch .now) (a .count) (a .cell) (a .load .0) (a .delay .0) (start .pre) _ _ (through (c .before .before .before .before .before .before .before .before)) _ _ (rw (c .before .before .before .before .closing .ensures) at (c .before .before .shut .ensures))
 
 pub arrive-spec : {M : Type 1} → statement M
 arrive-spec =
@@ -116,8 +109,7 @@ arrive-spec =
     may-register-requires
     same-length
     returns
-    driver-requires
-    after-requires
+    closing-requires
     shut-requires
     same-length-2
     returns-2)

@@ -1,5 +1,5 @@
 -- The row is `through` after the buffers (`mid`), whichever way the test of the site went, and `arrival` after the tries to close there. The seed mark lies beyond the rows, so it is as it was.
-use Prim.Native.Nat.{_+_, _*_}
+use Prim.Native.Nat.{_+_, _*_, _-_}
 use mathlib.Core.Path.{_≡_, sym, _∙_}
 use mathlib.Core.Logic.{⊎-elim}
 use native.Mathlib.Omega.{arith}
@@ -68,12 +68,14 @@ mid c =
 
 raise-seed-requires : tie.Need-raise-seed-requires
 raise-seed-requires c κs =
-    let start = c .before .before .before .before .before .before .before .before .before .before .before in
-    record {
-      markIn = omega (arith, mid (c .before) .same, start .pre .inside, start .pre .room);
-      rowIn = omega (arith, mid (c .before) .same, start .pre .inside, start .pre .room);
-      costsIn = omega arith;
-    }
+    let start = c .before .before .before .before .before .before .before .before .before .before .before in (
+      record {
+        markIn = omega (arith, mid (c .before) .same, start .pre .inside, start .pre .room);
+        rowIn = omega (arith, mid (c .before) .same, start .pre .inside, start .pre .room);
+        costsIn = omega arith;
+      },
+      start .pre .ready .ready .valid .skew,
+    )
 
 mul-raise-seed-2 : tie.Need-mul-raise-seed-2
 mul-raise-seed-2 c = search needs
@@ -85,12 +87,14 @@ raise-seed-requires-2 : tie.Need-raise-seed-requires-2
 raise-seed-requires-2 c κs =
     let join = c .before .before .before .before .before in
     let start = join .before .before .before .before .before .before .before .before .before .before in
-    let first = c .before .before .before .raise-seed .ensures .same in
-    record {
-      markIn = omega (arith, first, mid join .same, start .pre .inside, start .pre .room);
-      rowIn = omega (arith, first, mid join .same, start .pre .inside, start .pre .room);
-      costsIn = omega arith;
-    }
+    let first = c .before .before .before .raise-seed .ensures .same in (
+      record {
+        markIn = omega (arith, first, mid join .same, start .pre .inside, start .pre .room);
+        rowIn = omega (arith, first, mid join .same, start .pre .inside, start .pre .room);
+        costsIn = omega arith;
+      },
+      start .pre .ready .ready .valid .skew,
+    )
 
 same-length : tie.Need-same-length
 same-length c =
@@ -113,8 +117,8 @@ returns c =
     let to = n * arrivalAt in
     let at = n * seedsAt + a .cell in
     let past = c .before .before .before .before .before .before .raise-seed .last .0 in
-    let first : Filled (seeded (marksSeed (getD (join .if1 .scratch) at 0) registerCode) (join .if1 .scratch) to (a .top) (a .costs .now) registerAt) to rowWords (join .if1 .scratch) past = c .before .before .before .before .before .before .raise-seed .ensures in
-    let second : Filled (seeded (marksSeed (getD past at 0) fifoCode) past to (a .top) (a .costs .now) fifoAt) to rowWords past (c .before .before .raise-seed2 .last .0) = c .before .before .raise-seed2 .ensures in
+    let first : Filled (seeded (marksSeed (getD (join .if1 .scratch) at 0) registerCode) (join .if1 .scratch) to (a .top - 2 * a .net .problem .elements .skew) (a .costs .now) registerAt) to rowWords (join .if1 .scratch) past = c .before .before .before .before .before .before .raise-seed .ensures in
+    let second : Filled (seeded (marksSeed (getD past at 0) fifoCode) past to (a .top - 2 * a .net .problem .elements .skew) (a .costs .now) fifoAt) to rowWords past (c .before .before .raise-seed2 .last .0) = c .before .before .raise-seed2 .ensures in
     let still : getD past at 0 ≡ getD (a .scratch .now) at 0 = first .high at (omega (arith, start .pre .inside)) ∙ mark join in
     filled-as (filled-twice (filled-twice (mid join) _ _ first) _ _ (rw still at second)) _
     (λ k h.

@@ -21,6 +21,12 @@ slice-read-marks-seed c = search needs
 marks-seed-requires : tie.Need-marks-seed-requires
 marks-seed-requires c κs = search needs
 
+mul-above : tie.Need-mul-above
+mul-above c = search needs
+
+above-requires : tie.Need-above-requires
+above-requires c κs = search needs
+
 raise-row-requires : tie.Need-raise-row-requires
 raise-row-requires c κs = search needs
 
@@ -30,10 +36,10 @@ same-length c = search needs
 returns : tie.Need-returns
 unfolding seeded
 returns c =
-    let here = c .before .before .before .before in
+    let here = c .before .before .before .before .before in
     let start = here .before .before .before .before in
     let test : marksSeed (getD (start .args .scratch .now) (start .args .mark) 0) (start .args .code) ≡ true = sym (here .before .marks-seed .ensures) ∙ here .if1 .taken in
-    filled-as (c .before .before .raise-row .ensures) _ (λ k h. simp test)
+    filled-as (c .before .before .raise-row .ensures) _ (λ k h. simp (test, c .before .before .before .before .above .ensures))
 
 returns-2 : tie.Need-returns-2
 unfolding seeded
@@ -43,4 +49,4 @@ returns-2 c =
     record { same = refl; done = λ k h. simp test; low = λ k h. refl; high = λ k h. refl }
 
 pub raise-seed-spec : {M : Type 1} → statement M
-raise-seed-spec = tie.close (tie.spec mul-marks-seed slice-read-marks-seed marks-seed-requires raise-row-requires same-length returns returns-2)
+raise-seed-spec = tie.close (tie.spec mul-marks-seed slice-read-marks-seed marks-seed-requires mul-above above-requires raise-row-requires same-length returns returns-2)

@@ -27,49 +27,56 @@ named-requires-3 c κs = search needs
 
 expect-requires-3 : tie.Need-expect-requires-3
 unfolding crossingNumberOf crossingWith tablesWith listWith crossingFault periodInRange wireOk registerOk bufferOk bufferFault buffersFault listFault wireInRange registerInRange bufferInRange
-expect-requires-3 c κs = eq-eqb (c .named3 .result) 102 (c .named3 .ensures)
+expect-requires-3 c κs = eq-eqb (c .named3 .result) 110 (c .named3 .ensures)
 
 named-requires-4 : tie.Need-named-requires-4
 named-requires-4 c κs = search needs
 
 expect-requires-4 : tie.Need-expect-requires-4
 unfolding crossingNumberOf crossingWith tablesWith listWith crossingFault periodInRange wireOk registerOk bufferOk bufferFault buffersFault listFault wireInRange registerInRange bufferInRange
-expect-requires-4 c κs = eq-eqb (c .named4 .result) 103 (c .named4 .ensures)
+expect-requires-4 c κs = eq-eqb (c .named4 .result) 102 (c .named4 .ensures)
 
 named-requires-5 : tie.Need-named-requires-5
 named-requires-5 c κs = search needs
 
 expect-requires-5 : tie.Need-expect-requires-5
 unfolding crossingNumberOf crossingWith tablesWith listWith crossingFault periodInRange wireOk registerOk bufferOk bufferFault buffersFault listFault wireInRange registerInRange bufferInRange
-expect-requires-5 c κs = eq-eqb (c .named5 .result) 104 (c .named5 .ensures)
+expect-requires-5 c κs = eq-eqb (c .named5 .result) 103 (c .named5 .ensures)
 
 named-requires-6 : tie.Need-named-requires-6
 named-requires-6 c κs = search needs
 
 expect-requires-6 : tie.Need-expect-requires-6
 unfolding crossingNumberOf crossingWith tablesWith listWith crossingFault periodInRange wireOk registerOk bufferOk bufferFault buffersFault listFault wireInRange registerInRange bufferInRange
-expect-requires-6 c κs = eq-eqb (c .named6 .result) 105 (c .named6 .ensures)
+expect-requires-6 c κs = eq-eqb (c .named6 .result) 104 (c .named6 .ensures)
 
 named-requires-7 : tie.Need-named-requires-7
 named-requires-7 c κs = search needs
 
 expect-requires-7 : tie.Need-expect-requires-7
 unfolding crossingNumberOf crossingWith tablesWith listWith crossingFault periodInRange wireOk registerOk bufferOk bufferFault buffersFault listFault wireInRange registerInRange bufferInRange
-expect-requires-7 c κs = eq-eqb (c .named7 .result) 109 (c .named7 .ensures)
+expect-requires-7 c κs = eq-eqb (c .named7 .result) 105 (c .named7 .ensures)
 
 named-requires-8 : tie.Need-named-requires-8
 named-requires-8 c κs = search needs
 
 expect-requires-8 : tie.Need-expect-requires-8
 unfolding crossingNumberOf crossingWith tablesWith listWith crossingFault periodInRange wireOk registerOk bufferOk bufferFault buffersFault listFault wireInRange registerInRange bufferInRange
-expect-requires-8 c κs = eq-eqb (c .named8 .result) 106 (c .named8 .ensures)
+expect-requires-8 c κs = eq-eqb (c .named8 .result) 109 (c .named8 .ensures)
 
 named-requires-9 : tie.Need-named-requires-9
 named-requires-9 c κs = search needs
 
 expect-requires-9 : tie.Need-expect-requires-9
 unfolding crossingNumberOf crossingWith tablesWith listWith crossingFault periodInRange wireOk registerOk bufferOk bufferFault buffersFault listFault wireInRange registerInRange bufferInRange
-expect-requires-9 c κs = eq-eqb (c .named9 .result) 2 (c .named9 .ensures)
+expect-requires-9 c κs = eq-eqb (c .named9 .result) 106 (c .named9 .ensures)
+
+named-requires-10 : tie.Need-named-requires-10
+named-requires-10 c κs = search needs
+
+expect-requires-10 : tie.Need-expect-requires-10
+unfolding crossingNumberOf crossingWith tablesWith listWith crossingFault periodInRange wireOk registerOk bufferOk bufferFault buffersFault listFault wireInRange registerInRange bufferInRange
+expect-requires-10 c κs = eq-eqb (c .named10 .result) 2 (c .named10 .ensures)
 
 returns : tie.Need-returns
 returns c = search needs
@@ -96,4 +103,6 @@ order-spec =
     expect-requires-8
     named-requires-9
     expect-requires-9
+    named-requires-10
+    expect-requires-10
     returns)

@@ -40,21 +40,42 @@ fault-requires-5 c κs = search needs
 
 expect-requires-5 : tie.Need-expect-requires-5
 unfolding faultWith tablesWith listWith tablesFault periodInRange wireOk registerOk bufferOk bufferFault buffersFault listFault wireInRange registerInRange bufferInRange
-expect-requires-5 c κs = eq-eqb (c .fault5 .result) 102 (c .fault5 .ensures)
+expect-requires-5 c κs = eq-eqb (c .fault5 .result) 0 (c .fault5 .ensures)
 
 fault-requires-6 : tie.Need-fault-requires-6
 fault-requires-6 c κs = search needs
 
 expect-requires-6 : tie.Need-expect-requires-6
 unfolding faultWith tablesWith listWith tablesFault periodInRange wireOk registerOk bufferOk bufferFault buffersFault listFault wireInRange registerInRange bufferInRange
-expect-requires-6 c κs = eq-eqb (c .fault6 .result) 106 (c .fault6 .ensures)
+expect-requires-6 c κs = eq-eqb (c .fault6 .result) 110 (c .fault6 .ensures)
 
 fault-requires-7 : tie.Need-fault-requires-7
 fault-requires-7 c κs = search needs
 
 expect-requires-7 : tie.Need-expect-requires-7
 unfolding faultWith tablesWith listWith tablesFault periodInRange wireOk registerOk bufferOk bufferFault buffersFault listFault wireInRange registerInRange bufferInRange
-expect-requires-7 c κs = eq-eqb (c .fault7 .result) 0 (c .fault7 .ensures)
+expect-requires-7 c κs = eq-eqb (c .fault7 .result) 110 (c .fault7 .ensures)
+
+fault-requires-8 : tie.Need-fault-requires-8
+fault-requires-8 c κs = search needs
+
+expect-requires-8 : tie.Need-expect-requires-8
+unfolding faultWith tablesWith listWith tablesFault periodInRange wireOk registerOk bufferOk bufferFault buffersFault listFault wireInRange registerInRange bufferInRange
+expect-requires-8 c κs = eq-eqb (c .fault8 .result) 102 (c .fault8 .ensures)
+
+fault-requires-9 : tie.Need-fault-requires-9
+fault-requires-9 c κs = search needs
+
+expect-requires-9 : tie.Need-expect-requires-9
+unfolding faultWith tablesWith listWith tablesFault periodInRange wireOk registerOk bufferOk bufferFault buffersFault listFault wireInRange registerInRange bufferInRange
+expect-requires-9 c κs = eq-eqb (c .fault9 .result) 106 (c .fault9 .ensures)
+
+fault-requires-10 : tie.Need-fault-requires-10
+fault-requires-10 c κs = search needs
+
+expect-requires-10 : tie.Need-expect-requires-10
+unfolding faultWith tablesWith listWith tablesFault periodInRange wireOk registerOk bufferOk bufferFault buffersFault listFault wireInRange registerInRange bufferInRange
+expect-requires-10 c κs = eq-eqb (c .fault10 .result) 0 (c .fault10 .ensures)
 
 returns : tie.Need-returns
 returns c = search needs
@@ -77,4 +98,10 @@ limits-spec =
     expect-requires-6
     fault-requires-7
     expect-requires-7
+    fault-requires-8
+    expect-requires-8
+    fault-requires-9
+    expect-requires-9
+    fault-requires-10
+    expect-requires-10
     returns)

@@ -19,42 +19,49 @@ fault-requires-2 c κs = search needs
 
 expect-requires-2 : tie.Need-expect-requires-2
 unfolding faultWith tablesWith listWith tablesFault periodInRange wireOk registerOk bufferOk bufferFault buffersFault listFault wireInRange registerInRange bufferInRange
-expect-requires-2 c κs = eq-eqb (c .fault2 .result) 102 (c .fault2 .ensures)
+expect-requires-2 c κs = eq-eqb (c .fault2 .result) 110 (c .fault2 .ensures)
 
 fault-requires-3 : tie.Need-fault-requires-3
 fault-requires-3 c κs = search needs
 
 expect-requires-3 : tie.Need-expect-requires-3
 unfolding faultWith tablesWith listWith tablesFault periodInRange wireOk registerOk bufferOk bufferFault buffersFault listFault wireInRange registerInRange bufferInRange
-expect-requires-3 c κs = eq-eqb (c .fault3 .result) 103 (c .fault3 .ensures)
+expect-requires-3 c κs = eq-eqb (c .fault3 .result) 102 (c .fault3 .ensures)
 
 fault-requires-4 : tie.Need-fault-requires-4
 fault-requires-4 c κs = search needs
 
 expect-requires-4 : tie.Need-expect-requires-4
 unfolding faultWith tablesWith listWith tablesFault periodInRange wireOk registerOk bufferOk bufferFault buffersFault listFault wireInRange registerInRange bufferInRange
-expect-requires-4 c κs = eq-eqb (c .fault4 .result) 104 (c .fault4 .ensures)
+expect-requires-4 c κs = eq-eqb (c .fault4 .result) 103 (c .fault4 .ensures)
 
 fault-requires-5 : tie.Need-fault-requires-5
 fault-requires-5 c κs = search needs
 
 expect-requires-5 : tie.Need-expect-requires-5
 unfolding faultWith tablesWith listWith tablesFault periodInRange wireOk registerOk bufferOk bufferFault buffersFault listFault wireInRange registerInRange bufferInRange
-expect-requires-5 c κs = eq-eqb (c .fault5 .result) 105 (c .fault5 .ensures)
+expect-requires-5 c κs = eq-eqb (c .fault5 .result) 104 (c .fault5 .ensures)
 
 fault-requires-6 : tie.Need-fault-requires-6
 fault-requires-6 c κs = search needs
 
 expect-requires-6 : tie.Need-expect-requires-6
 unfolding faultWith tablesWith listWith tablesFault periodInRange wireOk registerOk bufferOk bufferFault buffersFault listFault wireInRange registerInRange bufferInRange
-expect-requires-6 c κs = eq-eqb (c .fault6 .result) 106 (c .fault6 .ensures)
+expect-requires-6 c κs = eq-eqb (c .fault6 .result) 105 (c .fault6 .ensures)
 
 fault-requires-7 : tie.Need-fault-requires-7
 fault-requires-7 c κs = search needs
 
 expect-requires-7 : tie.Need-expect-requires-7
 unfolding faultWith tablesWith listWith tablesFault periodInRange wireOk registerOk bufferOk bufferFault buffersFault listFault wireInRange registerInRange bufferInRange
-expect-requires-7 c κs = eq-eqb (c .fault7 .result) 2 (c .fault7 .ensures)
+expect-requires-7 c κs = eq-eqb (c .fault7 .result) 106 (c .fault7 .ensures)
+
+fault-requires-8 : tie.Need-fault-requires-8
+fault-requires-8 c κs = search needs
+
+expect-requires-8 : tie.Need-expect-requires-8
+unfolding faultWith tablesWith listWith tablesFault periodInRange wireOk registerOk bufferOk bufferFault buffersFault listFault wireInRange registerInRange bufferInRange
+expect-requires-8 c κs = eq-eqb (c .fault8 .result) 2 (c .fault8 .ensures)
 
 returns : tie.Need-returns
 returns c = search needs
@@ -77,4 +84,6 @@ order-spec =
     expect-requires-6
     fault-requires-7
     expect-requires-7
+    fault-requires-8
+    expect-requires-8
     returns)

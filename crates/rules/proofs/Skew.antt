@@ -1,0 +1,61 @@
+-- The skew (document 02, C-16), in its own words: "a closing delay plus twice the skew must be at most 2T", with one clock and with two. Where the skew is 0, the rules are those of before.
+use Prim.Native.Nat.{ℕ, _+_, _*_, _-_}
+use mathlib.Core.Path.{_≡_, refl, sym, ap, _∙_, fun-ext}
+use mathlib.Core.Bool.{Bool, true, false}
+use native.Mathlib.Omega.{arith}
+use borrow.Author.Tests.{le-leb, lt-leb, lt-ltb, le-ltb, leb-true, leb-false}
+use lib.Dec.{leb, ltb}
+use Rattle.plan.specs.Plan.{Plan}
+use Rattle.timing.specs.declared.elements.Driver.{Driver}
+use Rattle.timing.specs.declared.elements.Elements.{Elements}
+use Rattle.timing.specs.declared.clocks.Clocks.{Clocks}
+use Rattle.timing.specs.Formulas.{gateDelay, skewed, registerDriver}
+use Rattle.timing.specs.Slack.{slackOf}
+use Rattle.timing.proofs.Skew.{skew-paid, no-skew}
+use Rattle.rules.specs.Rules.{Stage, Rules, rulesOf}
+use Rattle.rules.specs.Legal.{Visit, arrive, closing, inTime}
+use Rattle.rules.specs.Beginning.{Place}
+use Rattle.rules.specs.Slack.{slackAt}
+use Rattle.rules.specs.Crossing.{gateFor, periodOn, rulesBetween}
+use Rattle.rules.specs.Unskewed.{closingAlone, closedBy, unskewedRules, unskewedBetween}
+
+below-next : (used allowed : ℕ) → ltb used (allowed + 1) ≡ leb used allowed
+below-next used allowed = go (leb used allowed) refl
+  where
+    go : (b : Bool) → leb used allowed ≡ b → ltb used (allowed + 1) ≡ leb used allowed
+    go true e = lt-ltb used (allowed + 1) (omega (arith, leb-true used allowed e)) ∙ sym e
+    go false e = le-ltb used (allowed + 1) (omega (arith, leb-false used allowed e)) ∙ sym e
+
+paid : (sk : ℕ) (g : Driver) (s : Stage) → s .delay + gateDelay (skewed sk g) (s .load) ≡ closingAlone g s + 2 * sk
+paid sk g s = omega (arith, skew-paid sk g (s .load))
+
+-- One clock
+module _ (p : Plan) (e : Elements) (from to : ℕ) where
+  pub in-time : (span fifos : ℕ) (s : Stage) (v : Visit) → inTime (rulesOf p e from to) span fifos s v ≡ leb (closingAlone (registerDriver (e .register)) s + 2 * e .skew) (2 * e .period)
+  unfolding inTime closing rulesOf
+  in-time span fifos s v = rw (paid (e .skew) (registerDriver (e .register)) s) (below-next _ (2 * e .period))
+
+  -- "The spare figure is after skew."
+  pub slack-after-skew : (a : Place) (v : Visit) → slackAt (rulesOf p e from to) a v ≡ slackOf (2 * e .period) (closingAlone (registerDriver (e .register)) (arrive (rulesOf p e from to) (a .cell) (a .stage) (v .cell)) + 2 * e .skew)
+  unfolding slackAt closing rulesOf
+  slack-after-skew a v =
+      let allowed : 2 * e .period + 1 - 1 ≡ 2 * e .period = omega arith in
+      rw (allowed, paid (e .skew) (registerDriver (e .register)) (arrive (rulesOf p e from to) (a .cell) (a .stage) (v .cell)))
+
+  -- "A skew of 0 gives the answers of before": these are the rules of before.
+  pub rules-unskewed : e .skew ≡ 0 → rulesOf p e from to ≡ unskewedRules p e from to
+  unfolding unskewedRules closedBy rulesOf
+  rules-unskewed none =
+      ap (λ (g : Driver). closedBy (rulesOf p e from to) (λ cell code. g)) (ap (λ (s : ℕ). skewed s (registerDriver (e .register))) none ∙ no-skew (registerDriver (e .register)))
+
+-- Two clocks: each side against its own period
+module _ (p : Plan) (e : Elements) (x : Clocks) (from to : ℕ) where
+  pub in-time-between : (span fifos : ℕ) (s : Stage) (v : Visit) → inTime (rulesBetween p e x from to) span fifos s v ≡ leb (closingAlone (registerDriver (gateFor e x (v .code))) s + 2 * e .skew) (2 * periodOn e x fifos)
+  unfolding inTime closing rulesBetween
+  in-time-between span fifos s v = rw (paid (e .skew) (registerDriver (gateFor e x (v .code))) s) (below-next _ (2 * periodOn e x fifos))
+
+  pub between-unskewed : e .skew ≡ 0 → rulesBetween p e x from to ≡ unskewedBetween p e x from to
+  unfolding unskewedBetween closedBy rulesBetween
+  between-unskewed none =
+      ap (λ (g : ℕ → Driver). closedBy (rulesBetween p e x from to) (λ cell. g))
+      (fun-ext (λ (code : ℕ). ap (λ (s : ℕ). skewed s (registerDriver (gateFor e x code))) none ∙ no-skew (registerDriver (gateFor e x code))))
