@@ -1,6 +1,6 @@
 // What a run's jobs were: counted by answer, so that a poor mix shows.
 
-use crate::rules::{legal, registers, Fault, Problem, Visit, TIGHTEST};
+use crate::rules::{by_skew, legal, registers, Fault, Problem, Visit, BY_SKEW, TIGHTEST};
 use crate::answer::Answer;
 use crate::{job, search};
 use std::collections::BTreeMap;
@@ -68,15 +68,6 @@ fn skew_name(p: &Problem) -> &'static str {
     }]
 }
 
-// What the skew changes.
-const BY_SKEW: [&str; 3] = ["none, a route without it", "more registers than without it", "no more than without it"];
-
-fn by_skew(p: &Problem, route: Option<&[Visit]>) -> Option<&'static str> {
-    let without = search::best(&Problem { skew: 0, ..p.clone() }, FEW).ok()??;
-    let more = route.is_some_and(|route| registers(route) > registers(&without));
-    Some(BY_SKEW[if route.is_none() { 0 } else { 2 - more as usize }])
-}
-
 // The faults behind refusal 4; the count's is found while reading and is counted apart.
 const FAULTS: [&str; 7] = ["T", "skew", "L", "horizontal", "vertical", "register", "buffer"];
 
@@ -140,8 +131,10 @@ impl Mix {
     }
 
     fn count_skew(&mut self, p: &Problem, route: Option<&[Visit]>) {
-        if let Some(name) = Some(p).filter(|p| p.skew > 0).and_then(|p| by_skew(p, route)) {
-            *self.by_skew.entry(name).or_default() += 1;
+        if p.skew > 0 {
+            if let Ok(Some(without)) = search::best(&Problem { skew: 0, ..p.clone() }, FEW) {
+                *self.by_skew.entry(by_skew(route.map(registers), registers(&without))).or_default() += 1;
+            }
         }
     }
 

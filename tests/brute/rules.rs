@@ -186,6 +186,15 @@ impl Measured {
     }
 }
 
+// What the skew changes.
+pub const BY_SKEW: [&str; 3] =
+    ["none, a route without it", "more registers than without it", "no more than without it"];
+
+// By its name in BY_SKEW: the registers of the route with the skew, None where there is none, and of the one without.
+pub fn by_skew(with: Option<u32>, without: u32) -> &'static str {
+    BY_SKEW[with.map_or(0, |with| if with > without { 1 } else { 2 })]
+}
+
 // The definition of a legal route, on a whole list of visits. None: not legal.
 pub fn legal(p: &Problem, route: &[Visit]) -> Option<Measured> {
     let last = route.len().checked_sub(1)?;

@@ -65,14 +65,14 @@ fn spoil_clocks(r: &mut Random, n: &mut Net) {
     match r.below(9) {
         0 | 1 => n.source_period = period,
         2 => n.problem.period = period,
+        3..5 => spoil_register(r, &mut n.fifo),
+        5 => spoil_register(r, &mut n.problem.register),
+        6 => n.problem.buffers.resize(r.pick(&[7, 7, 20]), Buffer { c: r.pick(&[1, 64]), ..Buffer::default() }),
         7 => n.problem.skew = r.pick(&[30_001, 30_001, 65_535]),
-        8 => {
+        _ => {
             n.problem.buffers.resize(r.within(1, 6) as usize, Buffer::default());
             n.problem.buffers.last_mut().unwrap().c = 64;
         }
-        3..5 => spoil_register(r, &mut n.fifo),
-        5 => spoil_register(r, &mut n.problem.register),
-        _ => n.problem.buffers.resize(r.pick(&[7, 7, 20]), Buffer { c: r.pick(&[1, 64]), ..Buffer::default() }),
     }
 }
 

@@ -4,7 +4,7 @@ use crate::best::{self, Found};
 use crate::crossed::{Crossed, EACH};
 use crate::jobs::Job;
 use crate::net::{legal, Figures, Net, FIFO};
-use crate::rules::{self, Problem, Register, Visit, BLOCKED, REGISTER, TAP};
+use crate::rules::{self, by_skew, Problem, Register, Visit, BLOCKED, BY_SKEW, REGISTER, TAP};
 use std::collections::BTreeMap;
 
 #[derive(Default)]
@@ -33,7 +33,7 @@ const KINDS: [(&str, u64, &[&str]); 20] = [
         10,
         &["0", "below both periods", "a period", "above the source's alone", "above the sink's alone", "above both"],
     ),
-    ("by the skew", 20, &["none, a route without it", "more registers than without it", "no more than without it"]),
+    ("by the skew", 20, &BY_SKEW),
     ("periods", 40, &PERIODS),
     ("FIFO", 50, &["like the register", "unlike it", "like it, equal periods"]),
     ("FIFO with", 10, &["C = L", "K 500 and more", "R 0", "K 0", "C 0", "setup above the register's", "R above", "delay crossing"]),
@@ -230,12 +230,7 @@ impl Tally {
         without.problem.skew = 0;
         let Some(route) = Some(&without).filter(|_| skew > 0).and_then(|n| best::best(n, FEW).ok()?) else { return };
         let registers = |figures: &Figures| figures.source_registers + figures.sink_registers;
-        let fewest = registers(&without.figures(&route));
-        self.add_if(figures.is_none(), "by the skew", "none, a route without it");
-        if let Some(most) = figures.map(registers) {
-            self.add_if(most > fewest, "by the skew", "more registers than without it");
-            self.add_if(most <= fewest, "by the skew", "no more than without it");
-        }
+        self.add("by the skew", by_skew(figures.map(registers), registers(&without.figures(&route))));
     }
 
     fn none(&mut self, n: &Net) {

@@ -89,7 +89,6 @@ fn resite(r: &mut Random, p: &mut Problem, list: &[Visit]) {
 
 fn spoil_table(r: &mut Random, p: &mut Problem) {
     match r.below(13) {
-        12 => p.skew = r.pick(&[30_001, 30_001, 65_535]),
         0 => p.period = r.pick(&[0, 30_001, 65_535]),
         1 => p.limit = r.pick(&[64, 65_535]),
         2 => p.horizontal.r = r.pick(&[256, 65_535]),
@@ -100,13 +99,14 @@ fn spoil_table(r: &mut Random, p: &mut Problem) {
             *[&mut g.r, &mut g.k, &mut g.c, &mut g.setup][number.1] = number.0;
         }
         5 => p.buffers.resize(r.pick(&[7, 8, 20]), Buffer::default()),
-        place => {
+        place @ 6..12 => {
             let place = place as usize - 6;
             p.buffers.resize(p.buffers.len().max(place + 1), Buffer::default());
             let b = &mut p.buffers[place];
             let number = r.pick(&[(256, 0), (1_001, 1), (64, 2)]);
             *[&mut b.r, &mut b.k, &mut b.c][number.1] = number.0;
         }
+        _ => p.skew = r.pick(&[30_001, 30_001, 65_535]),
     }
 }
 

@@ -59,6 +59,15 @@ fn marked(marks: &[u32], p: Problem) -> Problem {
     Problem { marks: marks.to_vec(), ..p }
 }
 
+fn skewed(skew: u32, p: Problem) -> Problem {
+    Problem { skew, ..p }
+}
+
+// The strip with an odd wire.
+fn odd(period: u32) -> Problem {
+    Problem { horizontal: Wire { r: 1, c: 3 }, ..strip(period) }
+}
+
 fn slow(period: u32) -> Problem {
     Problem { register: Register { setup: 2, ..strip(period).register }, ..strip(period) }
 }
@@ -259,7 +268,6 @@ fn faults() -> Vec<Case> {
 
 // The smallest figure of several spans; figures above and below zero by one half-tick.
 fn figures() -> Vec<Case> {
-    let odd = |period: u32| Problem { horizontal: Wire { r: 1, c: 3 }, ..strip(period) };
     let first: &[u32] = &[2, 7, 1, 0, 2, 0, 1, 7, 0, 7];
     let last: &[u32] = &[2, 7, 1, 7, 2, 0, 1, 0, 0, 7];
     vec![
@@ -279,8 +287,6 @@ fn figures() -> Vec<Case> {
 
 // Twice the skew is taken off each span's figure.
 fn skews() -> Vec<Case> {
-    let skewed = |skew: u32, p: Problem| Problem { skew, ..p };
-    let odd = |period: u32| Problem { horizontal: Wire { r: 1, c: 3 }, ..strip(period) };
     vec![
         case("R1, skew 1: 52 and 2", skewed(1, strip(26)), vec![late(PLAIN, 2, 2), accepted(REGISTERED, 26)]),
         case("a tick more", skewed(1, strip(27)), vec![accepted(PLAIN, 0), accepted(REGISTERED, 28)]),
@@ -339,7 +345,6 @@ fn floor() -> Vec<Case> {
         case(name, p, vec![late(&driven(buffers), buffers + 1, told)])
     };
     let largest = (15, 970, 30_000); // adds 63,830
-    let skewed = |skew: u32, p: Problem| Problem { skew, ..p };
     vec![
         about("missed by 999,999,998", heavy(2, (0, 0, 1_915), 1), 15_092, 999_999_998),
         about("missed by 999,999,999", heavy(1, (0, 0, 1_978), 1), 15_092, 999_999_999),

@@ -56,6 +56,7 @@ use tally::Tally;
 const MISMATCHES: u64 = 5; // then the run stops
 const MIXED: u64 = 5_000; // jobs from which on no class may be rare
 const STATES: usize = 3_000; // the most that one search may follow
+const LARGE: usize = 256; // cells of a plan worked by hand whose search is not followed to its end
 const FOLDER: &str = "reasons"; // of target: where a script that fails is kept
 
 // Jobs with known lines.
@@ -66,7 +67,8 @@ fn check_worked(player: &str) -> bool {
         let job = Job { problem: case.problem.clone(), lent: question::SCRATCH, depth: 0, shown: false };
         let answer = Explained::of(&job.problem, job.lent).expect("a small plan").0;
         let given = format!("{} {}", answer.number(), answer.text(&job.problem));
-        let agrees = sides::seen(&job.problem, &answer, usize::MAX);
+        let states = if job.problem.marks.len() < LARGE { usize::MAX } else { STATES };
+        let agrees = sides::seen(&job.problem, &answer, states);
         if given != case.told || agrees.is_err() {
             println!("MISMATCH, the reference at '{}': {given}, {:?}", case.name, agrees.err());
             good = false;

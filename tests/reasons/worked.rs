@@ -63,6 +63,27 @@ fn skewed(skew: u32, p: Problem) -> Problem {
     Problem { skew, ..p }
 }
 
+// The tables of bench's `heavy_register` on fewer cells: the pass by delay gives up, searches answer. A span is best of four
+// steps, at 1,494 half-ticks where all are vertical: 98, then buffers 2, 4 and 3 with 16, 50 and 620 at loads 8, 7 and 5,
+// then 710 at load 1. A horizontal step is best the first, with 22 at load 11: 1,500.
+fn heavy_register(skew: u32, period: u32) -> Problem {
+    let buffers = [(0, 382, 63), (1, 0, 6), (62, 0, 0), (3, 4, 4), (2, 5, 5), (1, 977, 3)];
+    Problem {
+        width: 16,
+        height: 16,
+        marks: vec![2; 256],
+        register: Register { r: 165, k: 190, c: 7, setup: 49 },
+        horizontal: Wire { r: 0, c: 4 },
+        vertical: Wire { r: 0, c: 1 },
+        period,
+        skew,
+        sink: 0,
+        source: 255,
+        buffers: buffers.map(|(r, k, c)| Buffer { r, k, c }).to_vec(),
+        ..strip(period)
+    }
+}
+
 // Spans of 24 half-ticks, or of 52 with no tap; the period told is longer by the skew.
 fn with_skew() -> Vec<(&'static str, Problem, &'static str)> {
     let exists = "19 zeroed 768";
@@ -96,6 +117,12 @@ fn with_skew() -> Vec<(&'static str, Problem, &'static str)> {
         ("no delay, skew T", skewed(7, still(7)), "19 zeroed 512"),
         ("no delay, skew 30,000", skewed(30_000, still(1)), "0 period 30000 zeroed 512"),
         ("no delay, T and skew 30,000", skewed(30_000, still(30_000)), "19 zeroed 512"),
+        ("750 ticks by searches", heavy_register(0, 1), "0 period 750 zeroed 65536"),
+        ("the same, skew 250", heavy_register(250, 1), "0 period 1000 zeroed 65536"),
+        ("the same, skew 29,250", heavy_register(29_250, 1), "0 period 30000 zeroed 65536"),
+        ("the same, skew 29,251", heavy_register(29_251, 1), "0 short zeroed 65536"),
+        ("the same, T 999 and skew 250", heavy_register(250, 999), "0 period 1000 zeroed 65536"),
+        ("the same, T 1,000 and skew 250", heavy_register(250, 1_000), "19 zeroed 65536"),
         ("skew 30,001", skewed(30_001, strip(11)), "4 fault 2 zeroed 0"),
         ("skew 65,535 and L 64", skewed(65_535, limited(64)), "4 fault 2 zeroed 0"),
         ("T 0 and skew 30,001", skewed(30_001, strip(0)), "4 fault 1 zeroed 0"),

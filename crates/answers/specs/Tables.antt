@@ -53,8 +53,8 @@ unfoldable pub listFault : BufferList → ElementFault
 listFault list = require (leb (list .n) buffersMax) Fault.Count (buffersFault list)
 
 -- The order from L on, for every call. `fifoOk` says whether the FIFO's numbers are in range; without a FIFO nothing can fail there.
-abbrev pub limitFault : Bool → Tables → BufferList → ElementFault
-limitFault fifoOk t list =
+abbrev pub faultFromLimit : Bool → Tables → BufferList → ElementFault
+faultFromLimit fifoOk t list =
     require (leb (t .limit) loadMax) Fault.Limit
     (require (wireOk (t .horizontal)) Fault.Horizontal
     (require (wireOk (t .vertical)) Fault.Vertical
@@ -64,7 +64,7 @@ limitFault fifoOk t list =
 
 -- and from the skew on, which stands after the periods
 abbrev pub elementsFault : Bool → Tables → BufferList → ElementFault
-elementsFault fifoOk t list = require (leb (t .skew) skewMax) Fault.Skew (limitFault fifoOk t list)
+elementsFault fifoOk t list = require (leb (t .skew) skewMax) Fault.Skew (faultFromLimit fifoOk t list)
 
 unfoldable pub tablesFault : Tables → BufferList → ElementFault
 tablesFault t list = require (periodInRange (t .period)) Fault.Period (elementsFault true t list)

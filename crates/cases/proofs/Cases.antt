@@ -6,6 +6,7 @@ use Rattle.plan.specs.Plan.{cells, row, column, marksAt, blocked, tap, cutRight
 use Rattle.plan.specs.Joined.{joinsRight, joinsBelow, bothIn, horizontal, vertical, joined}
 use Rattle.timing.specs.Formulas.{wireDelay, gateDelay, skewed, wireLoad, bufferDriver, bufferLoad, registerDriver, registerLoad, setupDelay}
 use Rattle.timing.specs.Elements.{wireOf, driverOf, bufferOf, registerOf}
+use Rattle.timing.specs.Relaxed.{withSkew}
 use Rattle.timing.specs.Valid.{Valid}
 use Rattle.timing.specs.Slack.{slackOf, smaller}
 use Rattle.rules.specs.Rules.{Rules, isClosing, sideAfter, rulesOf, siteOf, wireBetween}
@@ -22,7 +23,7 @@ use Rattle.best.specs.Labels.{isKnown, labelWeight, labelSteps, labelsListed, b
 use Rattle.best.specs.Search.{atSink, relabelled, layerTurn, quietTurn, turn, searchFrom, mostSum, mostTurns, startLabels, searchSide, labelling, exitsOf}
 use Rattle.best.specs.Best.{found, none, reachRows, exitsAt, labelsAt, routeOf, outcome, best}
 use Rattle.best.proofs.Document01.{rules-best, rules-none}
-use Rattle.cases.specs.Cases.{Expected, route, noRoute, Case, Meets, rulesIn, IsRight, Each, more, closesAt, tables, strip, straight, case1, close1, case2, case3, case4, case5, case6, case7, case8, case9, case10, case11, case12, case13, cases, withSkew, skewedCase, skewed1, skewed3, skewedCases}
+use Rattle.cases.specs.Cases.{Expected, route, noRoute, Case, Meets, rulesIn, IsRight, Each, more, closesAt, tables, strip, straight, case1, close1, case2, case3, case4, case5, case6, case7, case8, case9, case10, case11, case12, case13, cases, skewedCase, skewed1, skewed3, skewedCases}
 use Rattle.cases.specs.Cases.{none as last}
 use Rattle.cases.proofs.Tables.{valid, valid-skewed}
 
@@ -31,26 +32,24 @@ abbrev Agrees : Rules → ℕ → Expected → Type 0
 Agrees R period (route k s t z r) = (best R ≡ found r) × (registers r ≡ k) × (steps r ≡ s) × (latency period r ≡ t) × (leastSlack R r ≡ z)
 Agrees R period noRoute = best R ≡ none
 
-computed : Each (λ c. Agrees (rulesIn c) (c .elements .period) (c .expected)) cases
-unfolding cells row column marksAt blocked tap cutRight cutBelow joinsRight joinsBelow bothIn horizontal vertical joined wireOf bufferOf registerOf driverOf wireDelay gateDelay skewed wireLoad bufferDriver bufferLoad registerDriver registerLoad setupDelay isClosing sideAfter rulesOf siteOf wireBetween mayStand isEnd budgetSum loadAt delayAt bufferCost loadOf closeCost only maxBelow viaBuffer viaClose arrival given seedAt exactSeed goesOn afterLoad afterDelay afterWeight firstFrom nextCode nextCell emit listFrom sumBelow tableOf rowsOf layerRows isKnown labelWeight labelSteps labelsListed byCode places relabelAt relabel earlier waiting nextLabel atSink relabelled layerTurn quietTurn turn searchFrom mostSum mostTurns startLabels searchSide labelling exitsOf reachRows exitsAt labelsAt routeOf outcome best tables strip straight codeSevens registers steps latency arrive buffered leave closing spanAfter nextPlace startPlace slackOf smaller slackAt slacksFrom slacks leastFrom leastSlack case1 case2 case3 case4 case5 case6 case7 case8 case9 case10 case11 case12 case13
-computed =
-    more case1 (refl, refl, refl, refl, refl)
-    (more case2 (refl, refl, refl, refl, refl)
-    (more case3 (refl, refl, refl, refl, refl)
-    (more case4 refl
-    (more case5 (refl, refl, refl, refl, refl)
-    (more case6 (refl, refl, refl, refl, refl)
-    (more case7 refl
-    (more case8 (refl, refl, refl, refl, refl)
-    (more case9 (refl, refl, refl, refl, refl)
-    (more case10 (refl, refl, refl, refl, refl)
-    (more case11 refl
-    (more case12 (refl, refl, refl, refl, refl)
-    (more case13 (refl, refl, refl, refl, refl) last))))))))))))
-
-computed-skewed : Each (λ c. Agrees (rulesIn c) (c .elements .period) (c .expected)) skewedCases
-unfolding cells row column marksAt blocked tap cutRight cutBelow joinsRight joinsBelow bothIn horizontal vertical joined wireOf bufferOf registerOf driverOf wireDelay gateDelay skewed wireLoad bufferDriver bufferLoad registerDriver registerLoad setupDelay isClosing sideAfter rulesOf siteOf wireBetween mayStand isEnd budgetSum loadAt delayAt bufferCost loadOf closeCost only maxBelow viaBuffer viaClose arrival given seedAt exactSeed goesOn afterLoad afterDelay afterWeight firstFrom nextCode nextCell emit listFrom sumBelow tableOf rowsOf layerRows isKnown labelWeight labelSteps labelsListed byCode places relabelAt relabel earlier waiting nextLabel atSink relabelled layerTurn quietTurn turn searchFrom mostSum mostTurns startLabels searchSide labelling exitsOf reachRows exitsAt labelsAt routeOf outcome best tables strip straight codeSevens registers steps latency arrive buffered leave closing spanAfter nextPlace startPlace slackOf smaller slackAt slacksFrom slacks leastFrom leastSlack case1 case3 withSkew skewedCase skewed1 skewed3
-computed-skewed = more skewed1 (refl, refl, refl, refl, refl) (more skewed3 refl last)
+computed : Each (λ c. Agrees (rulesIn c) (c .elements .period) (c .expected)) cases × Each (λ c. Agrees (rulesIn c) (c .elements .period) (c .expected)) skewedCases
+unfolding cells row column marksAt blocked tap cutRight cutBelow joinsRight joinsBelow bothIn horizontal vertical joined wireOf bufferOf registerOf driverOf wireDelay gateDelay skewed wireLoad bufferDriver bufferLoad registerDriver registerLoad setupDelay isClosing sideAfter rulesOf siteOf wireBetween mayStand isEnd budgetSum loadAt delayAt bufferCost loadOf closeCost only maxBelow viaBuffer viaClose arrival given seedAt exactSeed goesOn afterLoad afterDelay afterWeight firstFrom nextCode nextCell emit listFrom sumBelow tableOf rowsOf layerRows isKnown labelWeight labelSteps labelsListed byCode places relabelAt relabel earlier waiting nextLabel atSink relabelled layerTurn quietTurn turn searchFrom mostSum mostTurns startLabels searchSide labelling exitsOf reachRows exitsAt labelsAt routeOf outcome best tables strip straight codeSevens registers steps latency arrive buffered leave closing spanAfter nextPlace startPlace slackOf smaller slackAt slacksFrom slacks leastFrom leastSlack case1 case2 case3 case4 case5 case6 case7 case8 case9 case10 case11 case12 case13 withSkew skewedCase skewed1 skewed3
+computed = (
+  more case1 (refl, refl, refl, refl, refl)
+      (more case2 (refl, refl, refl, refl, refl)
+      (more case3 (refl, refl, refl, refl, refl)
+      (more case4 refl
+      (more case5 (refl, refl, refl, refl, refl)
+      (more case6 (refl, refl, refl, refl, refl)
+      (more case7 refl
+      (more case8 (refl, refl, refl, refl, refl)
+      (more case9 (refl, refl, refl, refl, refl)
+      (more case10 (refl, refl, refl, refl, refl)
+      (more case11 refl
+      (more case12 (refl, refl, refl, refl, refl)
+      (more case13 (refl, refl, refl, refl, refl) last)))))))))))),
+  more skewed1 (refl, refl, refl, refl, refl) (more skewed3 refl last),
+)
 
 module _ {P Q S : Case → Type 0} (f : (c : Case) → P c → Q c → S c) where
   together : {cs : List Case} → Each P cs → Each Q cs → Each S cs
@@ -67,11 +66,11 @@ right c ok h = go (c .expected) h
 
 -- Document 01's worked routes are right.
 pub worked-routes : Each IsRight cases
-worked-routes = together right valid computed
+worked-routes = together right valid (computed .0)
 
 -- So are document 02's, with skew 1.
 pub skewed-routes : Each IsRight skewedCases
-skewed-routes = together right valid-skewed computed-skewed
+skewed-routes = together right valid-skewed (computed .1)
 
 -- R1 closes at 52 half-ticks, which is 2T.
 pub first-close : closesAt (rulesIn case1) (visit 2 7) (visit 1 0 ∷ []) 0 ≡ close1

@@ -8,8 +8,9 @@ use Rattle.timing.specs.declared.elements.Buffer.{Buffer}
 use Rattle.timing.specs.declared.elements.Elements.{Elements}
 use Rattle.timing.specs.Ranges.{resistanceMax, delayMax, loadMax, periodMin, periodMax, skewMax, buffersMax}
 use Rattle.timing.specs.Elements.{WireInRange, BufferInRange, wireOf, driverOf, bufferOf, registerOf}
+use Rattle.timing.specs.Relaxed.{withSkew}
 use Rattle.timing.specs.Valid.{Valid}
-use Rattle.cases.specs.Cases.{Each, none, more, tables, strip, buffers, case1, case2, case3, case4, case5, case6, case7, case8, case9, case10, case11, case12, case13, cases, withSkew, skewedCase, skewed1, skewed3, skewedCases}
+use Rattle.cases.specs.Cases.{Each, none, more, tables, strip, buffers, case1, case2, case3, case4, case5, case6, case7, case8, case9, case10, case11, case12, case13, cases, skewedCase, skewed1, skewed3, skewedCases}
 
 buffer-in-range : (r k c : ℕ) → r ≤ resistanceMax → k ≤ delayMax → c ≤ loadMax → BufferInRange (bufferOf r k c)
 unfolding bufferOf driverOf

@@ -11,6 +11,7 @@ use Rattle.timing.specs.declared.elements.Buffer.{Buffer}
 use Rattle.timing.specs.declared.elements.Elements.{Elements}
 use Rattle.timing.specs.Ranges.{buffersMax}
 use Rattle.timing.specs.Elements.{wireOf, bufferOf, registerOf}
+use Rattle.timing.specs.Relaxed.{withSkew}
 use Rattle.rules.specs.Rules.{Rules, registerCode, rulesOf}
 use Rattle.rules.specs.Legal.{Visit, Route, arrive, closing, legal}
 use Rattle.rules.specs.Ranking.{registers, steps, latency, IsBest}
@@ -152,19 +153,6 @@ cases =
     case1 ∷ case2 ∷ case3 ∷ case4 ∷ case5 ∷ case6 ∷ case7 ∷ case8 ∷ case9 ∷ case10 ∷ case11 ∷ case12 ∷ case13 ∷ []
 
 -- "With skew 1, R1 becomes one register and latency 52, and R3 becomes 7."
-
-unfoldable pub withSkew : ℕ → Elements → Elements
-withSkew s e =
-    record {
-      period = e .period;
-      skew = s;
-      limit = e .limit;
-      horizontal = e .horizontal;
-      vertical = e .vertical;
-      register = e .register;
-      count = e .count;
-      buffers = e .buffers;
-    }
 
 -- a case with this skew
 unfoldable pub skewedCase : ℕ → Case → Expected → Case

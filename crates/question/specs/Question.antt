@@ -29,7 +29,7 @@ abbrev pub questionOf : List ℕ → ℕ → ℕ → Tables → BufferList → �
 questionOf marks w h t list a b =
     record { marks = marks; width = w; height = h; tables = t; buffers = list; source = a; sink = b }
 
--- document 01's rules for this question
+-- document 01's rules, with document 02's skew, for this question
 unfoldable pub rulesAsked : Question → Rules
 rulesAsked q = rulesOf (planOf (q .width) (q .height) (q .marks)) (elementsOf (q .tables) (q .buffers)) (q .source) (q .sink)
 

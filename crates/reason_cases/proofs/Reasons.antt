@@ -4,11 +4,11 @@ use mathlib.Core.Bool.{true, false}
 use mathlib.Core.Path.{_≡_, refl}
 use native.Mathlib.Omega.{arith}
 use Rattle.timing.specs.Ranges.{periodMin, periodMax}
-use Rattle.timing.specs.Relaxed.{atPeriod}
+use Rattle.timing.specs.Relaxed.{atPeriod, withSkew}
 use Rattle.timing.specs.Valid.{Valid}
 use Rattle.answers.specs.declared.explained.Reason.{Reason}
 use Rattle.answers.specs.declared.explained.Explained.{Explained}
-use Rattle.cases.specs.Cases.{Case, tables, strip, case3, case4, case11, withSkew, skewedCase, skewed3}
+use Rattle.cases.specs.Cases.{Case, tables, strip, case3, case4, case11, skewedCase, skewed3}
 use Rattle.reasons.specs.Reasons.{routedAt, smallestPeriod}
 use Rattle.reasons.proofs.Order.{timed-routed, light-routed}
 use Rattle.reasons.proofs.Periods.{smallest-is, no-smallest}

@@ -7,7 +7,7 @@ use Rattle.plan.specs.Joined.{joinsRight, joinsBelow, bothIn, horizontal, verti
 use Rattle.timing.specs.Formulas.{wireDelay, gateDelay, skewed, wireLoad, bufferDriver, bufferLoad, registerDriver, registerLoad, setupDelay}
 use Rattle.timing.specs.Elements.{wireOf, driverOf, bufferOf, registerOf}
 use Rattle.timing.specs.Ranges.{periodMax}
-use Rattle.timing.specs.Relaxed.{atPeriod, relaxedWire, relaxedBuffer, relaxedRegister, relaxed}
+use Rattle.timing.specs.Relaxed.{atPeriod, withSkew, relaxedWire, relaxedBuffer, relaxedRegister, relaxed}
 use Rattle.rules.specs.Rules.{isClosing, sideAfter, rulesOf, siteOf, wireBetween}
 use Rattle.rules.specs.Legal.{mayStand, isEnd}
 use Rattle.budget.specs.Table.{budgetSum, loadAt, delayAt, bufferCost, loadOf, closeCost, only, maxBelow, viaBuffer, viaClose, arrival, given}
@@ -18,7 +18,7 @@ use Rattle.best.specs.Rows.{listFrom, tableOf, rowsOf, layerRows}
 use Rattle.best.specs.Labels.{isKnown, labelWeight, labelSteps, labelsListed, byCode, places, relabelAt, relabel, earlier, waiting, nextLabel}
 use Rattle.best.specs.Search.{atSink, relabelled, layerTurn, quietTurn, turn, searchFrom, mostSum, mostTurns, startLabels, searchSide, labelling, exitsOf}
 use Rattle.best.specs.Best.{reachRows, exitsAt, labelsAt, routeOf, outcome, best}
-use Rattle.cases.specs.Cases.{Case, rulesIn, tables, strip, case1, case3, case4, case7, case11, withSkew, skewedCase, skewed3}
+use Rattle.cases.specs.Cases.{Case, rulesIn, tables, strip, case1, case3, case4, case7, case11, skewedCase, skewed3}
 use Rattle.reasons.specs.Reasons.{routed, routedAt}
 use Rattle.reason_cases.specs.Reasons.{cutCase, withSetup, setupCase}
 

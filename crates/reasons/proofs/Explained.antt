@@ -17,7 +17,7 @@ use Rattle.answers.specs.declared.explained.Explained.{Explained}
 use Rattle.question.specs.Question.{Question, rulesAsked, passes}
 use Rattle.router.specs.Route.{checks}
 use Rattle.reasons.specs.Explains.{NoRoute, rulesAt, Explains}
-use Rattle.reasons.specs.Reasons.{routed, smallestPeriod, reasonFor, explainedFor, explainedAfter, explainedOf}
+use Rattle.reasons.specs.Reasons.{routed, smallestPeriod, reasonFor, explainedFor, explainedAfter, explainedOf, rulesWith}
 use Rattle.reasons.proofs.Order.{later-routed, light-routed}
 use Rattle.reasons.proofs.Periods.{smallest-least, smallest-routed, none-before, no-smallest}
 use Rattle.reasons.proofs.Values.{explained-exists, explained-because, reason-walled, reason-load, reason-short, reason-period}
@@ -25,13 +25,13 @@ use Rattle.reasons.proofs.Meaning as meaning
 
 module _ (q : Question) (scratch : ℕ) (pass : checks q scratch ≡ passes) where
   abbrev bare : Bool
-  bare = routed (meaning.rulesWith q (relaxed false (meaning.tablesIn q)))
+  bare = routed (rulesWith q (relaxed false (meaning.tablesIn q)))
 
   abbrev untimed : Bool
-  untimed = routed (meaning.rulesWith q (relaxed true (meaning.tablesIn q)))
+  untimed = routed (rulesWith q (relaxed true (meaning.tablesIn q)))
 
   abbrev own : Bool
-  own = routed (meaning.rulesWith q (meaning.tablesIn q))
+  own = routed (rulesWith q (meaning.tablesIn q))
 
   abbrev at : ℕ → Bool
   at t = meaning.routesAt q t
@@ -64,7 +64,7 @@ module _ (q : Question) (scratch : ℕ) (pass : checks q scratch ≡ passes) whe
             let there : at (q .tables .period) ≡ true = later-routed _ _ _ _ (meaning.valid q scratch pass) least (q .tables .period) (smallest-least _ _ _ _ (meaning.valid q scratch pass)) k (meaning.period-most q scratch pass) here in
             absurd (of-true false (sym none ∙ (sym (meaning.at-own q scratch pass) ∙ there)))
 
-    period-true : (f : HasRoute (meaning.rulesWith q (relaxed true (meaning.tablesIn q)))) → least ≤ periodMax → Explains q (Explained.Because (Reason.Period least))
+    period-true : (f : HasRoute (rulesWith q (relaxed true (meaning.tablesIn q)))) → least ≤ periodMax → Explains q (Explained.Because (Reason.Period least))
     period-true f h =
         let low = smallest-least _ _ _ _ (meaning.valid q scratch pass) in
         let r = meaning.route-at q scratch pass least low h (smallest-routed _ _ _ _ (meaning.valid q scratch pass) h) in
@@ -73,7 +73,7 @@ module _ (q : Question) (scratch : ℕ) (pass : checks q scratch ≡ passes) whe
         Explains.period least (meaning.no-route q scratch pass none) (r .route) (fits-at least (r .route) (r .isLegal)) over h (r .isLegal)
         (λ u k. none-below (least - 1) (omega arith) (omega arith) (before-least (least - 1) (omega arith) (omega arith)) u (omega arith))
 
-    short-true : (f : HasRoute (meaning.rulesWith q (relaxed true (meaning.tablesIn q)))) → periodMax < least → Explains q (Explained.Because Reason.TooShort)
+    short-true : (f : HasRoute (rulesWith q (relaxed true (meaning.tablesIn q)))) → periodMax < least → Explains q (Explained.Because Reason.TooShort)
     short-true f h =
         Explains.tooShort (f .route) (subst T (sym (meaning.fits-legal q scratch pass (f .route))) (f .isLegal))
         (none-below periodMax (omega arith) (omega arith) (before-least periodMax (omega arith) h))

@@ -21,7 +21,7 @@ use Rattle.question.proofs.Checks.{passed}
 use Rattle.router.specs.Route.{checks}
 use Rattle.router.proofs.Passed.{passed-valid}
 use Rattle.reasons.specs.Explains.{NoRoute, rulesAt}
-use Rattle.reasons.specs.Reasons.{routed, routedAt}
+use Rattle.reasons.specs.Reasons.{routed, routedAt, rulesWith}
 use Rattle.reasons.proofs.Routed.{routed-route, routed-none, route-routed, none-routed}
 
 abbrev pub planIn : Question → Plan
@@ -30,10 +30,7 @@ planIn q = planOf (q .width) (q .height) (q .marks)
 abbrev pub tablesIn : Question → Elements
 tablesIn q = elementsOf (q .tables) (q .buffers)
 
--- the question's rules with other tables, and whether a route exists at a period
-abbrev pub rulesWith : Question → Elements → Rules
-rulesWith q d = rulesOf (planIn q) d (q .source) (q .sink)
-
+-- whether a route exists at a period
 abbrev pub routesAt : Question → ℕ → Bool
 routesAt q t = routedAt (planIn q) (tablesIn q) (q .source) (q .sink) t
 

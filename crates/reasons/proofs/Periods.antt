@@ -15,25 +15,25 @@ use Rattle.reasons.proofs.Smallest as first
 
 module _ (p : Plan) (e : Elements) (a b : ℕ) (valid : Valid e) where
   pub smallest-least : periodMin ≤ smallestPeriod p e a b
-  unfolding smallestPeriod
+  unfolding smallestPeriod routedAt
   smallest-least = first.first-least (routedAt p e a b) periodMax (later-routed p e a b valid)
 
   pub smallest-routed : smallestPeriod p e a b ≤ periodMax → routedAt p e a b (smallestPeriod p e a b) ≡ true
-  unfolding smallestPeriod
+  unfolding smallestPeriod routedAt
   smallest-routed = first.first-passes (routedAt p e a b) periodMax (later-routed p e a b valid)
 
   pub none-before : (t : ℕ) → periodMin ≤ t → t < smallestPeriod p e a b → routedAt p e a b t ≡ true → ⊥
-  unfolding smallestPeriod
+  unfolding smallestPeriod routedAt
   none-before = first.fails-before (routedAt p e a b) periodMax (later-routed p e a b valid)
 
   -- none at `low`, one at the next
   pub smallest-is : (low high : ℕ) → periodMin ≤ low → high ≡ low + 1 → high ≤ periodMax → routedAt p e a b low ≡ false → routedAt p e a b high ≡ true → high ≡ smallestPeriod p e a b
-  unfolding smallestPeriod
+  unfolding smallestPeriod routedAt
   smallest-is = first.first-is (routedAt p e a b) periodMax (later-routed p e a b valid)
 
   -- none at the longest
   pub no-smallest : routedAt p e a b periodMax ≡ false → periodMax < smallestPeriod p e a b
-  unfolding smallestPeriod
+  unfolding smallestPeriod routedAt
   no-smallest = first.first-none (routedAt p e a b) periodMax (later-routed p e a b valid)
 
   -- one at the longest

@@ -24,18 +24,14 @@ use Rattle.router.specs.Route.{checks, scratchOf}
 unfoldable pub routed : Rules → Bool
 routed R = elim (best R) [ found r ↦ true | none ↦ false ]
 
--- and with another period
-unfoldable pub routedAt : Plan → Elements → ℕ → ℕ → ℕ → Bool
-routedAt p e a b t = routed (rulesOf p (atPeriod t e) a b)
-
--- the first of 1, 2, .. 30,000 at which a route exists; 30,001 for none
-unfoldable pub smallestPeriod : Plan → Elements → ℕ → ℕ → ℕ
-smallestPeriod p e a b = firstFrom (routedAt p e a b) periodMin periodMax
-
 unfoldable pub periodReason : ℕ → Reason
 periodReason t = cond (leb t periodMax) (Reason.Period t) Reason.TooShort
 
 -- The reason under any rules that follow from tables; the call's own are `rulesWith`.
+
+-- the first of 1, 2, .. 30,000 at which a route exists; 30,001 for none
+abbrev pub smallestWith : (Elements → Rules) → Elements → ℕ
+smallestWith rules e = firstFrom (λ t. routed (rules (atPeriod t e))) periodMin periodMax
 
 -- walled off: no route even where nothing has a delay or a load; load: none where nothing has a delay; else the first period
 abbrev pub reasonWith : (Elements → Rules) → Elements → Reason
@@ -44,7 +40,7 @@ reasonWith rules e =
       | false ↦ Reason.WalledOff
       | true ↦ elim (routed (rules (relaxed true e))) [
         | false ↦ Reason.Load
-        | true ↦ periodReason (firstFrom (λ t. routed (rules (atPeriod t e))) periodMin periodMax)
+        | true ↦ periodReason (smallestWith rules e)
       ]
     ]
 
@@ -52,6 +48,14 @@ reasonWith rules e =
 abbrev pub explainedWith : (Elements → Rules) → Elements → Explained
 explainedWith rules e =
     elim (routed (rules e)) [ true ↦ Explained.Refused Refusal.RouteExists | false ↦ Explained.Because (reasonWith rules e) ]
+
+-- With a plan and ends: whether a route exists at a period, the smallest, the reason, the answer
+
+unfoldable pub routedAt : Plan → Elements → ℕ → ℕ → ℕ → Bool
+routedAt p e a b t = routed (rulesOf p (atPeriod t e) a b)
+
+unfoldable pub smallestPeriod : Plan → Elements → ℕ → ℕ → ℕ
+smallestPeriod p e a b = smallestWith (λ d. rulesOf p d a b) e
 
 unfoldable pub reasonFor : Plan → Elements → ℕ → ℕ → Reason
 reasonFor p e a b = reasonWith (λ d. rulesOf p d a b) e

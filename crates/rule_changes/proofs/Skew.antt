@@ -15,14 +15,15 @@ use Rattle.budget.specs.Emission.{firstFrom}
 use Rattle.answers.specs.Tables.{tablesFault, elementsOf}
 use Rattle.answers.specs.Crossing.{crossingFault, clocksOf}
 use Rattle.answers.specs.declared.answer.Refusal.{Refusal}
+use Rattle.answers.specs.declared.tables.ElementFault.{ElementFault}
 use Rattle.answers.specs.declared.explained.Reason.{Reason}
 use Rattle.answers.specs.declared.explained.Explained.{Explained}
-use Rattle.question.specs.Question.{Question, Check, passes, fails, rulesAsked}
-use Rattle.question.specs.Crossing.{CrossingQuestion}
+use Rattle.question.specs.Question.{Question, Check, passes, fails, checksWith, questionChecks, rulesAsked}
+use Rattle.question.specs.Crossing.{CrossingQuestion, crossingChecks}
 use Rattle.router.specs.Route.{checks, answerUnder, answerOf, visitsUnder, visitsOf}
 use Rattle.verdict.specs.Verdict.{verdictUnder, verdictOf}
 use Rattle.comparison.specs.Better.{comparisonUnder, comparisonOf}
-use Rattle.reasons.specs.Reasons.{routed, periodReason, reasonWith, explainedWith, explainedAfter, explainedUnder, rulesWith, explainedOf}
+use Rattle.reasons.specs.Reasons.{routed, periodReason, smallestWith, reasonWith, explainedWith, explainedAfter, explainedUnder, rulesWith, explainedOf}
 use Rattle.crossing_router.specs.Route.{rulesCrossed, crossingAnswerUnder, crossingAnswerOf, crossingVisitsUnder, crossingVisitsOf}
 use Rattle.text.specs.Answers.{answerText}
 use Rattle.printing.specs.Printed.{scratchWords, visitWords, blank, readingText}
@@ -46,9 +47,13 @@ module _ (q : Question) where
     unfolding tablesFault faultBefore
     fault = rw (in-range (q .tables .skew) none)
 
+    refusals : (rest : Check) → questionChecks q rest ≡ checksWith (faultBefore q) q rest
+    unfolding questionChecks
+    refusals rest = ap (λ (f : ElementFault). checksWith f q rest) fault
+
 module _ (q : Question) (e : Elements) (none : e .skew ≡ 0) where
   -- the tables with another period keep the skew; those without delays have none
-  periods : firstFrom (λ t. routed (rulesWith q (atPeriod t e))) periodMin periodMax ≡ firstFrom (λ t. routed (unskewedWith q (atPeriod t e))) periodMin periodMax
+  periods : smallestWith (rulesWith q) e ≡ smallestWith (unskewedWith q) e
   unfolding atPeriod
   periods = ap (λ (f : ℕ → Bool). firstFrom f periodMin periodMax) (fun-ext (λ (t : ℕ). ap routed (tables-unskewed q (atPeriod t e) none)))
 
@@ -84,7 +89,7 @@ module _ (q : Question) (none : q .tables .skew ≡ 0) where
   unfolding answerOf visitsOf verdictOf comparisonOf readingText
   answers-before-16 =
       record {
-        fault = fault q none;
+        refusals = refusals q none;
         answer = λ scratch visits. ap (λ (R : Rules). answerUnder R q scratch visits) (own q none);
         visits = λ scratch visits. ap (λ (R : Rules). visitsUnder R q scratch visits) (own q none);
         verdict = λ words. ap (λ (R : Rules). verdictUnder R q words) (own q none);
@@ -103,11 +108,15 @@ module _ (c : CrossingQuestion) (none : c .question .tables .skew ≡ 0) where
   unfolding crossingFault crossingFaultBefore
   crossing-fault = rw (in-range (c .question .tables .skew) none)
 
+  crossing-refusals : (rest : Check) → crossingChecks c rest ≡ checksWith (crossingFaultBefore c) (c .question) rest
+  unfolding crossingChecks
+  crossing-refusals rest = ap (λ (f : ElementFault). checksWith f (c .question) rest) crossing-fault
+
   pub crossings-before-16 : CrossingsBefore c
   unfolding crossingAnswerOf crossingVisitsOf
   crossings-before-16 =
       record {
-        fault = crossing-fault;
+        refusals = crossing-refusals;
         answer = λ scratch visits. ap (λ (R : Rules). crossingAnswerUnder R c scratch visits) crossed;
         visits = λ scratch visits. ap (λ (R : Rules). crossingVisitsUnder R c scratch visits) crossed;
       }

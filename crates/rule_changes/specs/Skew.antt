@@ -1,4 +1,4 @@
--- C-16 of document 02: "A skew of 0 gives the answers of before." The answers of before are those of the same definitions under the rules of before, which read no skew (rules/specs/Unskewed.antt), and refusal 4 without its test of the skew.
+-- C-16 of document 02: "A skew of 0 gives the answers of before." The answers of before are those of the same definitions under the rules of before, which read no skew (rules/specs/Unskewed.antt), and refusal 4 without its test of the skew. `better` hands back by `comparisonOf`; the scratch words go by the checks alone; the session's calls read no tables.
 use Prim.Native.Nat.{ℕ}
 use mathlib.Core.Bool.{true}
 use mathlib.Core.List.{List}
@@ -7,12 +7,12 @@ use Rattle.plan.specs.Plan.{planOf}
 use Rattle.timing.specs.declared.elements.Elements.{Elements}
 use Rattle.rules.specs.Rules.{Rules}
 use Rattle.rules.specs.Unskewed.{unskewedRules, unskewedBetween}
-use Rattle.answers.specs.Tables.{require, periodInRange, registerOk, limitFault, tablesFault, elementsOf}
-use Rattle.answers.specs.Crossing.{crossingFault, clocksOf}
+use Rattle.answers.specs.Tables.{require, periodInRange, registerOk, faultFromLimit, elementsOf}
+use Rattle.answers.specs.Crossing.{clocksOf}
 use Rattle.answers.specs.declared.answer.Fault.{Fault}
 use Rattle.answers.specs.declared.tables.ElementFault.{ElementFault}
-use Rattle.question.specs.Question.{Question}
-use Rattle.question.specs.Crossing.{CrossingQuestion}
+use Rattle.question.specs.Question.{Question, Check, checksWith, questionChecks}
+use Rattle.question.specs.Crossing.{CrossingQuestion, crossingChecks}
 use Rattle.router.specs.Route.{answerUnder, answerOf, visitsUnder, visitsOf}
 use Rattle.verdict.specs.Verdict.{verdictUnder, verdictOf}
 use Rattle.comparison.specs.Better.{comparisonUnder, comparisonOf}
@@ -33,10 +33,11 @@ unskewedAsked q = unskewedWith q (elementsOf (q .tables) (q .buffers))
 
 -- refusal 4: T, then L
 unfoldable pub faultBefore : Question → ElementFault
-faultBefore q = require (periodInRange (q .tables .period)) Fault.Period (limitFault true (q .tables) (q .buffers))
+faultBefore q = require (periodInRange (q .tables .period)) Fault.Period (faultFromLimit true (q .tables) (q .buffers))
 
 pub record AnswersBefore (q : Question) : Type 0 where
-  pub fault : tablesFault (q .tables) (q .buffers) ≡ faultBefore q
+  -- 1 to 5, whatever comes after them
+  pub refusals : (rest : Check) → questionChecks q rest ≡ checksWith (faultBefore q) q rest
   pub answer : (scratch visits : List ℕ) → answerOf q scratch visits ≡ answerUnder (unskewedAsked q) q scratch visits
   pub visits : (scratch visits : List ℕ) → visitsOf q scratch visits ≡ visitsUnder (unskewedAsked q) q scratch visits
   pub verdict : (words : List ℕ) → verdictOf q words ≡ verdictUnder (unskewedAsked q) q words
@@ -56,9 +57,9 @@ unfoldable pub crossingFaultBefore : CrossingQuestion → ElementFault
 crossingFaultBefore c =
     require (periodInRange (c .crossing .period)) Fault.SourcePeriod
     (require (periodInRange (c .question .tables .period)) Fault.SinkPeriod
-    (limitFault (registerOk (c .crossing .fifo)) (c .question .tables) (c .question .buffers)))
+    (faultFromLimit (registerOk (c .crossing .fifo)) (c .question .tables) (c .question .buffers)))
 
 pub record CrossingsBefore (c : CrossingQuestion) : Type 0 where
-  pub fault : crossingFault (c .question .tables) (c .crossing) (c .question .buffers) ≡ crossingFaultBefore c
+  pub refusals : (rest : Check) → crossingChecks c rest ≡ checksWith (crossingFaultBefore c) (c .question) rest
   pub answer : (scratch visits : List ℕ) → crossingAnswerOf c scratch visits ≡ crossingAnswerUnder (unskewedCrossed c) c scratch visits
   pub visits : (scratch visits : List ℕ) → crossingVisitsOf c scratch visits ≡ crossingVisitsUnder (unskewedCrossed c) c scratch visits

@@ -8,7 +8,7 @@ use Rattle.timing.specs.declared.elements.Register.{Register}
 use Rattle.timing.specs.declared.elements.Elements.{Elements}
 use Rattle.timing.specs.declared.clocks.Clocks.{Clocks}
 use Rattle.timing.specs.Formulas.{skewed, registerDriver, registerLoad, setupDelay}
-use Rattle.rules.specs.Rules.{Rules, fifoCode, rulesOf}
+use Rattle.rules.specs.Rules.{Rules, fifoCode, closedWithin, rulesOf}
 use Rattle.rules.specs.Legal.{Route}
 use Rattle.rules.specs.Ranking.{codeSevens}
 
@@ -71,20 +71,4 @@ crossingLatency source sink r = source * (sourceRegisters r + 1) + sink * (sinkR
 
 -- these rules with any period for each span, by its number from the sink
 unfoldable pub byNumber : Rules → (ℕ → ℕ) → Rules
-byNumber R period =
-    record {
-      cellCount = R .cellCount;
-      source = R .source;
-      sink = R .sink;
-      limit = R .limit;
-      linked = R .linked;
-      wire = R .wire;
-      site = R .site;
-      buffer = R .buffer;
-      start = R .start;
-      fresh = R .fresh;
-      closer = R .closer;
-      fifos = R .fifos;
-      bound = λ span f. 2 * period span + 1;
-      weight = R .weight;
-    }
+byNumber R period = closedWithin R (R .closer) (λ span f. 2 * period span + 1)

@@ -1,4 +1,4 @@
--- What a rule of routing may depend on, as one record; document 01's rules are the instance `rulesOf`.
+-- What a rule of routing may depend on, as one record; document 01's rules, with document 02's skew, are the instance `rulesOf`.
 -- The theory is stated over the record, so that a later request that changes one field changes one line here.
 use Prim.Native.Nat.{ℕ, suc, _+_, _*_, _-_}
 use mathlib.Core.Bool.{Bool, _&&_, _||_, not, cond}
@@ -53,7 +53,7 @@ pub record Rules : Type 0 where
   -- after the sink, and after a gate with this code that closes a span
   pub start : Stage
   pub fresh : ℕ → Stage
-  -- what drives the span that closes at this cell with this code
+  -- what drives the span that closes at this cell with this code, with the skew in its delay
   pub closer : ℕ → ℕ → Driver
   -- how many FIFOs a route has
   pub fifos : ℕ
@@ -61,6 +61,26 @@ pub record Rules : Type 0 where
   pub bound : ℕ → ℕ → ℕ
   -- what a span counts in the ranking, after f FIFOs
   pub weight : ℕ → ℕ
+
+-- rules with other drivers at the closes, by cell and code, and other bounds
+abbrev pub closedWithin : Rules → (ℕ → ℕ → Driver) → (ℕ → ℕ → ℕ) → Rules
+closedWithin R closer bound =
+    record {
+      cellCount = R .cellCount;
+      source = R .source;
+      sink = R .sink;
+      limit = R .limit;
+      linked = R .linked;
+      wire = R .wire;
+      site = R .site;
+      buffer = R .buffer;
+      start = R .start;
+      fresh = R .fresh;
+      closer = closer;
+      fifos = R .fifos;
+      bound = bound;
+      weight = R .weight;
+    }
 
 -- Document 01: a buffer stands on a cell without mark 1, a register on a cell with mark 2, whatever other marks it has.
 unfoldable pub siteOf : Plan → Elements → ℕ → ℕ → Bool

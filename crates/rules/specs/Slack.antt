@@ -11,7 +11,7 @@ use Rattle.rules.specs.Rules.{Rules, isClosing}
 use Rattle.rules.specs.Legal.{Visit, Route, arrive, closing}
 use Rattle.rules.specs.Beginning.{Place, nextPlace, startPlace}
 
--- "2T less the closing delay" of the span that a visit closes, from the place where the visits before it have come; the bound is one more than 2T
+-- "2T less the closing delay", the skew in it, of the span that a visit closes, from the place where the visits before it have come; the bound is one more than 2T
 unfoldable pub slackAt : Rules → Place → Visit → ℤ
 slackAt R a v = slackOf (R .bound (a .span) (a .fifos) - 1) (closing R (arrive R (a .cell) (a .stage) (v .cell)) (v .cell) (v .code))
 

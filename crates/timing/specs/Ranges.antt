@@ -32,6 +32,6 @@ skewMax = 30000
 abbrev pub buffersMax : ℕ
 buffersMax = 6
 
--- a delay to which a gate's delay is added, in half-ticks: the sum has 32 bits
+-- a delay to which a gate's delay and twice the skew are added, in half-ticks: the sum has 32 bits
 abbrev pub sumMost : ℕ
 sumMost = 4000000000

@@ -1,4 +1,4 @@
--- The tables with something left out (document 02, C-13): another period; no delays; no loads either.
+-- The tables with something changed or left out (document 02, C-13): another period; another skew; no delays; no loads either.
 use Prim.Native.Nat.{ℕ}
 use mathlib.Core.Bool.{Bool, cond}
 use mathlib.Core.List.{map}
@@ -14,6 +14,20 @@ atPeriod t e =
     record {
       period = t;
       skew = e .skew;
+      limit = e .limit;
+      horizontal = e .horizontal;
+      vertical = e .vertical;
+      register = e .register;
+      count = e .count;
+      buffers = e .buffers;
+    }
+
+-- with another skew (document 02, C-16)
+unfoldable pub withSkew : ℕ → Elements → Elements
+withSkew s e =
+    record {
+      period = e .period;
+      skew = s;
       limit = e .limit;
       horizontal = e .horizontal;
       vertical = e .vertical;

@@ -1,4 +1,4 @@
--- `job::read::read_tables` meets its contract: a refusal, or the record of the twelve numbers.
+-- `job::read::read_tables` meets its contract: a refusal, or the record of the thirteen numbers.
 use mathlib.Core.Path.{refl, _∙_}
 use borrow.Author.Needs.{needs}
 use Rattle.job.proofs.Stages.{run-told, run-bad, tables-refused, tables-whole}
