@@ -30,7 +30,7 @@ pub fn small(x: &mut Random) -> Problem {
     let n = width * height;
     let taps = [12, 50, 100][x.below(3) as usize];
     let (blocked, cuts) = ([0, 30, 80][x.below(3) as usize], [0, 0, 8, 25][x.below(4) as usize]);
-    let marks = (0..n)
+    let mut marks: Vec<u8> = (0..n)
         .map(|cell| {
             let mut m = 0;
             for (mark, percent, fits) in [
@@ -46,6 +46,10 @@ pub fn small(x: &mut Random) -> Problem {
             m
         })
         .collect();
+    // a blocked tap takes no gate; most plans have none
+    if x.percent(75) {
+        marks.iter_mut().filter(|m| **m & TAP != 0).for_each(|m| *m &= !BLOCKED);
+    }
     let wide = x.percent(10);
     let mut number = |small: u64, whole: u64| if wide { x.below(whole + 1) as u16 } else { x.below(small + 1) as u16 };
     let register = Register {

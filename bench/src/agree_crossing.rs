@@ -3,17 +3,17 @@
 use crate::agree::small;
 use crate::crossing::Sides;
 use crate::plans::Random;
-use crate::problem::{Crossing, Problem, Register, TAP};
+use crate::problem::{BLOCKED, Crossing, Problem, Register, TAP};
 
-/// A small plan with more room for a FIFO and registers on both sides of it: six cells at least, and taps everywhere on
-/// every other plan.
+/// A small plan with more room for a FIFO and registers on both sides of it: six cells at least, and open taps
+/// everywhere on every other plan.
 fn roomy(x: &mut Random) -> Problem {
     let mut p = small(x);
     while p.cells() < 6 {
         p = small(x);
     }
     if x.percent(50) {
-        p.marks.iter_mut().for_each(|m| *m |= TAP);
+        p.marks.iter_mut().for_each(|m| *m = *m & !BLOCKED | TAP);
     }
     p
 }

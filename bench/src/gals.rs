@@ -7,7 +7,7 @@
 
 use crate::front::{Closer, Front, Side};
 use crate::lists::{List, Sorted, Staircase};
-use crate::problem::{Crossing, Problem, TAP};
+use crate::problem::{Crossing, Problem};
 use crate::queues::{Buckets, Heap, Queue};
 use std::cmp::Reverse;
 use std::collections::BinaryHeap;
@@ -102,7 +102,7 @@ impl<Q: Queue, L: List> Gals<Q, L> {
             }
             let Some(cell) = side.gate_cell(p, c) else { continue };
             self.front.push_buffers(p, side, c, cell);
-            if p.marks[cell] & TAP == 0 {
+            if !p.takes_register(cell) {
                 continue;
             }
             let latency = latency + net.periods[at];

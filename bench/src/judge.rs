@@ -1,7 +1,7 @@
 //! A plain judge of route lists, from documents 01 and 02: the peer of the verdict, and the check of the routes that we
 //! write. Delays are 64-bit half-ticks.
 
-use crate::problem::{BLOCKED, CUT_BELOW, CUT_RIGHT, Crossing, Problem, TAP, Wire};
+use crate::problem::{BLOCKED, CUT_BELOW, CUT_RIGHT, Crossing, Problem, Wire};
 
 /// Half-ticks; no larger miss is told.
 const MISS_MOST: u64 = 1_000_000_000;
@@ -65,7 +65,7 @@ fn site(p: &Problem, cell: usize, code: usize) -> bool {
     if cell == p.source || cell == p.sink {
         return false;
     }
-    if code == 7 { p.marks[cell] & TAP != 0 } else { code <= p.buffers.len() && p.marks[cell] & BLOCKED == 0 }
+    if code == 7 { p.takes_register(cell) } else { code <= p.buffers.len() && p.marks[cell] & BLOCKED == 0 }
 }
 
 /// Of a list of two visits or more.

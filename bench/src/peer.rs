@@ -6,7 +6,7 @@
 
 use crate::front::{Closer, Front, Side};
 use crate::lists::{List, Sorted, Staircase};
-use crate::problem::{Problem, TAP};
+use crate::problem::Problem;
 use crate::queues::{Buckets, Heap, Queue};
 
 pub type Plain = Peer<Heap, Sorted>;
@@ -60,7 +60,7 @@ impl<Q: Queue, L: List> Peer<Q, L> {
             }
             let Some(cell) = side.gate_cell(p, c) else { continue };
             self.front.push_buffers(p, side, c, cell);
-            if p.marks[cell] & TAP != 0 && !self.registered[cell] && side.ends(register, c) {
+            if p.takes_register(cell) && !self.registered[cell] && side.ends(register, c) {
                 self.registered[cell] = true;
                 self.next_wave.push(cell as u16);
             }

@@ -75,7 +75,7 @@ pub fn open(size: Size, period: u16) -> Problem {
     problem(size, period, vec![TAP; n], 0, n - 1)
 }
 
-/// Blocked cells, taps and cuts at random, corner to corner.
+/// Blocked cells, taps and cuts at random, corner to corner. No tap is blocked.
 pub fn random(size: Size, period: u16, cuts: u64, seed: u64) -> Problem {
     let (side, n) = (size.side, size.side * size.side);
     let mut random = Random::new(seed);
@@ -92,7 +92,7 @@ pub fn random(size: Size, period: u16, cuts: u64, seed: u64) -> Problem {
                     m |= mark;
                 }
             }
-            m
+            if m & TAP != 0 { m & !BLOCKED } else { m }
         })
         .collect();
     problem(size, period, marks, 0, n - 1)

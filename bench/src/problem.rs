@@ -54,6 +54,12 @@ impl Problem {
         self.width * self.height
     }
 
+    /// Whether a register or FIFO may stand here, between the ends: a tap that is not blocked.
+    #[inline(always)]
+    pub fn takes_register(&self, cell: usize) -> bool {
+        self.marks[cell] & (TAP | BLOCKED) == TAP
+    }
+
     /// The neighbours of a cell over uncut wires: up, left, right, down.
     pub fn neighbours(&self, cell: usize) -> [Option<usize>; 4] {
         let (w, row, column) = (self.width, cell / self.width, cell % self.width);

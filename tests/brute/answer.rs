@@ -1,7 +1,8 @@
 // The whole text that the route printer prints for a job's bytes.
 
+use crate::change::Best;
 use crate::job;
-use crate::rules::{legal, registers, Fault, Problem, Visit};
+use crate::rules::{legal, registers, Fault, Problem, ReadLast, Visit};
 use crate::search::{self, TooLarge};
 
 const VISITS: usize = 1_024; // 2,048 words, two a visit
@@ -14,10 +15,10 @@ pub enum Answer {
     Refused(u32, Option<Fault>),
 }
 
-// The answer to a job's bytes; the search follows at most `most` states.
-pub fn answer(bytes: &[u8], most: usize) -> Result<Answer, TooLarge> {
+// The answer to a job's bytes by the rules of now, or of before C-17; the search follows at most `most` states.
+pub fn answer(bytes: &[u8], read_last: ReadLast, most: usize) -> Result<Answer, TooLarge> {
     let p = match job::read(bytes) {
-        Ok(p) => p,
+        Ok(p) => Problem { read_last, ..p },
         Err(refusal) => return Ok(Answer::Refused(refusal, None)),
     };
     // Refusals 1 and 2 cannot come after the reading: the grid is tested there, and the marks are counted by it.
@@ -38,16 +39,28 @@ pub fn answer(bytes: &[u8], most: usize) -> Result<Answer, TooLarge> {
     })
 }
 
+// Registers, steps, latency, spare half-ticks.
+fn figures(p: &Problem, route: &[Visit]) -> [u64; 4] {
+    let k = registers(route) as u64;
+    let slack = legal(p, route).expect("the search's route is legal").slack(p);
+    [k, route.len() as u64 - 1, p.period as u64 * (k + 1), slack]
+}
+
 impl Answer {
+    pub fn best(&self) -> Best<'_> {
+        match self {
+            Answer::Route(p, route) => Some((route, figures(p, route).to_vec())),
+            _ => None,
+        }
+    }
+
     pub fn text(&self) -> String {
         match self {
             Answer::None(_) => "none\n".to_string(),
             Answer::Refused(number, _) => format!("refused {number}\n"),
             Answer::Route(p, route) => {
-                let k = registers(route);
-                let latency = p.period * (k + 1);
-                let slack = legal(p, route).expect("the search's route is legal").slack(p);
-                let mut text = format!("route {} {} {} {}\n", k, route.len() - 1, latency, slack);
+                let [k, steps, latency, slack] = figures(p, route);
+                let mut text = format!("route {k} {steps} {latency} {slack}\n");
                 for (cell, code) in route {
                     text += &format!("{cell} {code}\n");
                 }

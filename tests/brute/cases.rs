@@ -8,10 +8,11 @@ pub struct Case {
     pub name: String,
     pub bytes: Vec<u8>,
     pub text: String,
+    pub before: String, // the text of before C-17
 }
 
-fn case(name: &str, bytes: Vec<u8>, text: &str) -> Case {
-    Case { name: name.to_string(), bytes, text: text.to_string() }
+pub fn case(name: &str, bytes: Vec<u8>, text: &str) -> Case {
+    Case { name: name.to_string(), bytes, text: text.to_string(), before: text.to_string() }
 }
 
 fn refused(name: &str, bytes: Vec<u8>, number: u32) -> Case {
@@ -33,6 +34,7 @@ fn pair() -> Problem {
         source: 0,
         sink: 1,
         buffers: vec![Buffer { r: 255, k: 1_000, c: 63 }; 6],
+        ..Problem::default()
     }
 }
 

@@ -1,11 +1,12 @@
 // A brute-force search beside the planner, written from documents 01 and 02 alone: random jobs through the built route
-// printer, the whole text compared.
+// printer, the whole text compared; and beside it what the rules of before C-17 would answer.
 //   brute PRINTER JOBS SEED [STATES]    STATES: the most states that one search may follow
 //   brute text < JOB                    the text that the brute force gives for one job
 //   brute sample JOBS SEED              random jobs, one a line, in hexadecimal
 
 mod answer;
 mod cases;
+mod change;
 mod job;
 mod make;
 mod mix;
@@ -16,6 +17,7 @@ mod search;
 mod worked;
 
 use random::Random;
+use rules::{Problem, ReadLast};
 use std::io::{Read, Write};
 use std::process::{Child, Command, ExitCode, Stdio};
 use std::sync::{Arc, Mutex};
@@ -89,10 +91,12 @@ fn compare(printer: &str, bytes: &[u8], expected: &str, running: &Running) -> bo
 fn check_cases(what: &str, cases: &[cases::Case], printer: &str, running: &Running) -> bool {
     let mut good = true;
     for case in cases {
-        let text = answer::answer(&case.bytes, usize::MAX).unwrap().text();
-        if text != case.text {
-            println!("the brute force fails at '{}': {text}", case.name);
-            good = false;
+        for (last, known) in [(ReadLast::Tap, &case.before), (ReadLast::Blocked, &case.text)] {
+            let text = answer::answer(&case.bytes, last, usize::MAX).unwrap().text();
+            if text != *known {
+                println!("the brute force fails at '{}', {last:?} read last: {text}", case.name);
+                good = false;
+            }
         }
         if !compare(printer, &case.bytes, &case.text, running) {
             println!("that was '{}'", case.name);
@@ -113,11 +117,13 @@ fn check_search(seed: u64) -> bool {
             continue;
         }
         let visits = if p.cells() <= 3 { 8 } else { 6 };
-        match naive::agrees(&p, visits) {
-            Ok(tried) => lists += tried,
-            Err(text) => {
-                println!("search and enumeration differ: {text}");
-                return false;
+        for read_last in [ReadLast::Tap, ReadLast::Blocked] {
+            match naive::agrees(&Problem { read_last, ..p.clone() }, visits) {
+                Ok(tried) => lists += tried,
+                Err(text) => {
+                    println!("search and enumeration differ: {text}");
+                    return false;
+                }
             }
         }
         routes += search::best(&p, STATES).unwrap().is_some() as u32;
@@ -142,7 +148,8 @@ fn run(printer: &str, jobs: u64, seed: u64, states: usize) -> bool {
             mix.too_large += 1;
             continue;
         };
-        let Ok(answer) = answer::answer(&job.bytes, states) else {
+        let answers = [ReadLast::Tap, ReadLast::Blocked].map(|last| answer::answer(&job.bytes, last, states));
+        let [Ok(before), Ok(answer)] = answers else {
             mix.too_large += 1;
             continue;
         };
@@ -153,6 +160,10 @@ fn run(printer: &str, jobs: u64, seed: u64, states: usize) -> bool {
         mix.shapes[job.shape] += 1;
         mix.damaged += job.damaged as u64;
         mix.count(&job.bytes, &answer);
+        if let Err(what) = mix.count_change(&before, &answer) {
+            mismatches += 1;
+            println!("MISMATCH on job {}\n{what}", hex(&job.bytes));
+        }
         if mix.jobs % 5_000 == 0 && jobs > 5_000 {
             println!("{} jobs, {mismatches} mismatches, {} s", mix.jobs, start.elapsed().as_secs());
         }
@@ -172,7 +183,7 @@ fn main() -> ExitCode {
     if words == ["text"] {
         let mut bytes = Vec::new();
         std::io::stdin().read_to_end(&mut bytes).expect("standard input is read");
-        print!("{}", answer::answer(&bytes, usize::MAX).unwrap().text());
+        print!("{}", answer::answer(&bytes, ReadLast::Blocked, usize::MAX).unwrap().text());
         return ExitCode::SUCCESS;
     }
     let number = |at: usize| words.get(at).and_then(|word| word.parse::<u64>().ok());

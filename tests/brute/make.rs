@@ -19,19 +19,19 @@ pub struct Density {
 fn density(r: &mut Random) -> Density {
     Density {
         blocked: r.pick(&[0, 20, 50, 80, 100]),
-        tap: r.pick(&[0, 15, 40, 70, 100, 100]),
+        tap: r.pick(&[0, 15, 40, 70, 100, 100, 100]),
         cut: r.pick(&[0, 0, 10, 30]),
     }
 }
 
-// One cell's marks; the wires out of the plan are not cut.
-fn marks(r: &mut Random, p: &Problem, cell: u32, d: Density) -> u32 {
+// One cell's marks; so many percent of the taps on blocked cells stay blocked. The wires out of the plan are not cut.
+fn marks(r: &mut Random, p: &Problem, cell: u32, d: Density, both: u32) -> u32 {
     let mut marks = 0;
     if r.chance(d.blocked) {
         marks |= BLOCKED;
     }
     if r.chance(d.tap) {
-        marks |= TAP;
+        marks = if r.chance(both) { marks | TAP } else { TAP };
     }
     if cell % p.width + 1 < p.width && r.chance(d.cut) {
         marks |= CUT_RIGHT;
@@ -55,8 +55,9 @@ pub fn turned(r: &mut Random, a: u32, b: u32) -> Problem {
 }
 
 pub fn scatter(r: &mut Random, p: &mut Problem, d: Density) {
+    let both = r.pick(&[0, 0, 0, 0, 0, 0, 30, 60]);
     for cell in 0..p.cells() {
-        p.marks[cell as usize] = marks(r, p, cell, d);
+        p.marks[cell as usize] = marks(r, p, cell, d, both);
     }
 }
 
@@ -124,60 +125,51 @@ fn crossing(r: &mut Random) -> Problem {
     p
 }
 
-// Taps on branches from both ends of one path, k on each side, of which each is reached only from the one before it, by
-// the whole path: tests/printer/long.txt tells how. Then something may be changed.
+// Taps in the top row, each on a way of its own down to a row of open cells; on the next way, at the other end of that
+// row, the one horizontal step stands a row lower. It adds load, vertical steps cost delay in proportion to the load, and
+// the open cells take the load away. So each tap is dearer to reach and cheaper to leave than the one before it: from
+// each only the next can be reached, and each time the row is walked. Then something may be changed.
 pub fn ratchet(r: &mut Random) -> Problem {
-    let (k, b) = r.pick(&[(3, 3), (3, 4), (4, 4)]);
-    let mut p = sized(k + 3, 2 * b - k + 4);
-    let w = p.width;
-    let block = b - k + 2; // the first row with branches
+    let n = r.within(4, 8); // spans
+    let mut p = sized(n + 3, n + 2);
+    let (w, bottom) = (p.width, n + 1);
     let at = |row: u32, column: u32| row * w + column;
-    let mut lines: Vec<Vec<u32>> = Vec::new(); // chains of joined cells
-    let mut taps = Vec::new();
-    for t in 0..k {
-        let row = block + t;
-        lines.push((0..=t + 1).map(|c| at(row, c)).collect());
-        lines.push((t + 2..=k + 1).map(|c| at(row, c)).collect());
-        taps.extend([at(row, t + 1), at(row, t + 2)]);
+    let foot = |way: u32| way / 2 + if way % 2 == 0 { 0 } else { n / 2 + 2 }; // a column
+    let top = |way: u32| at(0, foot(way) + 1);
+    let mut lines: Vec<Vec<u32>> = vec![(0..w).map(|c| at(bottom, c)).collect()]; // chains of joined cells
+    for way in 0..=n {
+        let (upper, lower) = ((0..=way).map(|row| at(row, foot(way) + 1)), (way..=bottom).map(|row| at(row, foot(way))));
+        lines.push(upper.chain(lower).collect());
     }
-    lines.push((block..=block + b).map(|row| at(row, 0)).collect());
-    lines.push((1..=block + k).map(|row| at(row, k + 1)).collect());
-    let (bottom, turn) = (p.height - 1, r.below(k));
-    let mut open: Vec<u32> = (block + b..bottom).map(|row| at(row, 0)).collect();
-    open.extend((0..w).map(|c| at(bottom, c)));
-    open.extend((0..bottom).rev().map(|row| at(row, w - 1)));
-    open.extend((turn..w - 1).rev().map(|c| at(0, c)));
-    open.extend((turn..=k).map(|c| at(1, c)));
-    lines.push(vec![at(1, k), at(1, k + 1)]);
-    lines.push(open.clone());
     let joined = |a: u32, b: u32| lines.iter().any(|line| line.windows(2).any(|pair| pair == [a, b] || pair == [b, a]));
+    let taps: Vec<u32> = (1..n).map(top).collect();
     for cell in 0..p.cells() {
-        let mut m = if open.contains(&cell) { 0 } else { BLOCKED };
-        if taps.contains(&cell) {
-            m |= TAP;
+        let mut m = if taps.contains(&cell) { TAP } else { BLOCKED };
+        if cell / w == bottom {
+            m = 0;
         }
         if cell % w + 1 < w && !joined(cell, cell + 1) {
             m |= CUT_RIGHT;
         }
-        if cell / w + 1 < p.height && !joined(cell, cell + w) {
+        if cell / w < bottom && !joined(cell, cell + w) {
             m |= CUT_BELOW;
         }
         p.marks[cell as usize] = m;
     }
-    (p.sink, p.source) = (at(block + k, k + 1), at(block, 2));
-    let steep = r.within(2 * b, 2 * b + 4);
-    let load = b + steep + 1 - k;
-    p.register = Register { r: steep, k: 0, c: load, setup: 0 };
-    p.horizontal = Wire { r: 0, c: 1 };
-    p.vertical = Wire { r: 1, c: 0 };
+    (p.sink, p.source) = (top(0), top(n));
+    let (load, steep) = (r.within(1, 3), r.within(1, 3));
+    p.register = Register { r: r.below(steep), k: r.below(3), c: 0, setup: r.below(3) };
+    p.horizontal = Wire { r: 0, c: load };
+    p.vertical = Wire { r: steep, c: 0 };
     p.buffers = vec![Buffer::default()];
-    p.period = b * load + 2 * steep + ((k - 1) * (k - 1) / 4).max(b + 1 - k);
-    p.limit = 63;
-    match r.below(6) {
+    p.period = load * (steep * (n + 2) + p.register.r) + p.register.k + p.register.setup;
+    p.limit = r.pick(&[load, 2 * load, 3 * load, 63]);
+    match r.below(8) {
         0 => p.period += r.below(4),
         1 => p.period -= r.below(4),
-        2 => p.marks[r.below(w * p.height - w) as usize] ^= r.pick(&[BLOCKED, TAP, CUT_BELOW]),
+        2 => p.marks[r.below(w * bottom) as usize] ^= r.pick(&[BLOCKED, TAP, CUT_BELOW]),
         3 => std::mem::swap(&mut p.source, &mut p.sink),
+        4 => p.marks[r.pick(&taps) as usize] |= BLOCKED,
         _ => {}
     }
     p
@@ -262,7 +254,7 @@ pub fn tables(r: &mut Random, p: &mut Problem, kind: u32) {
         p.horizontal.c %= 8;
         p.vertical.c %= 8;
     }
-    let count = r.pick(&[0, 0, 1, 1, 1, 2, 2, 3, 4, 5, 6]);
+    let count = r.pick(&[0, 0, 0, 0, 1, 1, 1, 2, 2, 3, 4, 5, 6]);
     for _ in 0..count {
         let b = match p.buffers.last() {
             Some(&b) if r.chance(15) => b,
@@ -295,10 +287,10 @@ enum Goal {
 
 fn goal(r: &mut Random) -> Goal {
     match r.below(100) {
-        0..30 => Goal::Turns(r.below(5)),
-        30..60 => Goal::Registers(r.within(1, 6)),
-        60..70 => Goal::Registers(r.within(5, 12)),
-        70..78 => Goal::Tightest,
+        0..20 => Goal::Turns(r.below(5)),
+        20..62 => Goal::Registers(r.within(1, 6)),
+        62..74 => Goal::Registers(r.within(5, 12)),
+        74..82 => Goal::Tightest,
         _ => Goal::JustNone,
     }
 }
@@ -343,7 +335,7 @@ fn set_skew(r: &mut Random, p: &mut Problem) {
     match r.below(100) {
         0..15 => shift(r, p),
         15..18 => p.skew = near_skew(r, p.period),
-        18..21 => {
+        18..24 => {
             timeless(p);
             p.skew = near_skew(r, p.period);
         }
@@ -403,6 +395,15 @@ fn tighten(r: &mut Random, p: &mut Problem, most: usize) -> Drawn {
     }
 }
 
+// A tap that the best route passes, with a register or without, gets both marks.
+fn block_tap(r: &mut Random, p: &mut Problem, most: usize) {
+    let route = search::best(p, most).ok().flatten().unwrap_or_default();
+    let taps: Vec<u32> = route.iter().map(|visit| visit.0).filter(|&cell| p.marks[cell as usize] & TAP != 0).collect();
+    if !taps.is_empty() {
+        p.marks[r.pick(&taps) as usize] |= BLOCKED;
+    }
+}
+
 pub struct Job {
     pub shape: usize,
     pub damaged: bool,
@@ -413,6 +414,9 @@ pub struct Job {
 pub fn problem(r: &mut Random, most: usize) -> Option<(usize, Problem)> {
     let (shape, mut p) = tightened(r, most)?;
     set_skew(r, &mut p);
+    if r.chance(12) {
+        block_tap(r, &mut p, most);
+    }
     Some((shape, p))
 }
 

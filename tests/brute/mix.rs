@@ -2,6 +2,7 @@
 
 use crate::rules::{by_skew, legal, registers, Fault, Problem, Visit, BY_SKEW, TIGHTEST};
 use crate::answer::Answer;
+use crate::change::{classes, CLASSES};
 use crate::{job, search};
 use std::collections::BTreeMap;
 
@@ -24,6 +25,7 @@ pub struct Mix {
     routed_skews: BTreeMap<&'static str, u64>,
     none_skews: BTreeMap<&'static str, u64>,
     by_skew: BTreeMap<&'static str, u64>,
+    changes: BTreeMap<&'static str, u64>,
     skew_just_refused: u64, // 30,001
     most_cells: u32,
     most_steps: usize,
@@ -138,6 +140,16 @@ impl Mix {
         }
     }
 
+    // The answers of before C-17 and of now; where neither is refused, there is ample room.
+    pub fn count_change(&mut self, before: &Answer, now: &Answer) -> Result<(), String> {
+        if let (Answer::Route(p, _) | Answer::None(p), Answer::Route(..) | Answer::None(_)) = (before, now) {
+            for (class, holds) in CLASSES.into_iter().zip(classes(p, &before.best(), &now.best())?) {
+                *self.changes.entry(class).or_default() += holds as u64;
+            }
+        }
+        Ok(())
+    }
+
     pub fn count(&mut self, bytes: &[u8], answer: &Answer) {
         self.jobs += 1;
         match answer {
@@ -184,6 +196,7 @@ impl Mix {
         println!("skew        of routes {}", by(&self.routed_skews, ROUTED));
         println!("            of none {}", by(&self.none_skews, &SKEWS));
         println!("            {}; refused with 30,001: {}", by(&self.by_skew, &BY_SKEW), self.skew_just_refused);
+        println!("C-17        {}", by(&self.changes, &CLASSES));
         println!("largest     {} cells, {} steps, {} registers", self.most_cells, self.most_steps, self.most_registers);
         println!("refused     {}", list(self.refusals.iter().map(|(n, c)| (n.to_string(), *c)).collect()));
         println!("refused 4   {}, count: {}", by(&self.faults, &FAULTS), self.count_faults());
@@ -226,6 +239,9 @@ impl Mix {
         need(self.skew_just_refused, 3, "refused with skew 30,001".to_string());
         for change in BY_SKEW {
             need(*self.by_skew.get(change).unwrap_or(&0), 20, change.to_string());
+        }
+        for class in CLASSES {
+            need(*self.changes.get(class).unwrap_or(&0), 20, format!("C-17, {class}"));
         }
         need(self.none, (routes + self.none) / 8, "none".to_string());
         need(routes, (routes + self.none) / 2, "routes".to_string());

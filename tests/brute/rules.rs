@@ -8,6 +8,14 @@ pub const TAP: u32 = 2;
 pub const CUT_RIGHT: u32 = 4;
 pub const CUT_BELOW: u32 = 8;
 
+// Which rule is read last on a cell with marks 1 and 2.
+#[derive(Clone, Copy, Debug, Default, PartialEq)]
+pub enum ReadLast {
+    #[default]
+    Blocked, // it takes no gate
+    Tap, // it takes a register, or a FIFO: before C-17
+}
+
 #[derive(Clone, Copy, Debug, Default, PartialEq)]
 pub struct Wire {
     pub r: u32,
@@ -50,6 +58,7 @@ pub struct Problem {
     pub source: u32,
     pub sink: u32,
     pub buffers: Vec<Buffer>,
+    pub read_last: ReadLast,
 }
 
 pub type Visit = (u32, u32); // cell, gate code
@@ -89,17 +98,27 @@ impl Problem {
         None
     }
 
-    fn is_end(&self, cell: u32) -> bool {
+    pub fn is_end(&self, cell: u32) -> bool {
         cell == self.source || cell == self.sink
+    }
+
+    pub fn has_both_marks(&self, cell: u32) -> bool {
+        self.marks[cell as usize] & (BLOCKED | TAP) == BLOCKED | TAP
+    }
+
+    // May a register, or a FIFO, stand on this cell by its marks?
+    pub fn takes_register(&self, cell: u32) -> bool {
+        let marks = self.marks[cell as usize];
+        marks & TAP != 0 && (marks & BLOCKED == 0 || self.read_last == ReadLast::Tap)
     }
 
     // May this gate code stand at this cell, between the ends of a route?
     pub fn site(&self, cell: u32, code: u32) -> bool {
-        let marks = self.marks[cell as usize];
         match code {
             0 => true,
-            REGISTER => !self.is_end(cell) && marks & TAP != 0,
-            _ => code as usize <= self.buffers.len() && !self.is_end(cell) && marks & BLOCKED == 0,
+            _ if self.is_end(cell) => false,
+            REGISTER => self.takes_register(cell),
+            _ => code as usize <= self.buffers.len() && self.marks[cell as usize] & BLOCKED == 0,
         }
     }
 

@@ -4,7 +4,7 @@
 // later than that: with the earlier beginning it would be better. There are finitely many states, so the search ends,
 // and "none" is said when no state is left to follow.
 
-use crate::rules::{Problem, Visit, Wire, BLOCKED, CUT_BELOW, CUT_RIGHT, REGISTER, TAP};
+use crate::rules::{Problem, Visit, Wire, BLOCKED, CUT_BELOW, CUT_RIGHT, REGISTER};
 
 const DELAYS: u32 = 60_001; // half-ticks 0 to 2 × 30,000
 const LOADS: u32 = 64;
@@ -129,7 +129,7 @@ fn arrivals(p: &Problem, from: State, cell: u32, wire: Wire, out: &mut Vec<Move>
         out.push(Move { visit: (cell, REGISTER), next: None });
     }
     let fresh = State { cell, load: p.register.c, delay: 2 * p.register.setup };
-    if closes && between && p.marks[cell as usize] & TAP != 0 && fresh.delay <= most {
+    if closes && between && p.takes_register(cell) && fresh.delay <= most {
         out.push(Move { visit: (cell, REGISTER), next: Some(fresh) });
     }
 }

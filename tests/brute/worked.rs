@@ -1,7 +1,7 @@
 // Document 01's worked routes, R1 to R13, and the jobs that it names beside them, with their whole texts; the spare
-// half-ticks by C-12 of document 02, the skew by C-16.
+// half-ticks by C-12 of document 02, the skew by C-16, cells with both marks by C-17.
 
-use crate::cases::Case;
+use crate::cases::{case, Case};
 use crate::job;
 use crate::rules::{Buffer, Problem, Register, Wire};
 
@@ -19,7 +19,7 @@ fn strip(period: u32) -> Problem {
         limit: 63,
         source: 0,
         sink: 2,
-        buffers: vec![],
+        ..Problem::default()
     }
 }
 
@@ -31,13 +31,16 @@ fn buffered(period: u32) -> Problem {
     Problem { buffers: vec![Buffer { r: 1, k: 1, c: 1 }], ..strip(period) }
 }
 
-fn marked(marks: [u32; 3], p: Problem) -> Problem {
+fn marked(marks: &[u32], p: Problem) -> Problem {
     Problem { marks: marks.to_vec(), ..p }
 }
 
-fn two_rows() -> Problem {
-    Problem { height: 2, marks: vec![0, 1, 0, 0, 2, 0], vertical: Wire { r: 0, c: 0 }, ..strip(12) }
+fn two_rows(marks: [u32; 6]) -> Problem {
+    marked(&marks, Problem { height: 2, vertical: Wire { r: 0, c: 0 }, ..strip(12) })
 }
+
+const R13: [u32; 6] = [0, 1, 0, 0, 2, 0];
+const OVER_4: &str = "route 1 4 24 0\n2 7\n1 0\n4 7\n1 0\n0 7\n";
 
 fn skewed(skew: u32, p: Problem) -> Problem {
     Problem { skew, ..p }
@@ -69,7 +72,7 @@ fn with_skew() -> Vec<(&'static str, Problem, String)> {
         ("R3, skew 1, a tick more", skewed(1, strip(13)), through("1 2 26 0", 7)),
         ("R8, skew 1", skewed(1, buffered(22)), through("1 2 44 18", 7)),
         ("R8, skew 1, a tick more", skewed(1, buffered(23)), through("0 2 23 0", 1)),
-        ("R13, skew 1", skewed(1, two_rows()), none()),
+        ("R13, skew 1", skewed(1, two_rows(R13)), none()),
         ("R2, skew 13", skewed(13, strip(25)), through("1 2 50 0", 7)),
         ("R2, skew 14", skewed(14, strip(25)), none()),
         ("skew T", skewed(26, strip(26)), none()),
@@ -90,6 +93,32 @@ fn with_skew() -> Vec<(&'static str, Problem, String)> {
     ]
 }
 
+// Both marks on a cell, with the text of before C-17.
+fn with_both_marks() -> Vec<(&'static str, Problem, String, String)> {
+    let none = || "none\n".to_string();
+    let one = || through("1 2 50 26", 7);
+    let five = |marks: &[u32]| marked(marks, Problem { width: 5, sink: 4, ..strip(26) });
+    let same = |name, p, text: String| (name, p, text.clone(), text);
+    vec![
+        ("R12", marked(&[0, 3, 0], buffered(22)), through("1 2 44 20", 7), none()),
+        ("R2, on the register's cell", marked(&[0, 3, 0], strip(25)), one(), none()),
+        ("on the register's cell, a tap below", two_rows([0, 3, 0, 0, 2, 0]), through("1 2 24 0", 7), OVER_4.to_string()),
+        ("R13, on the register's cell", two_rows([0, 1, 0, 0, 3, 0]), OVER_4.to_string(), none()),
+        same("elsewhere, the tap below", two_rows([0, 2, 0, 0, 3, 0]), through("1 2 24 0", 7)),
+        same("R1, on the cell between", marked(&[0, 3, 0], strip(26)), through("0 2 26 0", 0)),
+        same("R10, on the cell between", marked(&[0, 3, 0], buffered(26)), through("0 2 26 0", 0)),
+        same(
+            "on two cells passed, a register between",
+            five(&[0, 3, 2, 3, 0]),
+            "route 1 4 52 0\n4 7\n3 0\n2 7\n1 0\n0 7\n".to_string(),
+        ),
+        same("R2, on the sink's cell", marked(&[0, 2, 3], strip(25)), one()),
+        same("R2, on the source's cell", marked(&[3, 2, 0], strip(25)), one()),
+        same("R2, on both ends' cells", marked(&[3, 2, 3], strip(25)), one()),
+        same("R4, on all cells", marked(&[3, 3, 3], strip(11)), none()),
+    ]
+}
+
 pub fn cases() -> Vec<Case> {
     let none = || "none\n".to_string();
     let problems = vec![
@@ -103,9 +132,8 @@ pub fn cases() -> Vec<Case> {
         ("R8", buffered(22), through("0 2 22 0", 1)),
         ("R9", buffered(21), through("1 2 42 18", 7)),
         ("R10", buffered(26), through("0 2 26 0", 0)),
-        ("R11", marked([0, 1, 0], strip(25)), none()),
-        ("R12", marked([0, 3, 0], buffered(22)), through("1 2 44 20", 7)),
-        ("R13", two_rows(), "route 1 4 24 0\n2 7\n1 0\n4 7\n1 0\n0 7\n".to_string()),
+        ("R11", marked(&[0, 1, 0], strip(25)), none()),
+        ("R13", two_rows(R13), OVER_4.to_string()),
         ("equal ends", Problem { source: 2, ..strip(25) }, "refused 5\n".to_string()),
     ];
     let problems = problems.into_iter().chain(with_skew());
@@ -115,5 +143,9 @@ pub fn cases() -> Vec<Case> {
     jobs.push(("document 01's job", printed, through("1 2 50 26", 7)));
     let before = vec![3, 1, 0, 2, 0, 1, 2, 1, 1, 2, 3, 2, 3, 25, 63, 0, 2, 0];
     jobs.push(("document 01's job without its skew", before, "refused 15\n".to_string()));
-    jobs.into_iter().map(|(name, bytes, text)| Case { name: name.to_string(), bytes, text }).collect()
+    let mut out: Vec<Case> = jobs.into_iter().map(|(name, bytes, text)| case(name, bytes, &text)).collect();
+    for (name, p, before, text) in with_both_marks() {
+        out.push(Case { before, ..case(name, job::write(&job::numbers(&p)), &text) });
+    }
+    out
 }

@@ -5,7 +5,7 @@
 // said when no state is left to follow.
 
 use crate::net::{Net, FIFO};
-use crate::rules::{Register, Visit, Wire, BLOCKED, CUT_BELOW, CUT_RIGHT, REGISTER, TAP};
+use crate::rules::{Register, Visit, Wire, BLOCKED, CUT_BELOW, CUT_RIGHT, REGISTER};
 use crate::search::TooLarge;
 use std::cmp::Reverse;
 use std::collections::BinaryHeap;
@@ -126,11 +126,10 @@ fn arrivals(n: &Net, from: State, cell: u32, wire: Wire, out: &mut Vec<Move>) {
     if load > p.limit || delay > most {
         return;
     }
-    let marks = p.marks[cell as usize];
     let between = cell != p.source && cell != p.sink;
     let closes = |gate: Register| delay + 2 * (gate.r * load + gate.k) <= most;
     out.push(Move { visit: (cell, 0), latency: 0, next: Some(State { cell, load, delay, fifos }) });
-    if between && marks & BLOCKED == 0 {
+    if between && p.marks[cell as usize] & BLOCKED == 0 {
         for (i, b) in p.buffers.iter().enumerate() {
             let next = State { cell, load: b.c, delay: delay + 2 * (b.r * load + b.k), fifos };
             if next.load <= p.limit && next.delay <= most {
@@ -141,7 +140,7 @@ fn arrivals(n: &Net, from: State, cell: u32, wire: Wire, out: &mut Vec<Move>) {
     if cell == p.source && fifos == 1 && closes(p.register) {
         out.push(Move { visit: (cell, REGISTER), latency, next: None });
     }
-    if !between || marks & TAP == 0 {
+    if !between || !p.takes_register(cell) {
         return;
     }
     if closes(p.register) {

@@ -1,9 +1,11 @@
 // Routes between two clocks, searched beside the planner from documents 01 and 02 alone: random nets through the built
-// session player, every line compared.
+// session player, every line compared; and beside it what the rules of before C-17 would answer.
 //   crossing PLAYER NETS SEED
 
 // Plans and tables are the brute force's; commands and refusals the session model's; scripts with their lines and
 // spoilt questions the judge of lists'.
+#[path = "../brute/change.rs"]
+mod change;
 #[allow(dead_code)]
 #[path = "../brute/job.rs"]
 mod job;
@@ -52,6 +54,7 @@ use crossed::Crossed;
 use jobs::Job;
 use played::{complain, plays, Script};
 use random::Random;
+use rules::ReadLast;
 use std::process::ExitCode;
 use std::time::Instant;
 use tally::Tally;
@@ -65,14 +68,18 @@ const FOLDER: &str = "crossing"; // of target: where a script that fails is kept
 // Questions with known lines.
 fn check_cases(what: &str, cases: &[Case], player: &str) -> bool {
     let mut good = true;
-    for (number, Case { name, job, told }) in cases.iter().enumerate() {
-        let n = &job.net;
-        let answer = Crossed::of(n, job.lent, job.room, || best::best(n, usize::MAX)).expect("no bound was set");
-        let given = format!("{} {}", answer.number(), answer.text(n));
-        if given != *told {
-            println!("MISMATCH, the brute force at '{name}'\n  known {told}\n  given {given}");
-            good = false;
-        }
+    for (number, Case { name, job, told, before }) in cases.iter().enumerate() {
+        let answered = |read_last: ReadLast, known: &str| {
+            let n = job.net.by(read_last);
+            let answer = Crossed::of(&n, job.lent, job.room, || best::best(&n, usize::MAX)).expect("no bound was set");
+            let given = format!("{} {}", answer.number(), answer.text(&n));
+            if given != *known {
+                println!("MISMATCH, the brute force at '{name}', {read_last:?} read last\n  known {known}\n  given {given}");
+            }
+            (given == *known, answer)
+        };
+        let (as_before, (as_told, answer)) = (answered(ReadLast::Tap, before).0, answered(ReadLast::Blocked, told));
+        good &= as_before && as_told;
         let mut script = Script::default();
         script.add(&script::entries(job, &answer));
         if !plays(player, &script, FOLDER, &format!("{what}-{}", number + 1)) {
@@ -95,15 +102,17 @@ fn check_search(seed: u64, plans: u32) -> bool {
             continue;
         }
         let visits = if cells <= 3 { 7 } else { 6 };
-        match naive::agrees(&n, visits) {
-            Ok(agreed) => {
-                lists += agreed.lists;
-                routes += agreed.route as u32;
-                ties += agreed.tie as u32;
-            }
-            Err(text) => {
-                println!("MISMATCH, search and enumeration differ: {text}");
-                return false;
+        for read_last in [ReadLast::Tap, ReadLast::Blocked] {
+            match naive::agrees(&n.by(read_last), visits) {
+                Ok(agreed) => {
+                    lists += agreed.lists;
+                    routes += agreed.route as u32;
+                    ties += agreed.tie as u32;
+                }
+                Err(text) => {
+                    println!("MISMATCH, search and enumeration differ: {text}");
+                    return false;
+                }
             }
         }
         tried += 1;
@@ -129,12 +138,19 @@ fn questions(r: &mut Random, tally: &mut Tally) -> Vec<(Job, Crossed)> {
         tally.left_out += 1;
         return Vec::new();
     };
+    let before = n.by(ReadLast::Tap);
+    let Ok(old) = best::best(&before, STATES) else {
+        tally.left_out += 1;
+        return Vec::new();
+    };
     let route = found.as_ref().map(|found| found.route());
+    let mut checks = vec![tally.change((&before, old.as_deref()), (&n, route.as_deref()))];
     if let (Some(found), Some(route)) = (&found, &route) {
-        if let Err(what) = tally.splits(&n, found, route) {
-            complain(FOLDER, &format!("reference-{}", tally.nets), "", &format!("{n:?} {route:?}"), &what);
-            tally.mismatches += 1;
-        }
+        checks.push(tally.splits(&n, found, route));
+    }
+    for what in checks.into_iter().filter_map(Result::err) {
+        complain(FOLDER, &format!("reference-{}", tally.nets), "", &format!("{n:?} {route:?}"), &what);
+        tally.mismatches += 1;
     }
     let mut jobs = vec![jobs::job(r, n.clone(), route.as_deref())];
     if r.chance(25) {

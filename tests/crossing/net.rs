@@ -1,6 +1,6 @@
-// A net between two clocks: document 01's rules with one FIFO on the route, by requests C-15 and C-16 of document 02.
+// A net between two clocks: document 01's rules with one FIFO on the route, by requests C-15 to C-17 of document 02.
 
-use crate::rules::{Fault, Problem, Register, Visit, REGISTER};
+use crate::rules::{Fault, Problem, ReadLast, Register, Visit, REGISTER};
 
 pub const FIFO: u32 = 8; // gate code
 
@@ -47,6 +47,11 @@ fn in_range(period: u32) -> bool {
 }
 
 impl Net {
+    // The same net by the rules of now, or of before C-17.
+    pub fn by(&self, read_last: ReadLast) -> Net {
+        Net { problem: Problem { read_last, ..self.problem.clone() }, ..self.clone() }
+    }
+
     // The period that a span closes against.
     pub fn period(&self, fifos: u32) -> u32 {
         if fifos == 0 {

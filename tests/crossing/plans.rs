@@ -9,7 +9,7 @@ fn near(p: &Problem, a: u32, b: u32) -> u32 {
     (a / p.width).abs_diff(b / p.width) + (a % p.width).abs_diff(b % p.width)
 }
 
-// Now and then only some taps stay: those near one end, those next to an end, one, or none.
+// Now and then only some taps stay: those near one end, those next to an end, one, or none; some of them get both marks.
 fn thin_taps(r: &mut Random, p: &mut Problem) {
     let taps: Vec<u32> = (0..p.cells()).filter(|&cell| p.marks[cell as usize] & TAP != 0).collect();
     let end = r.pick(&[p.source, p.sink]);
@@ -29,8 +29,9 @@ fn thin_taps(r: &mut Random, p: &mut Problem) {
         }
     }
     if r.chance(15) {
+        let blocked = r.pick(&[10, 30, 60]);
         for marks in p.marks.iter_mut().filter(|marks| **marks & TAP != 0) {
-            *marks |= BLOCKED;
+            *marks |= if r.chance(blocked) { BLOCKED } else { 0 };
         }
     }
 }
@@ -67,7 +68,9 @@ fn usual(r: &mut Random) -> Net {
     let mut p = make::plan(r, shape);
     if r.chance(90) {
         let more = r.pick(&[15, 30, 60, 100]);
-        (0..p.marks.len()).for_each(|cell| p.marks[cell] |= if r.chance(more) { TAP } else { 0 });
+        for marks in p.marks.iter_mut().filter(|_| r.chance(more)) {
+            *marks = *marks & !BLOCKED | TAP;
+        }
     }
     thin_taps(r, &mut p);
     let kind = if shape == 6 { r.pick(&[0, 0, 1, 4]) } else { r.pick(&[0, 0, 0, 1, 1, 2, 2, 3, 4]) };
@@ -124,6 +127,18 @@ fn chain(r: &mut Random, sides: (u32, u32)) -> Net {
     let source_period = ticks(&p, each, source) + more;
     p.period = ticks(&p, each, sink) + more * r.below(2);
     Net { problem: p, source_period, fifo }
+}
+
+// A row of taps that k + 1 spans of s steps and one of k fill, and one of s and s + 1 of k: two splits of one latency.
+fn tied(r: &mut Random) -> Net {
+    let (s, k) = r.pick(&[(2, 3), (3, 2), (3, 4), (4, 3), (2, 5), (5, 2), (3, 5), (5, 3)]);
+    let mut p = turned(r, s * k + s + k + 1, 1);
+    p.marks.fill(TAP);
+    far_ends(r, &mut p);
+    let each = r.within(1, 2);
+    (p.horizontal, p.vertical) = (Wire { r: each, c: 0 }, Wire { r: each, c: 0 });
+    (p.register.c, p.limit, p.period) = (1, 1, each * k);
+    Net { fifo: p.register, problem: p, source_period: each * s }
 }
 
 // Rows between which a step takes no time: with taps in all of them a split may need more steps than another.
@@ -239,20 +254,21 @@ fn large(r: &mut Random) -> Net {
 // A net; its periods are 0 where they are to be found.
 pub fn draw(r: &mut Random) -> Net {
     match r.below(100) {
-        0..32 => usual(r),
-        32..42 => {
+        0..28 => usual(r),
+        28..30 => tied(r),
+        30..38 => {
             let n = r.within(3, 14);
             chain(r, (n, 1))
         }
-        42..52 => {
+        38..50 => {
             let n = r.within(12, 32);
             chain(r, (n, 1))
         }
-        52..59 => {
+        50..58 => {
             let (n, m) = (r.within(3, 9), r.within(2, 4));
             chain(r, (n, m))
         }
-        59..67 => rows(r),
+        58..67 => rows(r),
         67..76 => uneven(r),
         76..85 => buffered(r),
         85..94 => pocket(r),

@@ -1,10 +1,11 @@
 // What a run's nets were, so that a poor mix shows: each class has a least number.
 
 use crate::best::{self, Found};
+use crate::change::{classes, Best, CLASSES};
 use crate::crossed::{Crossed, EACH};
 use crate::jobs::Job;
 use crate::net::{legal, Figures, Net, FIFO};
-use crate::rules::{self, by_skew, Problem, Register, Visit, BLOCKED, BY_SKEW, REGISTER, TAP};
+use crate::rules::{self, by_skew, Problem, Register, Visit, BY_SKEW, REGISTER};
 use std::collections::BTreeMap;
 
 #[derive(Default)]
@@ -23,7 +24,7 @@ const FEW: usize = 2_000; // the most states that a search may follow to see wha
 const PERIODS: [&str; 6] = ["equal", "Ts = 2 Tk", "Tk = 2 Ts", "other multiples", "co-prime", "others"];
 
 // The classes of one kind, with the least number of each among 4,000 nets.
-const KINDS: [(&str, u64, &[&str]); 20] = [
+const KINDS: [(&str, u64, &[&str]); 22] = [
     ("answer", 100, &["0", "7", "8"]),
     ("refused", 5, &["1", "2", "3", "4", "5", "6"]),
     ("4: fault", 1, &["1", "2", "3", "4", "5", "6", "7", "8", "9", "10 1", "10 2", "10 3", "10 4", "10 5", "10 6"]),
@@ -34,6 +35,8 @@ const KINDS: [(&str, u64, &[&str]); 20] = [
         &["0", "below both periods", "a period", "above the source's alone", "above the sink's alone", "above both"],
     ),
     ("by the skew", 20, &BY_SKEW),
+    ("C-17", 10, &CLASSES),
+    ("C-17 for both marks", 20, &["on the FIFO's cell", "on a register's alone"]),
     ("periods", 40, &PERIODS),
     ("FIFO", 50, &["like the register", "unlike it", "like it, equal periods"]),
     ("FIFO with", 10, &["C = L", "K 500 and more", "R 0", "K 0", "C 0", "setup above the register's", "R above", "delay crossing"]),
@@ -57,7 +60,6 @@ const KINDS: [(&str, u64, &[&str]); 20] = [
             "next to the source",
             "next to both",
             "next to neither",
-            "on a 3",
             "in a dead end",
             "alone closes a span",
         ],
@@ -131,8 +133,9 @@ fn orders() -> Vec<String> {
     (0..ORDER.len()).flat_map(later).collect()
 }
 
+// The cells on which a register may stand.
 fn taps(p: &Problem) -> Vec<u32> {
-    (0..p.cells()).filter(|&c| p.marks[c as usize] & TAP != 0 && c != p.source && c != p.sink).collect()
+    (0..p.cells()).filter(|&c| p.takes_register(c) && !p.is_end(c)).collect()
 }
 
 // In a plan with more room, all taps within three steps of one end.
@@ -160,6 +163,12 @@ fn periods(n: &Net) -> &'static str {
         1 => 4,
         _ => 5,
     }]
+}
+
+type Asked<'a> = (&'a Net, Option<&'a [Visit]>); // with the best route
+
+fn best<'a>((n, route): Asked<'a>) -> Best<'a> {
+    route.map(|route| (route, n.figures(route).numbers().to_vec()))
 }
 
 impl Tally {
@@ -274,8 +283,6 @@ impl Tally {
         self.add_if(last, "FIFO stands", "next to the source");
         self.add_if(first && last, "FIFO stands", "next to both");
         self.add_if(!first && !last, "FIFO stands", "next to neither");
-        let marks = n.problem.marks[route[at].0 as usize];
-        self.add_if(marks & BLOCKED != 0, "FIFO stands", "on a 3");
         self.add_if(route[at - 1].0 == route[at + 1].0, "FIFO stands", "in a dead end");
         let mut as_register = n.clone();
         as_register.fifo = Register { c: n.fifo.c, setup: n.fifo.setup, ..n.problem.register };
@@ -339,6 +346,18 @@ impl Tally {
             _ => "source's other",
         };
         self.add("tightest", class);
+    }
+
+    // The net by the rules of before C-17 and by those of now, each with its best route.
+    pub fn change(&mut self, before: Asked, now: Asked) -> Result<(), String> {
+        let holds = classes(&now.0.problem, &best(before), &best(now))?;
+        CLASSES.iter().zip(holds).for_each(|(class, holds)| self.add_if(holds, "C-17", class));
+        if best(before) != best(now) {
+            let fifo = before.1.and_then(|route| route.iter().find(|visit| visit.1 == FIFO)).expect("a route of before");
+            let its = now.0.problem.has_both_marks(fifo.0);
+            self.add("C-17 for both marks", if its { "on the FIFO's cell" } else { "on a register's alone" });
+        }
+        Ok(())
     }
 
     // How the best was chosen among the splits. A FIFO like the register with one period for both is a register: the

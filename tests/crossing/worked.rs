@@ -11,11 +11,12 @@ use crate::rules::{Buffer, Problem, Register, Wire};
 pub struct Case {
     pub name: &'static str,
     pub job: Job,
-    pub told: String, // the line without the depth
+    pub told: String,   // the line without the depth
+    pub before: String, // that of before C-17
 }
 
 pub fn case(name: &'static str, job: Job, told: &str) -> Case {
-    Case { name, job, told: told.to_string() }
+    Case { name, job, told: told.to_string(), before: told.to_string() }
 }
 
 const LIKE: Register = Register { r: 1, k: 2, c: 1, setup: 1 };
@@ -35,7 +36,7 @@ pub fn strip(marks: &[u32], source_period: u32, period: u32) -> Net {
         limit: 63,
         source: 0,
         sink: marks.len() as u32 - 1,
-        buffers: vec![],
+        ..Problem::default()
     };
     Net { problem, source_period, fifo: LIKE }
 }
@@ -92,6 +93,43 @@ fn behind(source_period: u32, period: u32) -> Net {
     n
 }
 
+fn none(cells: u32) -> String {
+    format!("7 figures 0 0 0 0 0 visits zeroed {}", 512 * cells)
+}
+
+fn answered(cells: u32, figures: &str, visits: &str) -> String {
+    format!("0 figures {figures} visits {visits} zeroed {}", 512 * cells)
+}
+
+fn through(figures: &str) -> String {
+    answered(3, figures, "2 7 1 8 0 7")
+}
+
+// Both marks on a cell, with the line of before C-17.
+fn with_both_marks() -> Vec<Case> {
+    let changed = |name, net, before: String, told: String| Case { before, ..case(name, Job::ample(net), &told) };
+    let same = |name, net, told: String| case(name, Job::ample(net), &told);
+    let of_five = || answered(5, "1 0 4 50 0", "4 7 3 0 2 8 1 7 0 7");
+    let straight = || answered(6, "0 0 2 24 0", "2 7 1 8 0 7");
+    let around = || answered(6, "0 0 4 24 0", "2 7 1 0 4 8 1 0 0 7");
+    vec![
+        changed("on the FIFO's only site", strip(&[0, 3, 0], 12, 12), through("0 0 2 24 0"), none(3)),
+        changed(
+            "on the FIFO's cell",
+            strip(&[0, 2, 3, 2, 0], 12, 26),
+            of_five(),
+            answered(5, "0 1 4 64 0", "4 7 3 7 2 0 1 8 0 7"),
+        ),
+        changed("on the register's cell", strip(&[0, 3, 2, 2, 0], 12, 26), of_five(), none(5)),
+        changed("on the FIFO's cell, a tap below", two_rows([0, 3, 0, 0, 2, 0], 12), straight(), around()),
+        same("elsewhere, the tap below", two_rows([0, 2, 0, 0, 3, 0], 12), straight()),
+        same("on a cell passed", strip(&[0, 2, 2, 3, 0], 12, 26), of_five()),
+        same("on the sink's cell", strip(&[0, 2, 3], 12, 12), through("0 0 2 24 0")),
+        same("on the source's cell", strip(&[3, 2, 0], 12, 12), through("0 0 2 24 0")),
+        same("on both ends' cells alone", strip(&[3, 0, 3], 26, 26), none(3)),
+    ]
+}
+
 pub fn cases() -> Vec<Case> {
     // one step to the FIFO: 12 + 2(2·4 + 2) = 32
     let strong = Register { r: 2, ..LIKE };
@@ -103,11 +141,6 @@ pub fn cases() -> Vec<Case> {
     let heavy = Register { c: 4, ..LIKE };
     // nothing but the vertical step to it: 2 + 22 = 24; from it: 18 + 6 = 24
     let slow = Register { k: 10, setup: 9, ..LIKE };
-    let none = |cells: u32| format!("7 figures 0 0 0 0 0 visits zeroed {}", 512 * cells);
-    let answered = |cells: u32, figures: &str, visits: &str| {
-        format!("0 figures {figures} visits {visits} zeroed {}", 512 * cells)
-    };
-    let through = |figures: &str| answered(3, figures, "2 7 1 8 0 7");
     let five_cells = |figures: &str, visits: &str| answered(5, figures, visits);
     let six_cells = |figures: &str, visits: &str| answered(6, figures, visits);
     let list = vec![
@@ -138,7 +171,6 @@ pub fn cases() -> Vec<Case> {
         ("limit 6", limited(6, with(heavy, strip(&THREE, 21, 12))), none(3)),
         ("a FIFO above the limit", limited(6, with(Register { c: 7, ..LIKE }, strip(&THREE, 60, 60))), none(3)),
         ("setup 13 above 12", with(Register { setup: 13, ..LIKE }, strip(&THREE, 12, 60)), none(3)),
-        ("a tap that is blocked", strip(&[0, 3, 0], 12, 12), through("0 0 2 24 0")),
         ("no tap", strip(&[0, 0, 0], 26, 26), none(3)),
         ("taps on the ends alone", strip(&[2, 0, 2], 26, 26), none(3)),
         ("neighbours with nothing between", strip(&[2, 2], 26, 26), none(2)),
@@ -177,5 +209,6 @@ pub fn cases() -> Vec<Case> {
         ("30,000 less 12", skewed(29_988, strip(&THREE, 30_000, 30_000)), through("0 0 2 60000 0")),
         ("30,000 less 11", skewed(29_989, strip(&THREE, 30_000, 30_000)), none(3)),
     ];
-    list.into_iter().map(|(name, net, told)| case(name, Job::ample(net), &told)).collect()
+    let cases = list.into_iter().map(|(name, net, told)| case(name, Job::ample(net), &told));
+    cases.chain(with_both_marks()).collect()
 }

@@ -95,7 +95,7 @@ fn regated(r: &mut Random, p: &Problem, list: &mut [Visit]) {
     let at = 1 + r.below(inner) as usize;
     let marks = p.marks.get(list[at].0 as usize).copied().unwrap_or(0);
     list[at].1 = match list[at].1 {
-        0 if marks & 2 != 0 && r.chance(60) => 7,
+        0 if marks & 3 == 2 && r.chance(60) => 7,
         0 if !p.buffers.is_empty() => r.within(1, p.buffers.len() as u32),
         _ => 0,
     };

@@ -29,6 +29,7 @@ fn problem(r: &mut Random) -> Problem {
         source: (sink + 1 + r.below(cells - 1)) % cells,
         sink,
         buffers: (0..r.below(3)).map(|_| Buffer { r: any(r, 255), k: any(r, 1_000), c: any(r, 63) }).collect(),
+        ..Problem::default()
     }
 }
 

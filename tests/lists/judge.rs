@@ -1,4 +1,4 @@
-// The verdict on a list of visits, from document 01's "Legal routes" and document 02's C-11, C-12 and C-16: visit by
+// The verdict on a list of visits, from document 01's "Legal routes" and document 02's C-11, C-12, C-16 and C-17: visit by
 // visit, test by test. It has no rule from tests/brute/rules.rs, whose `legal` it is compared with.
 
 use crate::rules::{Problem, Visit, Wire};
@@ -18,7 +18,8 @@ pub enum Cause {
     BufferOnEnd,
     RegisterOnEnd,
     NoTap,
-    Blocked,
+    BlockedTap, // under a register
+    Blocked,    // under a buffer
     LoadBefore, // its gate
     LoadAfter,
     Period(u128), // missed by so many half-ticks
@@ -67,7 +68,9 @@ fn site(p: &Problem, cell: u32, code: u32, last: bool) -> Tested<()> {
     let (marks, end) = (p.marks[cell as usize], cell == p.source || cell == p.sink);
     match code {
         0 => Ok(()),
-        7 => test(!end, Cause::RegisterOnEnd).and(test(marks & 2 == 2, Cause::NoTap)),
+        7 => test(!end, Cause::RegisterOnEnd)
+            .and(test(marks & 2 == 2, Cause::NoTap))
+            .and(test(marks & 1 == 0, Cause::BlockedTap)),
         8.. => Err(Cause::NoCode),
         _ => test(code as usize <= p.buffers.len(), Cause::NoBuffer)
             .and(test(!end, Cause::BufferOnEnd))

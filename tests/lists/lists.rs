@@ -37,10 +37,21 @@ fn codes(p: &Problem, cell: u32) -> Vec<u32> {
     if marks & 1 == 0 {
         out.extend(1..=p.buffers.len() as u32);
     }
-    if marks & 2 != 0 {
+    if marks & 3 == 2 {
         out.push(7);
     }
     out
+}
+
+// One of them; a register, where it may stand, more often than a buffer.
+fn gate(r: &mut Random, p: &Problem, cell: u32) -> u32 {
+    let allowed = codes(p, cell);
+    let last = allowed[allowed.len() - 1];
+    if last == 7 && r.chance(40) {
+        last
+    } else {
+        r.pick(&allowed)
+    }
 }
 
 // How a walk goes.
@@ -66,8 +77,7 @@ pub fn walk(r: &mut Random, p: &Problem, how: &Walk) -> Vec<Visit> {
         let far = away[cell as usize].unwrap_or(0) + 1 >= how.visits - out.len();
         let heads = out.len() >= how.wandering || far;
         cell = if heads && !nearer.is_empty() && r.chance(90) { r.pick(&nearer) } else { r.pick(next) };
-        let allowed = codes(p, cell);
-        out.push((cell, if r.chance(how.gates) { r.pick(&allowed) } else { 0 }));
+        out.push((cell, if r.chance(how.gates) { gate(r, p, cell) } else { 0 }));
     }
     if out.len() > 1 {
         out.last_mut().unwrap().1 = 7;
@@ -85,8 +95,7 @@ pub fn doubled_back(r: &mut Random, p: &Problem, list: &mut Vec<Visit>) {
     let next = neighbours(p, here);
     if !next.is_empty() {
         let aside = r.pick(&next);
-        let allowed = codes(p, aside);
-        let code = if r.chance(20) { r.pick(&allowed) } else { 0 };
+        let code = if r.chance(20) { gate(r, p, aside) } else { 0 };
         list.splice(at + 1..at + 1, [(aside, code), (here, 0)]);
     }
 }

@@ -25,6 +25,7 @@ fn problem(r: &mut Random) -> Problem {
         source: 2,
         sink: 3,
         buffers: vec![Buffer { r: r.within(252, 255), k: r.within(950, 1_000), c: r.within(62, 63) }],
+        ..Problem::default()
     }
 }
 

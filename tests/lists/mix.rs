@@ -25,7 +25,7 @@ const FAULTS: [(&str, &[&str]); 5] = [
     ("period", &["middle", "last"]),
 ];
 
-const CAUSES: [(&str, &[&str]); 16] = [
+const CAUSES: [(&str, &[&str]); 17] = [
     ("Outside", &["first", "middle", "last"]),
     ("NotTheSink", &["first"]),
     ("NotTheSource", &["last"]),
@@ -38,6 +38,7 @@ const CAUSES: [(&str, &[&str]); 16] = [
     ("BufferOnEnd", &["middle"]),
     ("RegisterOnEnd", &["middle"]),
     ("NoTap", &["middle"]),
+    ("BlockedTap", &["middle"]),
     ("Blocked", &["middle"]),
     ("LoadBefore", &["middle", "last"]),
     ("LoadAfter", &["first", "middle"]),
@@ -81,8 +82,9 @@ const SKEWS: [&str; 8] = [
     "period missed with a skew above T",
 ];
 
-const LISTS: [&str; 14] = [
-    "accepted with a register on a blocked tap",
+const LISTS: [&str; 15] = [
+    "accepted over a blocked tap",
+    "accepted with a blocked tap on an end's cell",
     "accepted over an end's cell",
     "accepted with two gates on one cell",
     "accepted with the load limit just met",
@@ -197,11 +199,10 @@ impl Mix {
         self.add_if(p.skew == p.period, "accepted with skew T");
         self.add_if(p.skew > 0 && measured.slack(p) < 2, "accepted, not with a skew of one more");
         self.add_if(measured.closings.len() > 1, &format!("tightest span {}", measured.tightest()));
-        self.add_if(
-            inner.iter().any(|v| v.1 == 7 && p.marks[v.0 as usize] & 3 == 3),
-            "accepted with a register on a blocked tap",
-        );
-        self.add_if(inner.iter().any(|v| v.0 == p.source || v.0 == p.sink), "accepted over an end's cell");
+        let both_marks = |cell: u32| p.marks[cell as usize] & 3 == 3;
+        self.add_if(inner.iter().any(|v| both_marks(v.0) && !p.is_end(v.0)), "accepted over a blocked tap");
+        self.add_if([p.source, p.sink].into_iter().any(both_marks), "accepted with a blocked tap on an end's cell");
+        self.add_if(inner.iter().any(|v| p.is_end(v.0)), "accepted over an end's cell");
         self.add_if(gates.windows(2).any(|two| two[0] == two[1]), "accepted with two gates on one cell");
         self.add_if(measured.greatest_load == p.limit, "accepted with the load limit just met");
         self.add_if(route.len() > LONG, "accepted of over 1,000 visits");

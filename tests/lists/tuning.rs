@@ -24,7 +24,7 @@ pub fn tune(r: &mut Random, p: &mut Problem, list: &[Visit]) {
     let Some(measured) = unbounded(p, list) else { return };
     let least = slowest(&measured).div_ceil(2).max(1) as u32;
     let heaviest = list.iter().map(|visit| driven(p, visit.1)).max().unwrap();
-    match r.below(19) {
+    match r.below(22) {
         0 | 1 if least <= 30_000 => p.period = least,
         2 | 3 if 1 < least && least <= 30_001 => p.period = least - 1,
         4 if 1 < least => p.period = r.within(1, (least - 1).min(30_000)),

@@ -43,7 +43,7 @@ fn strip(period: u32) -> Problem {
         limit: 63,
         source: 0,
         sink: 2,
-        buffers: vec![],
+        ..Problem::default()
     }
 }
 
@@ -156,7 +156,12 @@ fn routes() -> Vec<Case> {
         case(
             "R12: a blocked cell with a tap",
             marked(&[0, 3, 0], buffered(22)),
-            vec![accepted(REGISTERED, 20), judge(BUFFERED, "judge 0 depth 0 visit 1 site")],
+            vec![
+                judge(REGISTERED, "judge 0 depth 0 visit 1 site"),
+                judge(BUFFERED, "judge 0 depth 0 visit 1 site"),
+                late(PLAIN, 2, 8),
+                better(REGISTERED, BUFFERED, "better 18 depth 0 words"),
+            ],
         ),
         case(
             "R13: a cell passed twice",
@@ -169,6 +174,33 @@ fn routes() -> Vec<Case> {
                 better(&[2, 7, 5, 0, 4, 7, 3, 0, 0, 7], TWICE, "better 0 depth 0 second words 2 7 1 0 4 7 1 0 0 7"),
                 better(&[2, 7, 1, 0, 4, 7, 4, 0, 0, 7], &[2, 7, 3, 0], "better 18 depth 0 words"),
             ],
+        ),
+    ]
+}
+
+// A cell with marks 1 and 2 takes no gate; an end's cell and one that is passed may have them.
+fn both_marks() -> Vec<Case> {
+    vec![
+        case(
+            "on the cell between",
+            marked(&[0, 3, 0], buffered(26)),
+            vec![
+                accepted(PLAIN, 0),
+                judge(REGISTERED, "judge 0 depth 0 visit 1 site"),
+                better(REGISTERED, PLAIN, "better 0 depth 0 second words 2 7 1 0 0 7"),
+                better(PLAIN, REGISTERED, "better 0 depth 0 first words 2 7 1 0 0 7"),
+            ],
+        ),
+        case("on the ends' cells", marked(&[3, 2, 3], strip(25)), vec![accepted(REGISTERED, 26)]),
+        case(
+            "on the upper tap",
+            marked(&[0, 3, 0, 0, 2, 0], two_rows(12)),
+            vec![accepted(TWICE, 0), judge(REGISTERED, "judge 0 depth 0 visit 1 site")],
+        ),
+        case(
+            "on the lower tap",
+            marked(&[0, 2, 0, 0, 3, 0], two_rows(12)),
+            vec![accepted(REGISTERED, 0), judge(TWICE, "judge 0 depth 0 visit 2 site")],
         ),
     ]
 }
@@ -330,6 +362,7 @@ fn heavy(first: u32, (r, k, setup): (u32, u32, u32), period: u32) -> Problem {
         source: 2,
         sink: 3,
         buffers: vec![Buffer { r: 255, k: 1_000, c: 63 }],
+        ..Problem::default()
     }
 }
 
@@ -461,7 +494,7 @@ fn refusals() -> Vec<Case> {
 }
 
 pub fn cases() -> Vec<Case> {
-    let lists = [routes(), faults(), figures(), skews(), floor(), long(), vec![past_powers()], refusals()];
+    let lists = [routes(), both_marks(), faults(), figures(), skews(), floor(), long(), vec![past_powers()], refusals()];
     lists.into_iter().flatten().collect()
 }
 

@@ -3,7 +3,7 @@
 
 told "the example between two clocks" 0 "$(cat $here/two_clocks.sheet)" "" tools/route $two
 picture 0 two_clocks $two
-drawing 0 "of two clocks" $two "16 visits, 16 points, 8 taps, 17 blocked, 3 cuts, 1 FIFOs"
+drawing 0 "of two clocks" $two "16 visits, 16 points, 8 taps, 16 blocked, 3 cuts, 1 FIFOs"
 told "the guide's strip, by the planner" 0 "$(guide 'crossing 1 0 4 52 0')" "" tools/route "$cross"
 from_pipe() { tools/route - <$two; }
 told "two clocks on standard input" 0 "$(cat $here/two_clocks.sheet)" "" from_pipe
@@ -24,19 +24,25 @@ crossed "a slow port" "crossing 3 0 15 340 8" "110 source, 240 sink" "#   30    
 #    3    7    6    7      3      0    110    102      8
 #   27    7    3    7      2      0    110     76     34
 #   24    7   27    7      3      0    110    102      8" $two "$(clocks '55 120')"
-crossed "a fast port" "crossing 2 0 15 280 6" "150 source, 110 sink" "#   33    8   35    7      2      0    110     76     34
+crossed "a fast port" "crossing 3 0 17 355 4" "150 source, 110 sink" "#   22    8   35    7      2      0    110     76     34
+#   22    7   22    8      2      0    150     96     54
+#    6    7   22    7      5      1    150    144      6
+#   27    7    6    7      5      1    150    146      4
+#   24    7   27    7      3      0    150    102     48" $two "$(clocks '75 55')"
+open='/^row/s/xt/t/' # the blocked tap in the port's logic
+crossed "a fast port, a FIFO on the tap that was blocked" "crossing 2 0 15 280 6" "150 source, 110 sink" "#   33    8   35    7      2      0    110     76     34
 #   30    7   33    8      3      0    150    124     26
 #    3    7   30    7      5      1    150    144      6
-#   24    7    3    7      5      1    150    144      6" $two "$(clocks '75 55')"
+#   24    7    3    7      5      1    150    144      6" $two "$(clocks '75 55'); $open"
 crossed "a slow fabric" "crossing 0 1 15 280 0" "240 source, 160 sink" "#   22    7   35    7      2      0    160     76     84
 #    6    8   22    7      5      0    160    154      6
 #   24    7    6    8      8      2    240    240      0" $two "$(clocks '120 80')"
-crossed "a port just too fast" "crossing 3 1 15 362 8" "110 source, 142 sink" "#   33    7   35    7      2      0    142     76     66
+crossed "a port less fast, a register on the tap that was blocked" "crossing 3 1 15 362 8" "110 source, 142 sink" "#   33    7   35    7      2      0    142     76     66
 #   30    8   33    7      3      0    142     98     44
 #    6    7   30    8      2      0    110     96     14
 #    3    7    6    7      3      0    110    102      8
 #   27    7    3    7      2      0    110     76     34
-#   24    7   27    7      3      0    110    102      8" $two "$(clocks '55 71')"
+#   24    7   27    7      3      0    110    102      8" $two "$(clocks '55 71'); $open"
 
 # the strip, by hand
 whole() { # NAME OUTPUT SED: the visits too, without the table
@@ -69,10 +75,11 @@ whole "clocks alike" "crossing 0 2 4 52 0
 2 7
 1 8
 0 7" "$(clocks '13 13')"
-whole "a single tap, blocked" "crossing 0 0 2 24 0
+single="$(clocks '12 12'); $as_register; s/^sink.*/sink 2/"
+whole "a single tap, the ends on blocked taps" "crossing 0 0 2 24 0
 2 7
 1 8
-0 7" "$(clocks '12 12'); $as_register; s/^row.*/row . xt ./; s/^sink.*/sink 2/"
+0 7" "$single; s/^row.*/row xt t xt/"
 # twice the skew on both sides: 13 and 26 with a skew are what the period less it is without
 whole "a skew" "crossing 1 0 4 58 0
 4 7
@@ -91,6 +98,8 @@ none_crossed() { # NAME TEXT SED
     told "$1" 1 none "case.txt: $no_reason" tools/route "$work/case.txt"
 }
 none_crossed "no tap" "$cross" 's/^row.*/row . . . . ./; s/^clocks.*/clocks 30000 30000/'
+none_crossed "a single tap, blocked" "$cross" "$single; s/^row.*/row . xt ./"
+none_crossed "a port just too fast" $two "$(clocks '55 71')"
 none_crossed "a FIFO whose load is above the limit" "$cross" 's/ C 1 setup 2/ C 11 setup 2/; s/^limit.*/limit 10/; s/^clocks.*/clocks 30000 30000/'
 none_crossed "a FIFO whose setup is too long" "$cross" 's/setup 2/setup 14/'
 none_crossed "a source's period just too short" "$cross" "$(clocks '12 30000')"

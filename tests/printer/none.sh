@@ -38,6 +38,8 @@ strip=examples/strip.txt
 because "$period 12 ticks" $strip 's/^period .*/period 11/' # R4
 because "$period 12 ticks" $strip 's/^period .*/period 1/'
 because "$period 26 ticks" $strip 's/^period .*/period 25/; s/^row.*/row . x ./' # R11
+because "$period 26 ticks" $strip 's/^period .*/period 22/; s/^row.*/row . xt .\nbuffer R 1 K 1 C 1/' # R12
+because "$load" $strip 's/^limit .*/limit 6/; s/^row.*/row . xt ./'
 because "$period 30000 ticks" $strip 's/setup 1/setup 29989/'
 because "$short" $strip 's/setup 1/setup 29990/'
 because "$short" $strip 's/setup 1/setup 30000/; s/^period .*/period 30000/'
@@ -55,7 +57,7 @@ because "$walled" $strip 's/^period .*/period 12\nskew 30000/; s/^row.*/row . t|
 because "$period 108 ticks" examples/detour.txt 's/^period .*/period 20/'
 because "$load" examples/detour.txt 's/^limit .*/limit 3/'
 because "$walled" examples/detour.txt 's/^\(row *\.   \.   \.   \. *\)\([.t]\)|\?/\1\2|/'
-because "$period 230 ticks" $here/fits.txt 's/^period .*/period 229/'
+because "$period 3749 ticks" $here/fits.txt 's/^period .*/period 3748/'
 for text in "$work"/none.*; do
     holds "$text" "$($job route $printer $player "$text")"
 done

@@ -9,7 +9,7 @@ same_file "the brute force on the example" examples/detour.sheet "$work/text"
 
 # 1,024 visits fill the program's words, two more do not fit
 $job write $here/fits.txt | $printer >"$work/text"
-same "1,024 visits" "route 11 1023 2760 0" "$(head -n 1 "$work/text")"
+same "1,024 visits" "route 5 1023 22494 0" "$(head -n 1 "$work/text")"
 same "lines of 1,024 visits" 1025 "$(wc -l <"$work/text")"
 $job write $here/fits.txt | target/brute/brute text >"$work/again"
 same_file "the brute force on 1,024 visits" "$work/text" "$work/again"

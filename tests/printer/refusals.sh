@@ -8,7 +8,7 @@ refuse() { # NUMBER LINE: REASON, SED
 sides="each must be 1 to 32"
 refuse 1 "$(line '# row 0'): the plan's width is 48 and its height 8; $sides" 's/^row  *\([^#]*\)#.*/row \1 \1 \1/'
 refuse 1 "$(line '# row 0'): the plan's width is 33 and its height 1; $sides" "s/^source.*/source 0 0/; s/^sink.*/sink 0 32/; /^row/d; $(($(line '# row 0') - 1))a row$(printf ' .%.0s' {1..33})"
-refuse 1 "$((8 + 31)): the plan's width is 16 and its height 40; $sides" 's/^row[^#]*/&\n&\n&\n&\n&/'
+refuse 1 "$(($(line '# row 0') + 32)): the plan's width is 16 and its height 40; $sides" 's/^row[^#]*/&\n&\n&\n&\n&/'
 refuse 1 "$(line '^source'): the plan's width is 0 and its height 9; $sides" 's/^row.*//; s/^source.*/size 0 9\nsource 0/; s/^sink.*/sink 1/'
 refuse 1 "$(line '^source'): the plan's width is 33 and its height 2; $sides" 's/^row.*//; s/^source.*/size 33 2\nsource 0 32/; s/^sink.*/sink 1/'
 refuse 16 "$(($(line '# row 7') + 2)): the plan has 144 cells (16 by 9), and the program takes at most 128" 's/# row 7/\n&\nrow . . . . . . . . . . . . . . . ./'

@@ -29,10 +29,12 @@ case_spans R8 "s/^period.*/period 22/; $buffer" "route 0 2 22 0" 44 "#    0    2
 case_spans R9 "s/^period.*/period 21/; $buffer" "route 1 2 42 18" 42 "#    1    2      1      0     24     18
 #    0    1      1      0     24     18"
 case_spans R10 "$buffer" "route 0 2 26 0" 52 "#    0    2      2      0     52      0"
-case_spans R12 "s/^period.*/period 22/; s/^row.*/row 0 3 0/; $buffer" "route 1 2 44 20" 44 "#    1    2      1      0     24     20
-#    0    1      1      0     24     20"
 spans R13 "route 1 4 24 0" 24 "#    4    2      2      0     24      0
 #    0    4      2      0     24      0" examples/twice.txt
+# both marks: the ends stand there, and a visit without a gate
+case_spans "R2, the ends blocked taps" 's/^period.*/period 25/; s/^row.*/row xt t xt/' "route 1 2 50 26" 50 "#    1    2      1      0     24     26
+#    0    1      1      0     24     26"
+case_spans "R1, a blocked tap" 's/^row.*/row . xt ./' "route 0 2 26 0" 52 "#    0    2      2      0     52      0"
 # with a skew, worked out by hand
 case_spans "R1, skew 1" 's/^period.*/period 26\nskew 1/' "route 1 2 52 26" "52, twice the skew 2" "#    1    2      1      0     24     26
 #    0    1      1      0     24     26"
@@ -43,23 +45,23 @@ case_spans "the longest period, skew 29,974" 's/^period.*/period 30000\nskew 299
 spans "the strip with a skew" "route 1 2 52 26" "52, twice the skew 2" "#    1    2      1      0     24     26
 #    0    1      1      0     24     26" examples/skewed.txt
 case_spans "the longest period" 's/^period.*/period 30000/' "route 0 2 30000 59948" 60000 "#    0    2      2      0     52  59948"
+edited 's/^period.*/period 120/'
+spans "the example, the other way round" "route 4 23 600 16" 240 "#   59   63      4      0    144     96
+#  123   59      4      0    192     48
+#  116  123      7      1    224     16
+#   52  116      4      0    192     48
+#   48   52      4      0    144     96" "$work/bad.txt"
 spans "the wide plan" "route 4 37 300 1" 120 "#  102    0      9      1    119      1
-#  107  102      5      0     71     49
-#  114  107      7      0    107     13
-#   24  114      9      1    119      1
+#   12  102      9      1    119      1
+#   18   12      6      0     88     32
+#   24   18      6      0     88     32
 #   31   24      7      0    107     13" $here/wide.txt
-spans "1,024 visits" "route 11 1023 2760 0" 460 "#   37   97     86     14    460      0
-#   88   37     85     14    460      0
-#   47   88     85     15    460      0
-#   78   47     85     15    460      0
-#   57   78     85     15    460      0
-#   68   57     85     15    460      0
-#   67   68     85     16    460      0
-#   58   67     85     14    460      0
-#   77   58     85     16    460      0
-#   48   77     85     14    460      0
-#   87   48     85     15    460      0
-#   38   87     87     14    460      0" $here/fits.txt
+spans "1,024 visits" "route 5 1023 22494 0" 7498 "#   91    0    170     79   7498      0
+#    1   91    171     79   7498      0
+#   93    1    171     79   7498      0
+#    3   93    171     79   7498      0
+#   94    3    170     79   7498      0
+#    5   94    170     79   7498      0" $here/fits.txt
 
 # What a table says of the sheet before it: a chain of registers + 1 spans, their steps, their smallest spare figure.
 table_sums() { # FILE

@@ -83,7 +83,7 @@ crossing 5 1 0 4 2048" "$(cat "$work/script")"
 no_reason="why there is no route is told of one clock only"
 plays "tee '$work/script' >/dev/null; echo 'crossing 7 depth 0 figures 0 0 0 0 0 visits zeroed 30720'"
 told "the example's question" 1 none "$two: $no_reason" $job route "$work/missing" "$work/program" $two
-same "the script of the example's question" "plan 60 0 0 0 2 0 0 2 0 0 0 0 0 0 0 1 1 5 0 0 0 1 1 2 0 0 0 1 3 5 0 2 0 1 3 1 0 0 0 1 1 5 0 0 0 1 1 1 0 0 0 0 2 0 0 0 0 0 0 2 0
+same "the script of the example's question" "plan 60 0 0 0 2 0 0 2 0 0 0 0 0 0 0 1 1 5 0 0 0 1 1 2 0 0 0 1 2 5 0 2 0 1 3 1 0 0 0 1 1 5 0 0 0 1 1 1 0 0 0 0 2 0 0 0 0 0 0 2 0
 tables 3 8 2 4 1 2 1 2 75 0 20
 buffers 2 3 4 1 1 7 3
 clocks 55 2 14 3 9
@@ -145,7 +145,7 @@ rm -f "$work/drawing.svg"
 line_told "the picture of two clocks" 0 "$(cat $here/two_clocks.sheet <(echo) $here/two_clocks.picture)" "" "$own_line" $two \
     --picture --svg "$work/drawing.svg"
 drawn() { python3 $here/drawing.py "$work/drawing.svg" 2>&1; }
-same "the drawing of two clocks" "16 visits, 16 points, 8 taps, 17 blocked, 3 cuts, 1 FIFOs" "$(drawn)"
+same "the drawing of two clocks" "16 visits, 16 points, 8 taps, 16 blocked, 3 cuts, 1 FIFOs" "$(drawn)"
 title "$two: registers 1 on the source's side, 1 on the sink's, steps 15, latency 260 ticks, spare 4 half-ticks"
 same "FIFOs in its legend" 1 "$(grep -c '>FIFO</text>' "$work/drawing.svg")"
 none_line="crossing 7 depth 0 figures 0 0 0 0 0 visits zeroed 30720"

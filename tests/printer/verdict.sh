@@ -24,7 +24,7 @@ own "3 visits, 0 registers, 0 half-ticks spare" examples/strip.txt
 own "3 visits, 1 register, 26 half-ticks spare" examples/skewed.txt
 own "5 visits, 1 register, 0 half-ticks spare" examples/twice.txt
 own "38 visits, 4 registers, 1 half-tick spare" $here/wide.txt
-own "1024 visits, 11 registers, 0 half-ticks spare" $here/fits.txt
+own "1024 visits, 5 registers, 0 half-ticks spare" $here/fits.txt
 sheet_piped() { tools/verdict examples/detour.txt - <examples/detour.sheet; }
 told "a sheet on standard input" 0 "accepted: 22 visits, 2 registers, 0 half-ticks spare" "" sheet_piped
 plan_piped() { tools/verdict - examples/detour.sheet <examples/detour.txt; }
@@ -134,7 +134,14 @@ told "the largest miss of a sheet" 1 "visit 4095 (cell 0, code 7): the span that
 strip 's/^limit.*/limit 0/'
 fault "visit 0 (cell 2, code 7): the load is more than the limit, 0" "$plan" ''
 strip 's/^row.*/row . xt .\nbuffer R 1 K 1 C 1/'
-fault "visit 1 (cell 1, code 1): blocked, no buffer may stand here" "$plan" 's/^1 0/1 1/'
+fault "visit 1 (cell 1, code 1): blocked, no gate may stand here" "$plan" 's/^1 0/1 1/'
+fault "visit 1 (cell 1, code 7): blocked, no gate may stand here" "$plan" 's/^1 0/1 7/'
+fault "visit 1 (cell 1, code 2): no such buffer in the tables, which have 1" "$plan" 's/^1 0/1 2/'
+accepts "a visit without a gate on a blocked tap" "3 visits, 0 registers, 0 half-ticks spare" "$plan" "$work/strip.sheet"
+strip 's/^row.*/row . x ./'
+fault "visit 1 (cell 1, code 7): no clock tap here" "$plan" 's/^1 0/1 7/'
+strip 's/^row.*/row xt t xt/'
+accepts "ends on blocked taps" "3 visits, 1 register, 28 half-ticks spare" "$plan" "$work/two.sheet"
 strip 's/^row.*/row . .| .\nrow . . .\nsize 3 2/'
 fault "visit 1 (cell 1, code 0): no uncut wire from cell 2" "$plan" ''
 fault "visit 1 (cell 3, code 0): no uncut wire from cell 2" "$plan" 's/^1 0/3 0/'
@@ -245,7 +252,7 @@ while read -r hex; do
     read -r _ registers _ _ slack <"$work/sample.sheet"
     same "the verdict on the route of $hex" "accepted: $visits visits, $(counted "$registers" register), $(counted "$slack" half-tick) spare" \
         "$($job verdict $player "$work/text" "$work/sample.sheet" 2>&1)"
-    for change in 's/ .*/ 7/' 's/ .*/ 3/' 's/^/1/' 's/^./0/' d p; do
+    for change in 's/ .*/ 7/' 's/ .*/ 3/' 's/^/1/' 's/^./0/' d p ',$s/ [1-6]$/ 0/'; do
         sed "$((2 + turn % visits))$change" "$work/sample.sheet" >"$work/bad.sheet"
         turn=$((turn + 7))
         said=$($job verdict $player "$work/text" "$work/bad.sheet" 2>&1)
@@ -338,6 +345,7 @@ on_program "another miss" 4 "" "program: $shown 'judge 0 depth 0 visit 2 period 
 strip 's/^period.*/period 11/'
 printf 'route 0 0 0\n2 7\n1 7\n2 0\n1 0\n0 7\n' >"$work/bad.sheet"
 on_program "the miss of a close before" 4 "" "program: $shown 'judge 0 depth 0 visit 2 period -2'" "judge 0 depth 0 visit 2 period -2" "$plan" "$work/bad.sheet"
+on_program "a register on an open tap at fault" 4 "" "program: $shown 'judge 0 depth 0 visit 1 site'" "judge 0 depth 0 visit 1 site" examples/strip.txt "$work/two.sheet"
 accepted="judge 0 depth 0 accepted 52"
 head -n 2 "$work/strip.sheet" >"$work/bad.sheet"
 on_program "one visit accepted" 4 "" "program: $spare '$accepted'" "$accepted" examples/strip.txt "$work/bad.sheet"

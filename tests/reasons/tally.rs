@@ -2,7 +2,8 @@
 
 use crate::explained::{Explained, Reason, LONGEST};
 use crate::jobs::Job;
-use crate::rules::{registers, Problem, BLOCKED, CUT_BELOW, CUT_RIGHT, TAP};
+use crate::question::SCRATCH;
+use crate::rules::{registers, Problem, ReadLast, BLOCKED, CUT_BELOW, CUT_RIGHT, TAP};
 use crate::sides::Seen;
 use crate::why::{chain, chain_over, fits, period_for};
 use std::collections::BTreeMap;
@@ -21,7 +22,7 @@ pub struct Tally {
 const ORDER: [&str; 6] = ["grid", "length", "plan", "element", "ends", "scratch"];
 
 // The classes of one kind, with the least number of each among 5,000 jobs.
-const KINDS: [(&str, u64, &[&str]); 19] = [
+const KINDS: [(&str, u64, &[&str]); 20] = [
     ("answer", 200, &["walled", "load", "period", "short", "19"]),
     ("refused", 20, &["1", "2", "3", "4", "5", "6"]),
     ("4: fault", 1, &["1", "2", "3", "4", "5", "6", "7", "8 1", "8 2", "8 3", "8 4", "8 5", "8 6"]),
@@ -30,6 +31,11 @@ const KINDS: [(&str, u64, &[&str]); 19] = [
     ("skew T:", 3, &["walled", "load", "period", "short", "19"]),
     ("skew above T:", 20, &["walled", "load", "period", "short"]),
     ("by the skew:", 30, &["period, and a route without it", "short, and a period without it"]),
+    (
+        "by C-17:",
+        20,
+        &["period, and a route before", "a longer period", "load, and not before", "short, and not before", "no other answer"],
+    ),
     (
         "period",
         30,
@@ -126,6 +132,7 @@ impl Tally {
         self.add_if(job.shown, "scratch", "shown");
         self.plan(p);
         self.skew(p, answer, slowest);
+        self.both_marks(p, answer);
         match answer {
             Explained::RouteExists => self.exists(p, slowest.unwrap()),
             Explained::Because(Reason::Period(t)) => self.period(p, *t, slowest.unwrap()),
@@ -160,10 +167,27 @@ impl Tally {
         }
     }
 
+    // Where a cell has both marks: the answer by the rules of before C-17 beside the answer of now.
+    fn both_marks(&mut self, p: &Problem, now: &Explained) {
+        let old = Problem { read_last: ReadLast::Tap, ..p.clone() };
+        let before = (0..p.cells()).any(|cell| p.has_both_marks(cell)).then(|| Explained::of(&old, SCRATCH));
+        let Some(Ok((before, _))) = before else { return };
+        use Explained::{Because, RouteExists};
+        use Reason::{Load, Period, Short};
+        let class = match (before, now) {
+            (RouteExists, Because(Period(_))) => "period, and a route before",
+            (Because(Period(t)), Because(Period(u))) if t < *u => "a longer period",
+            (RouteExists | Because(Period(_) | Short), Because(Load)) => "load, and not before",
+            (RouteExists | Because(Period(_)), Because(Short)) => "short, and not before",
+            _ => "no other answer",
+        };
+        self.add("by C-17:", class);
+    }
+
     fn plan(&mut self, p: &Problem) {
         let open = |cell: u32| p.marks[cell as usize] & BLOCKED == 0;
         let line = p.cells() > 2 && p.width.min(p.height) == 1;
-        let taps = p.marks.iter().filter(|&marks| marks & TAP != 0).count();
+        let taps = (0..p.cells()).filter(|&cell| p.takes_register(cell)).count();
         self.add_if(line, "plan", "1 by N");
         self.add_if(line && p.cells() == 32, "plan", "1 by 32");
         self.add_if(taps >= MANY, "plan", "many taps");

@@ -23,7 +23,7 @@ fn strip(period: u32) -> Problem {
         limit: 63,
         source: 0,
         sink: 2,
-        buffers: vec![],
+        ..Problem::default()
     }
 }
 
@@ -35,7 +35,7 @@ fn buffered(period: u32) -> Problem {
     Problem { buffers: vec![Buffer { r: 1, k: 1, c: 1 }], ..strip(period) }
 }
 
-fn marked(marks: [u32; 3], p: Problem) -> Problem {
+fn marked(marks: &[u32], p: Problem) -> Problem {
     Problem { marks: marks.to_vec(), ..p }
 }
 
@@ -94,7 +94,7 @@ fn with_skew() -> Vec<(&'static str, Problem, &'static str)> {
         ("R3, skew T", skewed(12, strip(12)), "0 period 24 zeroed 768"),
         ("R3, skew above T", skewed(13, strip(12)), "0 period 25 zeroed 768"),
         ("skew 1,000 at T 1", skewed(1_000, strip(1)), "0 period 1012 zeroed 768"),
-        ("R11, skew 1", skewed(1, marked([0, 1, 0], strip(26))), "0 period 27 zeroed 768"),
+        ("R11, skew 1", skewed(1, marked(&[0, 1, 0], strip(26))), "0 period 27 zeroed 768"),
         ("skew 14 and no more", skewed(14, strip(26)), exists),
         ("skew 15", skewed(15, strip(26)), "0 period 27 zeroed 768"),
         ("skew 29,988", skewed(29_988, strip(26)), "0 period 30000 zeroed 768"),
@@ -106,9 +106,9 @@ fn with_skew() -> Vec<(&'static str, Problem, &'static str)> {
         ("skew and setup", skewed(29_900, setup(89, strip(26))), "0 period 30000 zeroed 768"),
         ("skew and setup, a tick more", skewed(29_900, setup(90, strip(26))), "0 short zeroed 768"),
         ("skew 30,000, the load limit too low", skewed(30_000, limited(3)), "0 load zeroed 768"),
-        ("skew 30,000, a wire cut", skewed(30_000, marked([4, 2, 0], strip(26))), "0 walled zeroed 768"),
+        ("skew 30,000, a wire cut", skewed(30_000, marked(&[4, 2, 0], strip(26))), "0 walled zeroed 768"),
         ("skew above T, the load limit too low", skewed(27, limited(3)), "0 load zeroed 768"),
-        ("skew above T, a wire cut", skewed(27, marked([4, 2, 0], strip(26))), "0 walled zeroed 768"),
+        ("skew above T, a wire cut", skewed(27, marked(&[4, 2, 0], strip(26))), "0 walled zeroed 768"),
         ("one half-tick, skew 1 at T 1", skewed(1, step(0, 1)), "0 period 2 zeroed 512"),
         ("one half-tick, skew 1 at T 2", skewed(1, step(0, 2)), "19 zeroed 512"),
         ("one half-tick, skew 29,999", skewed(29_999, step(0, 1)), "0 period 30000 zeroed 512"),
@@ -143,18 +143,22 @@ pub fn cases() -> Vec<Case> {
         ("R8", buffered(22), exists),
         ("R9", buffered(21), exists),
         ("R10", buffered(26), exists),
-        ("R11: the whole strip closes at 52", marked([0, 1, 0], strip(25)), "0 period 26 zeroed 768"),
-        ("R12", marked([0, 3, 0], buffered(22)), exists),
+        ("R11: the whole strip closes at 52", marked(&[0, 1, 0], strip(25)), "0 period 26 zeroed 768"),
+        ("R12: no gate, the whole strip closes at 52", marked(&[0, 3, 0], buffered(22)), "0 period 26 zeroed 768"),
         ("R13", two_rows(12), "19 zeroed 1536"),
         ("R13 a tick shorter", two_rows(11), "0 period 12 zeroed 1536"),
-        ("R11 with a buffer, and no tap", marked([0, 0, 0], buffered(21)), "0 period 22 zeroed 768"),
+        ("R13, both marks on the tap", marked(&[0, 1, 0, 0, 3, 0], two_rows(12)), "0 period 26 zeroed 1536"),
+        ("R6, both marks on the tap", marked(&[0, 3, 0], limited(6)), "0 load zeroed 768"),
+        ("R3, both marks on the ends' cells", marked(&[3, 2, 3], strip(12)), exists),
+        ("R4, both marks on the ends' cells", marked(&[3, 2, 3], strip(11)), "0 period 12 zeroed 768"),
+        ("R11 with a buffer, and no tap", marked(&[0, 0, 0], buffered(21)), "0 period 22 zeroed 768"),
         ("R4 at T 1", strip(1), "0 period 12 zeroed 768"),
         ("R7 at T 1: load comes first", Problem { period: 1, ..limited(3) }, "0 load zeroed 768"),
         ("load 4 just fits", limited(4), exists),
         ("C(reg) 1 above L 0", limited(0), "0 load zeroed 768"),
-        ("the wire from 0 cut", marked([4, 2, 0], strip(11)), "0 walled zeroed 768"),
-        ("the wire from 1 cut, and C(reg) above L", marked([0, 6, 0], limited(0)), "0 walled zeroed 768"),
-        ("blocked cells only", marked([1, 1, 1], strip(11)), "0 period 26 zeroed 768"),
+        ("the wire from 0 cut", marked(&[4, 2, 0], strip(11)), "0 walled zeroed 768"),
+        ("the wire from 1 cut, and C(reg) above L", marked(&[0, 6, 0], limited(0)), "0 walled zeroed 768"),
+        ("blocked cells only", marked(&[1, 1, 1], strip(11)), "0 period 26 zeroed 768"),
         ("setup 29,989: a span closes at 60,000", setup(29_989, strip(11)), "0 period 30000 zeroed 768"),
         ("the same at T 29,999", setup(29_989, strip(29_999)), "0 period 30000 zeroed 768"),
         ("the same at T 30,000", setup(29_989, strip(30_000)), exists),
@@ -167,7 +171,7 @@ pub fn cases() -> Vec<Case> {
         ("60,001 half-ticks", step(30_000, 30_000), "0 short zeroed 512"),
         ("width 0", Problem { width: 0, ..strip(11) }, "1 zeroed 0"),
         ("two rows of one byte too few", Problem { height: 2, ..strip(11) }, "2 zeroed 0"),
-        ("a 4 in the last column", marked([0, 2, 4], strip(11)), "3 zeroed 0"),
+        ("a 4 in the last column", marked(&[0, 2, 4], strip(11)), "3 zeroed 0"),
         ("T 0", strip(0), "4 fault 1 zeroed 0"),
         ("T 30,001", strip(30_001), "4 fault 1 zeroed 0"),
         ("setup 30,001", setup(30_001, strip(11)), "4 fault 6 zeroed 0"),

@@ -29,7 +29,7 @@ pub fn bad_sides(r: &mut Random, w: u32, h: u32) -> (u32, u32) {
 // Marks that may stand at the cell.
 fn marks(r: &mut Random, w: u32, h: u32, cell: u32) -> u8 {
     let mut m = 0;
-    for (mark, percent) in [(1, 40), (2, 50), (RIGHT, 12), (BELOW, 12)] {
+    for (mark, percent) in [(1, 30), (2, 65), (RIGHT, 12), (BELOW, 12)] {
         if r.chance(percent) && !invalid_mark(w, h, cell, mark) {
             m |= mark;
         }

@@ -26,6 +26,7 @@ mod why;
 mod best;
 #[path = "../crossing/crossed.rs"]
 mod crossed;
+#[allow(dead_code)]
 #[path = "../crossing/net.rs"]
 mod net;
 

@@ -172,11 +172,35 @@ impl Maker<'_> {
         Ok(())
     }
 
+    // Both marks on a tap of the last route, then taken back: the questions before, between and after.
+    fn mark_both(&mut self, q: Question) -> Made {
+        let plan = &self.player.session.plan;
+        let marks = |cell: u32| plan.get(cell as usize).map_or(0, |&marks| marks as u32);
+        let taps: Vec<u32> = self.path.iter().copied().filter(|&cell| marks(cell) & 3 == 2).collect();
+        if taps.is_empty() {
+            return Ok(());
+        }
+        let cell = self.r.pick(&taps);
+        let moves = [None, Some(Command::Move(cell, marks(cell) | 3)), Some(Command::Undo)];
+        let mut told = Vec::new();
+        for command in moves {
+            command.map_or(Ok(()), |command| self.put(command))?;
+            self.put(Command::Route(q))?;
+            self.put(Command::Crossing(q))?;
+            told.push(self.player.answer(&q).ok().map(|answer| (answer.number(), answer.filled())));
+        }
+        if let [Some(first), Some(between), Some(last)] = &told[..] {
+            self.mix.both_marks(first, between, last);
+        }
+        Ok(())
+    }
+
     pub fn question(&mut self) -> Made {
         if let Some(q) = self.asked {
             if self.r.chance(75) {
                 self.look(&q, 60);
-                return self.ask(q);
+                self.ask(q)?;
+                return if self.r.chance(15) { self.mark_both(q) } else { Ok(()) };
             }
         }
         if self.r.chance(40) {

@@ -48,7 +48,7 @@ const FAULTS: [&str; 13] = ["1", "2", "3", "4", "5", "6", "7", "8 1", "8 2", "8 
 // The skew of a question that is not refused.
 const SKEWS: [&str; 4] = ["0", "below T", "T", "above T"];
 
-const KINDS: [(&str, &[&str]); 29] = [
+const KINDS: [(&str, &[&str]); 30] = [
     (
         "move",
         &[
@@ -56,6 +56,7 @@ const KINDS: [(&str, &[&str]); 29] = [
             "to the marks already there",
             "0 at depth 255",
             "0 on a cell above 255",
+            "0 to both marks",
             "3: above 15",
             "3: a 4 in the last column",
             "3: an 8 in the last row",
@@ -67,6 +68,7 @@ const KINDS: [(&str, &[&str]); 29] = [
             "of a move to the marks already there",
             "0 at depth 256",
             "0 of a tampered session",
+            "0 of a move to both marks",
             "13: cell",
             "13: old marks",
             "13: new marks",
@@ -112,6 +114,7 @@ const KINDS: [(&str, &[&str]); 29] = [
     ("route asked again,", &ASKED),
     ("reason asked again,", &ASKED),
     ("crossing asked again,", &ASKED),
+    ("both marks on a tap of the route:", &["the same route", "another", "none", "the first again"]),
     ("route scratch words:", &WORDS),
     ("reason scratch words:", &WORDS),
     ("crossing scratch words:", &WORDS),
@@ -127,6 +130,8 @@ const KINDS: [(&str, &[&str]); 29] = [
     ),
     ("", &["1 by 1", "32 by 32", "1 by 32", "32 by 1", "second sessions", "bad scripts", "free layout", "restored"]),
 ];
+
+type Told = (u32, Vec<u32>);
 
 const SHORT: [&str; 3] = ["no words lent", "one word too few", "two words or more too few"];
 
@@ -211,6 +216,7 @@ impl Mix {
                 self.add(if same { "move to the marks already there" } else { "move to other marks" });
                 self.add_if(record.depth == 255, "move 0 at depth 255");
                 self.add_if(cell > 255, "move 0 on a cell above 255");
+                self.add_if(marks & 3 == 3, "move 0 to both marks");
             }
             Some((3, "marks")) => {
                 let cut_right = marks & RIGHT != 0 && cell % record.width == record.width - 1;
@@ -299,6 +305,18 @@ impl Mix {
         self.add_if(seen.none_below && seen.route.is_some(), "reason seen from both sides");
         self.add_if(seen.none_longest, "reason where no route is at 30,000");
         self.add_if((p.width, p.height) != (record.width, record.height), "reason on sides not the session's");
+    }
+
+    // Number and visits before a move of a tap to both marks, after it, and after its undo.
+    pub fn both_marks(&mut self, first: &Told, between: &Told, last: &Told) {
+        let class = match between.0 {
+            _ if first.0 != 0 => return,
+            _ if between == first => "the same route",
+            7 => "none",
+            _ => "another",
+        };
+        self.add(&format!("both marks on a tap of the route: {class}"));
+        self.add_if(between != first && last == first, "both marks on a tap of the route: the first again");
     }
 
     // A question's skew by its number; between two clocks it is held against the lesser period.

@@ -136,11 +136,13 @@ impl Player {
         self.note_place("undo", mix);
         let (corrupt, newest) = (self.session.corrupt(), self.session.newest());
         let same = newest.is_some_and(|at| self.session.journal[at + 2] == self.session.journal[at + 3]);
+        let both = newest.is_some_and(|at| self.session.journal[at + 3] & 3 == 3);
         let faults = self.session.undo();
         mix.faults("undo", &faults);
         match number(&faults) {
             0 => {
                 mix.add_if(same, "undo of a move to the marks already there");
+                mix.add_if(both, "undo 0 of a move to both marks");
                 mix.add_if(self.session.record.depth == 255, "undo 0 at depth 256");
                 mix.add_if(!self.in_step, "undo 0 of a tampered session");
             }

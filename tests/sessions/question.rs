@@ -67,6 +67,7 @@ pub fn problem(plan: &[u8], t: &Tables, q: &Question) -> Problem {
         source: q.source,
         sink: q.sink,
         buffers: t.buffers.iter().map(|b| Buffer { r: b[0], k: b[1], c: b[2] }).collect(),
+        ..Problem::default()
     }
 }
 

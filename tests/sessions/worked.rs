@@ -46,12 +46,49 @@ fn routes() -> Case {
         route 7 depth 0 figures 0 0 0 0 visits zeroed 768\n\
         route 0 depth 0 figures 0 2 22 0 visits 2 7 1 1 0 7 zeroed 768\n\
         move 0 depth 1\n\
-        route 0 depth 1 figures 1 2 44 20 visits 2 7 1 7 0 7 zeroed 768\n\
+        route 7 depth 1 figures 0 0 0 0 visits zeroed 768\n\
         open 0 depth 0\n\
         route 0 depth 0 figures 1 4 24 0 visits 2 7 1 0 4 7 1 0 0 7 zeroed 1536\n\
         move 0 depth 1\n\
         route 7 depth 1 figures 0 0 0 0 visits zeroed 1536\n";
     case("document 01's routes, by moves", &script, lines)
+}
+
+// R13's plan with two taps. Both marks on the upper one, then on both, then on the ends' cells: each move is undone.
+fn both_marks() -> Case {
+    let asked = "route 3 2 0 2 10 crossing 3 2 0 2 10 ";
+    let script = "plan 6 0 2 0 0 2 0 tables 1 2 1 1 2 3 0 0 12 0 63 clocks 12 1 2 1 1 open 3 2 ".to_string()
+        + &["", "move 1 3 ", "move 4 3 reason 3 2 0 2 ", "undo ", "undo ", "move 0 15 undo move 0 3 move 2 3 "]
+            .map(|moves| format!("{moves}{asked}"))
+            .concat()
+        + "show undo undo show";
+    let answered = |depth: u32, steps: u32, route: &str, crossing: &str| {
+        let route = format!("route 0 depth {depth} figures 1 {steps} 24 0 visits {route} zeroed 1536\n");
+        format!("{route}crossing 0 depth {depth} figures 0 0 {steps} 24 0 visits {crossing} zeroed 3072\n")
+    };
+    let upper = |depth: u32| answered(depth, 2, "2 7 1 7 0 7", "2 7 1 8 0 7");
+    let lower = |depth: u32| answered(depth, 4, "2 7 1 0 4 7 1 0 0 7", "2 7 1 0 4 8 1 0 0 7");
+    let shown = |plan: &str, entries: &[[u8; 4]]| {
+        format!("plan {plan}\n{}scratch 0 * 3072 65535 * 521216\nvisits 2 7 1 8 0 7 65535 * 2042\n", journal(entries))
+    };
+    let lines = [
+        "open 0 depth 0\n".to_string(),
+        upper(0),
+        "move 0 depth 1\n".to_string(),
+        lower(1),
+        "move 0 depth 2\nreason 0 depth 2 period 26 zeroed 1536\n".to_string(),
+        "route 7 depth 2 figures 0 0 0 0 visits zeroed 1536\n".to_string(),
+        "crossing 7 depth 2 figures 0 0 0 0 0 visits zeroed 3072\nundo 0 depth 1\n".to_string(),
+        lower(1),
+        "undo 0 depth 0\n".to_string(),
+        upper(0),
+        "move 0 depth 1\nundo 0 depth 0\nmove 0 depth 1\nmove 0 depth 2\n".to_string(),
+        upper(2),
+        shown("3 2 3 0 2 0", &[[0, 0, 0, 3], [2, 0, 0, 3]]),
+        "undo 0 depth 1\nundo 0 depth 0\n".to_string(),
+        shown("0 2 0 0 2 0", &[]),
+    ];
+    case("both marks, by moves", &script, &lines.concat())
 }
 
 // R4 and R7, and what moves make of them.
@@ -263,6 +300,7 @@ pub fn cases() -> Vec<Case> {
     let undone = format!("undo 0 depth 0\nplan 0 2 0\n{}{UNTOUCHED}", journal(&[]));
     vec![
         routes(),
+        both_marks(),
         reasons(),
         skews(),
         crossings(),

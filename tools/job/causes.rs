@@ -54,13 +54,13 @@ fn site(job: &Job, visit: &Visit, end: bool) -> Option<String> {
     if code > CODE_REGISTER {
         return Some(format!("no such code; the largest is {CODE_REGISTER}, a register"));
     }
-    if code == CODE_REGISTER {
-        return (!job.has_mark(visit.cell, TAP)).then(|| "no clock tap here".to_string());
+    if code == CODE_REGISTER && !job.has_mark(visit.cell, TAP) {
+        return Some("no clock tap here".to_string());
     }
-    if code as usize > count {
+    if code < CODE_REGISTER && code as usize > count {
         return Some(format!("no such buffer in the tables, which have {count}"));
     }
-    job.has_mark(visit.cell, BLOCKED).then(|| "blocked, no buffer may stand here".to_string())
+    job.has_mark(visit.cell, BLOCKED).then(|| "blocked, no gate may stand here".to_string())
 }
 
 // The last visit closes a span whose spare figure is below zero, and is this one.

@@ -8,3 +8,4 @@ pub mod Search
 pub mod Sides
 pub mod Best
 pub mod Document01
+pub mod KeepOut

@@ -113,10 +113,13 @@ module _ (p : Plan) (e : Elements) (x : Clocks) (from to : ℕ) where
   pub between-from : (c n : ℕ) → T (R .linked c n) → c < R .cellCount
   between-from c n h = rw (between-cellCount p e x from to) (joined-in p c n (rw (between-linked p e x from to c n) at h) .0)
 
-  -- between two clocks what is ranked first is the latency, which is the weight: the sum over the spans of each span's own period
-  pub crossing-cost : x .fifos ≡ 1 → Costs R (crossingLatency (x .period) (e .period)) 0
-  crossing-cost one v vs h ending =
+  -- between two clocks what is ranked first is the latency, which is the weight: the sum over the spans of each span's own period; so too by other rules with these FIFOs and weights
+  pub latency-cost : (Q : Rules) → Q .fifos ≡ R .fifos → ((f : ℕ) → Q .weight f ≡ R .weight f) → x .fifos ≡ 1 → Costs Q (crossingLatency (x .period) (e .period)) 0
+  latency-cost Q fifos weights one v vs h ending =
       let two : 1 ≤ x .fifos = omega arith in
-      let far : R .weight 1 ≡ x .period = weight-two p e x from to two 1 ∙ period-source e x 1 two (omega arith) in
-      let near : R .weight 0 ≡ e .period = weight-two p e x from to two 0 ∙ period-sink e x 0 refl in
-      add-zero _ ∙ (ap₂ (λ (s t : ℕ). crossingLatency s t (v ∷ vs)) (sym far) (sym near) ∙ crossing-weight R (between-fifos p e x from to ∙ one) h ending)
+      let far : Q .weight 1 ≡ x .period = weights 1 ∙ weight-two p e x from to two 1 ∙ period-source e x 1 two (omega arith) in
+      let near : Q .weight 0 ≡ e .period = weights 0 ∙ weight-two p e x from to two 0 ∙ period-sink e x 0 refl in
+      add-zero _ ∙ (ap₂ (λ (s t : ℕ). crossingLatency s t (v ∷ vs)) (sym far) (sym near) ∙ crossing-weight Q (fifos ∙ between-fifos p e x from to ∙ one) h ending)
+
+  pub crossing-cost : x .fifos ≡ 1 → Costs R (crossingLatency (x .period) (e .period)) 0
+  crossing-cost = latency-cost R refl (λ f. refl)

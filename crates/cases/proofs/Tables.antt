@@ -58,6 +58,13 @@ module _ (period limit : ℕ) (vertical : Wire) (least : periodMin ≤ period) (
 plain : (period limit : ℕ) → periodMin ≤ period → period ≤ periodMax → limit ≤ loadMax → Valid (tables period limit (wireOf 2 3) [])
 plain period limit least most load = none-valid period limit (wireOf 2 3) least most load (wire-in-range 2 3 (omega arith) (omega arith))
 
+buffered : (period limit : ℕ) → periodMin ≤ period → period ≤ periodMax → limit ≤ loadMax → Valid (tables period limit (wireOf 2 3) buffers)
+buffered period limit least most load = one-valid period limit (wireOf 2 3) least most load (wire-in-range 2 3 (omega arith) (omega arith))
+
+pub valid12 : Valid (case12 .elements)
+unfolding strip case12
+valid12 = buffered 22 63 (omega arith) (omega arith) (omega arith)
+
 -- every case's tables
 pub valid : Each (λ c. Valid (c .elements)) cases
 unfolding strip case1 case2 case3 case4 case5 case6 case7 case8 case9 case10 case11 case12 case13
@@ -73,11 +80,8 @@ valid =
     (more case9 (buffered 21 63 (omega arith) (omega arith) (omega arith))
     (more case10 (buffered 26 63 (omega arith) (omega arith) (omega arith))
     (more case11 (plain 25 63 (omega arith) (omega arith) (omega arith))
-    (more case12 (buffered 22 63 (omega arith) (omega arith) (omega arith))
+    (more case12 valid12
     (more case13 (none-valid 12 63 (wireOf 0 0) (omega arith) (omega arith) (omega arith) (wire-in-range 0 0 (omega arith) (omega arith))) none))))))))))))
-  where
-    buffered : (period limit : ℕ) → periodMin ≤ period → period ≤ periodMax → limit ≤ loadMax → Valid (tables period limit (wireOf 2 3) buffers)
-    buffered period limit least most load = one-valid period limit (wireOf 2 3) least most load (wire-in-range 2 3 (omega arith) (omega arith))
 
 -- the same with a skew
 pub skew-valid : (s : ℕ) (e : Elements) → s ≤ skewMax → Valid e → Valid (withSkew s e)

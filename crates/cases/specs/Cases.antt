@@ -1,4 +1,4 @@
--- Document 01, "Routes worked through": R1 to R13 as one list, and R1 and R3 with skew 1 (document 02, C-16) as another, with the visits that the paper leaves out, and what it means that a case is right.
+-- Document 01, "Routes worked through": R1 to R13 as one list, R12 by document 02, C-17; R1 and R3 with skew 1 (C-16) as another; with the visits that the papers leave out, and what it means that a case is right.
 use Prim.Native.Nat.{ℕ, _-_}
 use mathlib.Core.Path.{_≡_}
 use mathlib.Core.List.{List, [], _∷_, _++_}
@@ -17,6 +17,7 @@ use Rattle.rules.specs.Legal.{Visit, Route, arrive, closing, legal}
 use Rattle.rules.specs.Ranking.{registers, steps, latency, IsBest}
 use Rattle.rules.specs.Beginning.{placeAfter}
 use Rattle.rules.specs.Slack.{leastSlack}
+use Rattle.rules.specs.KeepOut.{tapLast}
 use Rattle.budget.specs.Emission.{visit}
 
 -- registers, steps, latency, spare half-ticks and visits; or 7, no route
@@ -135,7 +136,14 @@ unfoldable pub case11 : Case
 case11 = strip (0 ∷ 1 ∷ 0 ∷ []) 25 63 [] noRoute
 
 unfoldable pub case12 : Case
-case12 = strip (0 ∷ 3 ∷ 0 ∷ []) 22 63 buffers (route 1 2 44 (pos 20) (straight 7))
+case12 = strip (0 ∷ 3 ∷ 0 ∷ []) 22 63 buffers noRoute
+
+-- document 01's own answer to R12, by the rules of before C-17
+unfoldable pub before12 : Expected
+before12 = route 1 2 44 (pos 20) (straight 7)
+
+abbrev pub rulesBefore : Case → Rules
+rulesBefore c = tapLast (c .plan) (c .elements) (c .source) (c .sink)
 
 -- 3 by 2, with a tap below cell 1
 unfoldable pub case13 : Case

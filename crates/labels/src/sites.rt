@@ -14,7 +14,7 @@ ghost use Rattle.labels.specs.Additions.{FreshIn, LabelAsks, LabelsAdded
 use crate::label;
 use crate::weight_word;
 use layout::ACTIVE;
-use plan::is_tap;
+use plan::takes_register;
 use problem::Net;
 use problem::Problem;
 use rows::view;
@@ -31,7 +31,7 @@ pub fn may_register(plan: &[u8], p: Problem, cell: usize) -> bool
     if cell == p.sink {
         return false;
     }
-    is_tap(plan[cell])
+    takes_register(plan[cell])
 }
 
 // The state after this gate at the cell has come into the table.

@@ -1,7 +1,7 @@
 -- A plan: document 01, "The plan". Cell number = row × width + column, from 0; each cell has one byte, a sum of marks.
 use Prim.Native.Nat.{ℕ, _*_, _/_, _%_, _≤_, _<_}
 use mathlib.Core.Path.{_≡_}
-use mathlib.Core.Bool.{Bool}
+use mathlib.Core.Bool.{Bool, _&&_, not}
 use mathlib.Core.List.{List}
 use lib.Dec.{eqb}
 use lib.ListN.{length, getD}
@@ -30,13 +30,17 @@ column p c = c % p .width
 unfoldable pub marksAt : Plan → ℕ → ℕ
 marksAt p c = getD (p .marks) c 0
 
--- mark 1: no buffer here
+-- mark 1: keep-out, no gate here
 unfoldable pub blocked : ℕ → Bool
 blocked m = eqb (m % 2) 1
 
--- mark 2: a register may stand here
+-- mark 2: a clock tap
 unfoldable pub tap : ℕ → Bool
 tap m = eqb (m / 2 % 2) 1
+
+-- a register may stand here: "on a cell with mark 2 and without mark 1" (document 02, C-17: "keep-out is read last")
+unfoldable pub takesRegister : ℕ → Bool
+takesRegister m = tap m && not (blocked m)
 
 -- mark 4: the wire to the right neighbour is cut
 unfoldable pub cutRight : ℕ → Bool

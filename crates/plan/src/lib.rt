@@ -1,7 +1,7 @@
 // The plan: width, height and one byte of marks a cell. Document 01, "The plan".
 ghost use mathlib.Core.Path.{_≡_};
 ghost use Prim.Native.Nat.{_*_, _<_};
-ghost use Rattle.plan.specs.Plan.{Sized, planOf, blocked, tap, cutRight, cutBelow};
+ghost use Rattle.plan.specs.Plan.{Sized, planOf, blocked, tap, takesRegister, cutRight, cutBelow};
 ghost use Rattle.plan.specs.Joined.{neighboursOf};
 ghost use Rattle.plan.specs.Sides.{ExactNeighbours};
 ghost use Rattle.plan.specs.Check.{gridFault, invalidMark, markFault, checkedPlan};
@@ -25,18 +25,28 @@ pub struct Neighbours {
     pub down: usize,
 }
 
-// Mark 1: no buffer here.
+// Mark 1: keep-out, no gate here.
 pub fn is_blocked(marks: u8) -> bool
     ensures { λ r. ⌜ r ≡ blocked marks ⌝ }
 {
     marks % 2 == 1
 }
 
-// Mark 2: a register may stand here.
+// Mark 2: a clock tap.
 pub fn is_tap(marks: u8) -> bool
     ensures { λ r. ⌜ r ≡ tap marks ⌝ }
 {
     marks / 2 % 2 == 1
+}
+
+// Mark 2 and not mark 1: a register or a FIFO may stand here.
+pub fn takes_register(marks: u8) -> bool
+    ensures { λ r. ⌜ r ≡ takesRegister marks ⌝ }
+{
+    if is_blocked(marks) {
+        return false;
+    }
+    is_tap(marks)
 }
 
 // Mark 4: the wire to the right neighbour is cut.

@@ -34,6 +34,9 @@ fn marks() {
     check::expect(!plan::is_blocked(14));
     check::expect(plan::is_tap(2));
     check::expect(!plan::is_tap(13));
+    check::expect(plan::takes_register(14));
+    check::expect(!plan::takes_register(12));
+    check::expect(!plan::takes_register(3));
     check::expect(plan::cuts_right(4));
     check::expect(!plan::cuts_right(11));
     check::expect(plan::cuts_below(8));

@@ -2,7 +2,7 @@
 use Prim.Native.Nat.{ℕ}
 use mathlib.Core.Path.{_≡_, refl}
 use mathlib.Core.List.{List, [], _∷_}
-use Rattle.plan.specs.Plan.{cells, row, column, marksAt, blocked, tap, cutRight, cutBelow}
+use Rattle.plan.specs.Plan.{cells, row, column, marksAt, blocked, tap, takesRegister, cutRight, cutBelow}
 use Rattle.plan.specs.Check.{gridFault, lengthFault, invalidMark, invalidBelow, markFault, checkedPlan}
 use Rattle.plan.specs.Joined.{joinsRight, joinsBelow, bothIn, horizontal, vertical, joined}
 use Rattle.timing.specs.Formulas.{wireDelay, gateDelay, skewed, wireLoad, bufferDriver, bufferLoad, registerDriver, registerLoad, setupDelay}
@@ -41,5 +41,5 @@ abbrev lines : List ℕ
 lines = 114 ∷ 111 ∷ 117 ∷ 116 ∷ 101 ∷ 32 ∷ 49 ∷ 32 ∷ 50 ∷ 32 ∷ 53 ∷ 48 ∷ 32 ∷ 50 ∷ 54 ∷ 10 ∷ 50 ∷ 32 ∷ 55 ∷ 10 ∷ 49 ∷ 32 ∷ 55 ∷ 10 ∷ 48 ∷ 32 ∷ 55 ∷ 10 ∷ []
 
 pub printed-example : printed job ≡ lines
-unfolding gridFault lengthFault invalidMark invalidBelow markFault checkedPlan wireInRange registerInRange bufferInRange written periodInRange wireOk registerOk bufferOk bufferFault buffersFault listFault tablesFault wireFrom registerFrom bufferFrom listedBuffer sixPlaces elementsOf endsFault rulesAsked cellsAsked afterPlan afterTables questionChecks checks figuresOf answerFor visitsFor answerAfter answerUnder answerOf visitsAfter visitsUnder visitsOf closed thirdGroup secondGroup number prepend oneMore run tablesOf bufferListOf bufferRecordAt withNumber withRun askedOf questionFrom ended buffersFrom countFrom tablesFrom marksFrom sized readJob digit spelled decimal refusedLine refusalText figuresLine visitLine visitLines answerText blank readingText printed cells row column marksAt blocked tap cutRight cutBelow joinsRight joinsBelow bothIn horizontal vertical joined wireOf bufferOf registerOf driverOf wireDelay gateDelay skewed wireLoad bufferDriver bufferLoad registerDriver registerLoad setupDelay isClosing sideAfter rulesOf siteOf wireBetween mayStand isEnd budgetSum loadAt delayAt bufferCost loadOf closeCost only maxBelow viaBuffer viaClose arrival given seedAt exactSeed goesOn afterLoad afterDelay afterWeight firstFrom nextCode nextCell emit listFrom sumBelow tableOf rowsOf layerRows isKnown labelWeight labelSteps labelsListed byCode places relabelAt relabel earlier waiting nextLabel atSink relabelled layerTurn quietTurn turn searchFrom mostSum mostTurns startLabels searchSide labelling exitsOf reachRows exitsAt labelsAt routeOf outcome best codeSevens registers steps latency arrive buffered leave closing spanAfter nextPlace startPlace slackAt slacksFrom slacks leastFrom leastSlack slackOf smaller signed
+unfolding gridFault lengthFault invalidMark invalidBelow markFault checkedPlan wireInRange registerInRange bufferInRange written periodInRange wireOk registerOk bufferOk bufferFault buffersFault listFault tablesFault wireFrom registerFrom bufferFrom listedBuffer sixPlaces elementsOf endsFault rulesAsked cellsAsked afterPlan afterTables questionChecks checks figuresOf answerFor visitsFor answerAfter answerUnder answerOf visitsAfter visitsUnder visitsOf closed thirdGroup secondGroup number prepend oneMore run tablesOf bufferListOf bufferRecordAt withNumber withRun askedOf questionFrom ended buffersFrom countFrom tablesFrom marksFrom sized readJob digit spelled decimal refusedLine refusalText figuresLine visitLine visitLines answerText blank readingText printed cells row column marksAt blocked tap takesRegister cutRight cutBelow joinsRight joinsBelow bothIn horizontal vertical joined wireOf bufferOf registerOf driverOf wireDelay gateDelay skewed wireLoad bufferDriver bufferLoad registerDriver registerLoad setupDelay isClosing sideAfter rulesOf siteOf wireBetween mayStand isEnd budgetSum loadAt delayAt bufferCost loadOf closeCost only maxBelow viaBuffer viaClose arrival given seedAt exactSeed goesOn afterLoad afterDelay afterWeight firstFrom nextCode nextCell emit listFrom sumBelow tableOf rowsOf layerRows isKnown labelWeight labelSteps labelsListed byCode places relabelAt relabel earlier waiting nextLabel atSink relabelled layerTurn quietTurn turn searchFrom mostSum mostTurns startLabels searchSide labelling exitsOf reachRows exitsAt labelsAt routeOf outcome best codeSevens registers steps latency arrive buffered leave closing spanAfter nextPlace startPlace slackAt slacksFrom slacks leastFrom leastSlack slackOf smaller signed
 printed-example = refl

@@ -8,7 +8,7 @@ use Rattle.timing.specs.Elements.{wireOf, registerOf}
 use Rattle.answers.specs.declared.answer.Refusal.{Refusal}
 use Rattle.answers.specs.declared.explained.Reason.{Reason}
 use Rattle.answers.specs.declared.explained.Explained.{Explained}
-use Rattle.cases.specs.Cases.{Case, noRoute, tables, strip, tapped, case1, case4, case7, case11, skewed3}
+use Rattle.cases.specs.Cases.{Case, noRoute, tables, strip, tapped, case1, case4, case7, case11, case12, skewed3}
 use Rattle.reasons.specs.Reasons.{explainedFor}
 
 abbrev pub Gives : Case → Explained → Type 0
@@ -52,6 +52,8 @@ pub record WorkedReasons : Type 0 where
   pub first : Gives case1 (Explained.Refused Refusal.RouteExists)
   -- no register may stand at R11's cell 1, so it needs R1's period
   pub eleventh : Gives case11 (Explained.Because (Reason.Period 26))
+  -- nor at R12's (document 02, C-17)
+  pub twelfth : Gives case12 (Explained.Because (Reason.Period 26))
   -- R3 with skew 1 (document 02, C-16)
   pub third : Gives skewed3 (Explained.Because (Reason.Period 13))
   pub cut : Gives cutCase (Explained.Because Reason.WalledOff)

@@ -1,1 +1,2 @@
 pub mod Skew
+pub mod KeepOut

@@ -1,11 +1,10 @@
--- "A skew of 0 gives the answers of before": with it the rules are those of before, so all that follows from them is.
+-- "A skew of 0 gives the answers of before": with it the rules are those without a skew, so all that follows from them is.
 use Prim.Native.Nat.{ℕ}
 use mathlib.Core.Bool.{Bool, true, false}
 use mathlib.Core.Path.{_≡_, refl, ap, ap₂, fun-ext}
 use native.Mathlib.Omega.{arith}
 use borrow.Author.Tests.{le-leb}
 use lib.Dec.{leb}
-use Rattle.plan.specs.Plan.{planOf}
 use Rattle.timing.specs.declared.elements.Elements.{Elements}
 use Rattle.timing.specs.Ranges.{periodMin, periodMax, skewMax}
 use Rattle.timing.specs.Relaxed.{atPeriod, relaxed}
@@ -27,6 +26,7 @@ use Rattle.reasons.specs.Reasons.{routed, periodReason, smallestWith, reasonWit
 use Rattle.crossing_router.specs.Route.{rulesCrossed, crossingAnswerUnder, crossingAnswerOf, crossingVisitsUnder, crossingVisitsOf}
 use Rattle.text.specs.Answers.{answerText}
 use Rattle.printing.specs.Printed.{scratchWords, visitWords, blank, readingText}
+use Rattle.rule_changes.specs.Asked.{planAsked}
 use Rattle.rule_changes.specs.Skew.{unskewedWith, unskewedAsked, faultBefore, AnswersBefore, unskewedCrossed, crossingFaultBefore, CrossingsBefore}
 
 in-range : (s : ℕ) → s ≡ 0 → leb s skewMax ≡ true
@@ -36,7 +36,7 @@ module _ (q : Question) where
   -- with any tables that have no skew
   tables-unskewed : (d : Elements) → d .skew ≡ 0 → rulesWith q d ≡ unskewedWith q d
   unfolding unskewedWith
-  tables-unskewed d none = rules-unskewed (planOf (q .width) (q .height) (q .marks)) d (q .source) (q .sink) none
+  tables-unskewed d none = rules-unskewed (planAsked q) d (q .source) (q .sink) none
 
   module _ (none : q .tables .skew ≡ 0) where
     own : rulesAsked q ≡ unskewedAsked q
@@ -102,7 +102,7 @@ module _ (c : CrossingQuestion) (none : c .question .tables .skew ≡ 0) where
   crossed : rulesCrossed c ≡ unskewedCrossed c
   unfolding rulesCrossed unskewedCrossed elementsOf
   crossed =
-      between-unskewed (planOf (c .question .width) (c .question .height) (c .question .marks)) (elementsOf (c .question .tables) (c .question .buffers)) (clocksOf (c .crossing)) (c .question .source) (c .question .sink) none
+      between-unskewed (planAsked (c .question)) (elementsOf (c .question .tables) (c .question .buffers)) (clocksOf (c .crossing)) (c .question .source) (c .question .sink) none
 
   crossing-fault : crossingFault (c .question .tables) (c .crossing) (c .question .buffers) ≡ crossingFaultBefore c
   unfolding crossingFault crossingFaultBefore

@@ -1,1 +1,3 @@
+pub mod Asked
 pub mod Skew
+pub mod KeepOut

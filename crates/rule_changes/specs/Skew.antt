@@ -1,9 +1,8 @@
--- C-16 of document 02: "A skew of 0 gives the answers of before." The answers of before are those of the same definitions under the rules of before, which read no skew (rules/specs/Unskewed.antt), and refusal 4 without its test of the skew. `better` hands back by `comparisonOf`; the scratch words go by the checks alone; the session's calls read no tables.
+-- C-16 of document 02: "A skew of 0 gives the answers of before." The answers of before are those of the same definitions under rules that read no skew (rules/specs/Unskewed.antt), all else in them as now, and refusal 4 without its test of the skew. `better` hands back by `comparisonOf`; the scratch words go by the checks alone; the session's calls read no tables.
 use Prim.Native.Nat.{ℕ}
 use mathlib.Core.Bool.{true}
 use mathlib.Core.List.{List}
 use mathlib.Core.Path.{_≡_}
-use Rattle.plan.specs.Plan.{planOf}
 use Rattle.timing.specs.declared.elements.Elements.{Elements}
 use Rattle.rules.specs.Rules.{Rules}
 use Rattle.rules.specs.Unskewed.{unskewedRules, unskewedBetween}
@@ -21,12 +20,13 @@ use Rattle.crossing_router.specs.Route.{crossingAnswerUnder, crossingAnswerOf, 
 use Rattle.job.specs.Job.{asks}
 use Rattle.text.specs.Answers.{answerText}
 use Rattle.printing.specs.Printed.{scratchWords, visitWords, blank, readingText}
+use Rattle.rule_changes.specs.Asked.{planAsked}
 
 -- One clock
 
--- the question's rules of before, with any tables; and with its own
+-- the question's rules without a skew, with any tables; and with its own
 unfoldable pub unskewedWith : Question → Elements → Rules
-unskewedWith q d = unskewedRules (planOf (q .width) (q .height) (q .marks)) d (q .source) (q .sink)
+unskewedWith q d = unskewedRules (planAsked q) d (q .source) (q .sink)
 
 unfoldable pub unskewedAsked : Question → Rules
 unskewedAsked q = unskewedWith q (elementsOf (q .tables) (q .buffers))
@@ -50,7 +50,7 @@ pub record AnswersBefore (q : Question) : Type 0 where
 
 unfoldable pub unskewedCrossed : CrossingQuestion → Rules
 unskewedCrossed c =
-    unskewedBetween (planOf (c .question .width) (c .question .height) (c .question .marks)) (elementsOf (c .question .tables) (c .question .buffers)) (clocksOf (c .crossing)) (c .question .source) (c .question .sink)
+    unskewedBetween (planAsked (c .question)) (elementsOf (c .question .tables) (c .question .buffers)) (clocksOf (c .crossing)) (c .question .source) (c .question .sink)
 
 -- refusal 4: the source's period, the sink's, then L
 unfoldable pub crossingFaultBefore : CrossingQuestion → ElementFault

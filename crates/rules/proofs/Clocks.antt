@@ -7,7 +7,7 @@ use native.Mathlib.Omega.{arith}
 use borrow.Author.Tests.{le-leb, lt-leb, eq-eqb, ne-eqb}
 use lib.Dec.{T, leb, eqb}
 use lib.ListN.{getD}
-use Rattle.plan.specs.Plan.{Plan, cells, marksAt, tap}
+use Rattle.plan.specs.Plan.{Plan, cells, marksAt, takesRegister}
 use Rattle.plan.specs.Joined.{joined}
 use Rattle.timing.specs.declared.elements.Elements.{Elements}
 use Rattle.timing.specs.declared.clocks.Clocks.{Clocks}
@@ -109,6 +109,6 @@ module _ (p : Plan) (e : Elements) (x : Clocks) (from to : ℕ) where
   unfolding mayStand isEnd rulesBetween rulesOf isFifo
   fifo-nowhere few h cell t = go (isEnd R cell) t
     where
-      go : (b : Bool) → T (cond b (eqb fifoCode noGate) ((leb 1 (x .fifos) && eqb fifoCode fifoCode && tap (marksAt p cell)) || siteOf p e cell fifoCode)) → ⊥
+      go : (b : Bool) → T (cond b (eqb fifoCode noGate) ((leb 1 (x .fifos) && eqb fifoCode fifoCode && takesRegister (marksAt p cell)) || siteOf p e cell fifoCode)) → ⊥
       go true t = t
       go false t = simp (lt-leb 1 (x .fifos) (omega arith), site-refused p e cell fifoCode (omega arith) (λ z. omega arith)) at t

@@ -7,7 +7,7 @@ use native.Mathlib.Omega.{arith}
 use borrow.Author.Tests.{le-leb, lt-leb, ne-eqb}
 use lib.Dec.{T}
 use lib.ListN.{getD}
-use Rattle.plan.specs.Plan.{Plan, cells, marksAt, blocked, tap}
+use Rattle.plan.specs.Plan.{Plan, cells, marksAt, blocked, tap, takesRegister}
 use Rattle.plan.specs.Joined.{joined}
 use Rattle.timing.specs.declared.elements.Elements.{Elements}
 use Rattle.timing.specs.Ranges.{buffersMax}
@@ -15,7 +15,7 @@ use Rattle.timing.specs.Formulas.{skewed, registerDriver, registerLoad, setupDe
 use Rattle.timing.specs.Elements.{bufferOf}
 use Rattle.rules.specs.Rules.{Rules, noGate, registerCode, fifoCode, isClosing, siteOf, wireBetween, rulesOf}
 use Rattle.rules.specs.Legal.{isEnd, mayStand}
-use Rattle.plan.proofs.Truth.{decided, split}
+use Rattle.plan.proofs.Truth.{both, fst, snd, decided, split}
 use Rattle.rules.proofs.View.{closing-codes, may-stand, may-pass-end, stands-between, stands-site, not-end, not-sink, not-source}
 
 -- The fields
@@ -97,7 +97,7 @@ module _ (p : Plan) (e : Elements) (cell : ℕ) where
   site-buffer code h k f =
       simp (ne-eqb code noGate (λ z. omega arith), le-leb 1 code h, le-leb code (e .count) k, ne-eqb code registerCode f, or-false)
 
-  pub site-register : e .count ≤ buffersMax → siteOf p e cell registerCode ≡ tap (marksAt p cell)
+  pub site-register : e .count ≤ buffersMax → siteOf p e cell registerCode ≡ takesRegister (marksAt p cell)
   unfolding siteOf
   site-register h = simp (lt-leb registerCode (e .count) (omega arith))
 
@@ -117,6 +117,7 @@ pub record BufferSite (p : Plan) (e : Elements) (from to cell code : ℕ) : Type
 
 pub record RegisterSite (p : Plan) (from to cell : ℕ) : Type 0 where
   pub tapped : T (tap (marksAt p cell))
+  pub unblocked : T (not (blocked (marksAt p cell)))
   pub notSink : cell ≡ to → ⊥
   pub notSource : cell ≡ from → ⊥
 
@@ -159,20 +160,22 @@ module _ (p : Plan) (e : Elements) (from to cell : ℕ) where
       may-stand R cell code (not-end R cell (h .notSink) (h .notSource)) (rw (site-buffer p e cell code (h .some) (h .listed) (λ z. omega arith)) (h .unblocked))
 
   pub register-site : e .count ≤ buffersMax → T (mayStand (rulesOf p e from to) cell registerCode) → RegisterSite p from to cell
-  unfolding rulesOf
+  unfolding rulesOf takesRegister
   register-site k h =
       let f : registerCode ≡ noGate → ⊥ = λ z. omega arith in
       let between = stands-between R cell registerCode h f in
+      let takes : T (takesRegister (marksAt p cell)) = rw (site-register p e cell k) at (stands-site R cell registerCode h f) in
       record {
-        tapped = rw (site-register p e cell k) at (stands-site R cell registerCode h f);
+        tapped = fst (tap (marksAt p cell)) _ takes;
+        unblocked = snd (tap (marksAt p cell)) _ takes;
         notSink = not-sink R cell between;
         notSource = not-source R cell between;
       }
 
   pub register-stands : e .count ≤ buffersMax → RegisterSite p from to cell → T (mayStand (rulesOf p e from to) cell registerCode)
-  unfolding rulesOf
+  unfolding rulesOf takesRegister
   register-stands k h =
-      may-stand R cell registerCode (not-end R cell (h .notSink) (h .notSource)) (rw (site-register p e cell k) (h .tapped))
+      may-stand R cell registerCode (not-end R cell (h .notSink) (h .notSource)) (rw (site-register p e cell k) (both (tap (marksAt p cell)) _ (h .tapped) (h .unblocked)))
 
   -- the only gate that closes a span is the register
   pub closing-register : (code : ℕ) → e .count ≤ buffersMax → T (isClosing code) → T (mayStand (rulesOf p e from to) cell code) → code ≡ registerCode

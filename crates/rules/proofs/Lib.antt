@@ -13,3 +13,4 @@ pub mod Looser
 pub mod LeftOut
 pub mod Slack
 pub mod Skew
+pub mod KeepOut

@@ -1,4 +1,4 @@
--- The skew (document 02, C-16), in its own words: "a closing delay plus twice the skew must be at most 2T", with one clock and with two. Where the skew is 0, the rules are those of before.
+-- The skew (document 02, C-16), in its own words: "a closing delay plus twice the skew must be at most 2T", with one clock and with two. Where the skew is 0, the rules are those without one.
 use Prim.Native.Nat.{ℕ, _+_, _*_, _-_}
 use mathlib.Core.Path.{_≡_, refl, sym, ap, _∙_, fun-ext}
 use mathlib.Core.Bool.{Bool, true, false}
@@ -43,7 +43,7 @@ module _ (p : Plan) (e : Elements) (from to : ℕ) where
       let allowed : 2 * e .period + 1 - 1 ≡ 2 * e .period = omega arith in
       rw (allowed, paid (e .skew) (registerDriver (e .register)) (arrive (rulesOf p e from to) (a .cell) (a .stage) (v .cell)))
 
-  -- The rules of before read no skew, and a span closes by document 01's delay.
+  -- The rules without a skew read none, and a span closes by document 01's delay.
 
   pub unskewed-reads-none : (s : ℕ) → unskewedRules p (withSkew s e) from to ≡ unskewedRules p e from to
   unfolding unskewedRules rulesOf siteOf wireBetween withSkew
@@ -53,7 +53,7 @@ module _ (p : Plan) (e : Elements) (from to : ℕ) where
   unfolding unskewedRules closing
   unskewed-closing s cell code = refl
 
-  -- "A skew of 0 gives the answers of before": these are the rules of before.
+  -- "A skew of 0 gives the answers of before": these are the rules without one.
   pub rules-unskewed : e .skew ≡ 0 → rulesOf p e from to ≡ unskewedRules p e from to
   unfolding unskewedRules rulesOf
   rules-unskewed none =

@@ -3,7 +3,7 @@ use Prim.Native.Nat.{ℕ, _+_, _*_, _-_}
 use mathlib.Core.Bool.{Bool, _&&_, _||_, cond}
 use mathlib.Core.List.{[], _∷_}
 use lib.Dec.{eqb, leb}
-use Rattle.plan.specs.Plan.{Plan, marksAt, tap}
+use Rattle.plan.specs.Plan.{Plan, marksAt, takesRegister}
 use Rattle.timing.specs.declared.elements.Register.{Register}
 use Rattle.timing.specs.declared.elements.Elements.{Elements}
 use Rattle.timing.specs.declared.clocks.Clocks.{Clocks}
@@ -35,8 +35,8 @@ rulesBetween p e x from to =
       limit = R .limit;
       linked = R .linked;
       wire = R .wire;
-      -- "It stands .. as a register does": on a cell with mark 2
-      site = λ cell code. (isFifo x code && tap (marksAt p cell)) || R .site cell code;
+      -- "It stands .. as a register does"
+      site = λ cell code. (isFifo x code && takesRegister (marksAt p cell)) || R .site cell code;
       buffer = R .buffer;
       start = R .start;
       fresh = λ code. record { load = registerLoad (gateFor e x code); delay = setupDelay (gateFor e x code) };

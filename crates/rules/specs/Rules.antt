@@ -1,10 +1,10 @@
--- What a rule of routing may depend on, as one record; document 01's rules, with document 02's skew, are the instance `rulesOf`.
+-- What a rule of routing may depend on, as one record; document 01's rules, with document 02's skew and keep-out, are the instance `rulesOf`.
 -- The theory is stated over the record, so that a later request that changes one field changes one line here.
 use Prim.Native.Nat.{ℕ, suc, _+_, _*_, _-_}
 use mathlib.Core.Bool.{Bool, _&&_, _||_, not, cond}
 use lib.Dec.{eqb, leb}
 use lib.ListN.{getD}
-use Rattle.plan.specs.Plan.{Plan, cells, marksAt, blocked, tap}
+use Rattle.plan.specs.Plan.{Plan, cells, marksAt, blocked, takesRegister}
 use Rattle.plan.specs.Joined.{horizontal, joined}
 use Rattle.timing.specs.declared.elements.Wire.{Wire}
 use Rattle.timing.specs.declared.elements.Driver.{Driver}
@@ -62,9 +62,9 @@ pub record Rules : Type 0 where
   -- what a span counts in the ranking, after f FIFOs
   pub weight : ℕ → ℕ
 
--- rules with other drivers at the closes, by cell and code, and other bounds
-abbrev pub closedWithin : Rules → (ℕ → ℕ → Driver) → (ℕ → ℕ → ℕ) → Rules
-closedWithin R closer bound =
+-- these rules with other sites, other drivers at the closes (each by cell and code) and other bounds
+abbrev pub amended : Rules → (ℕ → ℕ → Bool) → (ℕ → ℕ → Driver) → (ℕ → ℕ → ℕ) → Rules
+amended R site closer bound =
     record {
       cellCount = R .cellCount;
       source = R .source;
@@ -72,7 +72,7 @@ closedWithin R closer bound =
       limit = R .limit;
       linked = R .linked;
       wire = R .wire;
-      site = R .site;
+      site = site;
       buffer = R .buffer;
       start = R .start;
       fresh = R .fresh;
@@ -82,10 +82,19 @@ closedWithin R closer bound =
       weight = R .weight;
     }
 
--- Document 01: a buffer stands on a cell without mark 1, a register on a cell with mark 2, whatever other marks it has.
+abbrev pub sitedBy : Rules → (ℕ → ℕ → Bool) → Rules
+sitedBy R site = amended R site (R .closer) (R .bound)
+
+abbrev pub closedWithin : Rules → (ℕ → ℕ → Driver) → (ℕ → ℕ → ℕ) → Rules
+closedWithin R closer bound = amended R (R .site) closer bound
+
+-- A visit without a gate may be anywhere, a listed buffer on a cell without mark 1, a register by a test of the cell's marks.
+abbrev pub sitesBy : (ℕ → Bool) → Plan → Elements → ℕ → ℕ → Bool
+sitesBy registers p e cell code =
+    eqb code noGate || (leb 1 code && leb code (e .count) && not (blocked (marksAt p cell))) || (eqb code registerCode && registers (marksAt p cell))
+
 unfoldable pub siteOf : Plan → Elements → ℕ → ℕ → Bool
-siteOf p e cell code =
-    eqb code noGate || (leb 1 code && leb code (e .count) && not (blocked (marksAt p cell))) || (eqb code registerCode && tap (marksAt p cell))
+siteOf = sitesBy takesRegister
 
 unfoldable pub wireBetween : Plan → Elements → ℕ → ℕ → Wire
 wireBetween p e a b = cond (horizontal p a b) (e .horizontal) (e .vertical)

@@ -1,4 +1,4 @@
--- The rules of before C-16 (document 02), in which no clock has skew: those of now but for what drives a span that closes, which has its own delay alone. Nothing else in the rules reads the skew (`unskewed-reads-none` in proofs/Skew.antt).
+-- The rules without a skew, as before C-16 (document 02): those of now, their sites too, but for what drives a span that closes, which has its own delay alone. Nothing else in the rules reads the skew (`unskewed-reads-none` in proofs/Skew.antt).
 use Prim.Native.Nat.{ℕ, _+_}
 use Rattle.plan.specs.Plan.{Plan}
 use Rattle.timing.specs.declared.elements.Driver.{Driver}

@@ -8,7 +8,7 @@ use native.Mathlib.Omega.{arith}
 use borrow.Author.Tests.{eq-eqb, ne-eqb, lt-ltb, le-ltb, eqb-true, eqb-false}
 use lib.Dec.{eqb, ltb, ltb→lt}
 use lib.ListN.{length}
-use Rattle.plan.specs.Plan.{cells, marksAt, blocked, tap}
+use Rattle.plan.specs.Plan.{cells, marksAt, blocked, takesRegister}
 use Rattle.plan.proofs.Truth.{is-true, of-true, fst, split}
 use Rattle.rules.specs.Rules.{Rules, rulesOf, noGate, registerCode}
 use Rattle.rules.specs.Legal.{isEnd, mayStand, cellRight, codeRight}
@@ -59,7 +59,7 @@ module _ (p : Problem) (marks : List ℕ) (ready : Ready p marks) (cell : ℕ) w
       stands-on-source e = rw (ne-eqb cell (p .sink) sink, eq-eqb cell (p .source) e, ne-eqb code noGate some)
 
       module _ (source : cell ≡ p .source → ⊥) where
-        pub stands-register : code ≡ registerCode → mayStand R cell code ≡ tap (marksAt (planFor p marks) cell)
+        pub stands-register : code ≡ registerCode → mayStand R cell code ≡ takesRegister (marksAt (planFor p marks) cell)
         unfolding mayStand isEnd rulesFor rulesOf
         stands-register e =
             rw (ne-eqb cell (p .sink) sink, ne-eqb cell (p .source) source, e) (site-register (planFor p marks) (p .elements) cell (ready .valid .count))

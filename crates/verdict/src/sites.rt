@@ -5,7 +5,7 @@ ghost use lib.ListN.{length};
 ghost use Rattle.rules.specs.Legal.{mayStand, codeRight};
 ghost use Rattle.problem.specs.Problem.{rulesFor, Ready};
 use plan::is_blocked;
-use plan::is_tap;
+use plan::takes_register;
 use problem::Problem;
 
 // Whether the gate with this code may stand on the cell, between the ends.
@@ -23,7 +23,7 @@ fn may_stand(plan: &[u8], p: Problem, cell: usize, code: u16) -> bool
         return false;
     }
     if code == 7 {
-        return is_tap(plan[cell]);
+        return takes_register(plan[cell]);
     }
     if p.elements.count < code as usize {
         return false;

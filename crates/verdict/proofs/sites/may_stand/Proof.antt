@@ -31,18 +31,18 @@ returns-3 c =
     let s = e .before .before in
     sym (stands-on-source (s .args .p) (s .args .plan .now) (s .pre .0) (s .args .cell) (s .args .code) (e .if1 .left) (sink .if2 .left) (c .if3 .taken))
 
-shared-slice-read-is-tap : tie.Need-shared-slice-read-is-tap
-shared-slice-read-is-tap c = search needs
+shared-slice-read-takes-register : tie.Need-shared-slice-read-takes-register
+shared-slice-read-takes-register c = search needs
 
-is-tap-requires : tie.Need-is-tap-requires
-is-tap-requires c κs = search needs
+takes-register-requires : tie.Need-takes-register-requires
+takes-register-requires c κs = search needs
 
 returns-4 : tie.Need-returns-4
 unfolding marksAt planFor
 returns-4 c =
     let ends = c .before .before .before in
     let s = start ends in
-    c .is-tap .ensures ∙ sym (stands-register (s .args .p) (s .args .plan .now) (s .pre .0) (s .args .cell) (s .args .code) (ends .before .before .before .before .if1 .left) (ends .before .before .if2 .left) (ends .if3 .left) (c .before .before .if4 .taken))
+    c .takes-register .ensures ∙ sym (stands-register (s .args .p) (s .args .plan .now) (s .pre .0) (s .args .cell) (s .args .code) (ends .before .before .before .before .if1 .left) (ends .before .before .if2 .left) (ends .if3 .left) (c .before .before .if4 .taken))
 
 returns-5 : tie.Need-returns-5
 returns-5 c =
@@ -73,8 +73,8 @@ may-stand-spec =
     returns
     returns-2
     returns-3
-    shared-slice-read-is-tap
-    is-tap-requires
+    shared-slice-read-takes-register
+    takes-register-requires
     returns-4
     returns-5
     shared-slice-read-is-blocked
