@@ -96,39 +96,3 @@ given-none R B n row c l =
       arith,
       only-bound (R.linked c n) (B n (load_at R c n l) - wire_delay (R.wire c n) l) 0 (λ t. omega (arith, row (load_at R c n l))),
     )
-
--- the maximum of three, two of which were raised to no more than a floor
-
-most-of : (p b r w : ℕ) → p ≤ w → b ≤ w → r ≤ w → max p (max b r) ≤ w
-most-of p b r w x y z = omega arith
-
-max-raised : (p b q a r floor : ℕ) → p ≤ max q floor → b ≤ max a floor → max p (max b r) ≤ max (max q (max a r)) floor
-max-raised p b q a r floor x y = most-of p b r (max (max q (max a r)) floor) (omega arith) (omega arith) (omega arith)
-
--- Where a table's row was raised, but to no more than a floor, the cell gives no more than before, or the floor.
-module _ (R : Rules) (seed : Seeds) (bound floor : ℕ) (A B : Table) (n : ℕ) (row : (l : ℕ) → B n l ≤ max (A n l) floor) where
-  via-raised : (l code : ℕ) → via_buffer R B n l code ≤ max (via_buffer R A n l code) floor
-  unfolding via_buffer
-  via-raised l code =
-      let test = may_stand R n code && leb (load_of R code) R.limit in
-      let x = A n (load_of R code) - buffer_cost R code l in
-      only-bound test (B n (load_of R code) - buffer_cost R code l) (max (only test x) floor) (λ t. omega (arith, only-true test x t, row (load_of R code)))
-
-  arrival-raised : (l : ℕ) → arrival R seed bound B n l ≤ max (arrival R seed bound A n l) floor
-  unfolding arrival
-  arrival-raised l =
-      let may = may_stand R n no_gate in
-      let rest = max (via_close R seed bound n l register_code) (via_close R seed bound n l fifo_code) in
-      let a = max_below 6 (λ i. via_buffer R A n l (suc i)) in
-      let b = max_below 6 (λ i. via_buffer R B n l (suc i)) in
-      let pass : only may (B n l) ≤ max (only may (A n l)) floor = only-bound may (B n l) (max (only may (A n l)) floor) (λ t. omega (arith, only-true may (A n l) t, row l)) in
-      let drive : b ≤ max a floor = max-most 6 (λ i. via_buffer R B n l (suc i)) (max a floor) (λ i h. omega (arith, via-raised l (suc i), max-at 6 (λ i. via_buffer R A n l (suc i)) i h)) in
-      let was = max (only may (A n l)) (max a rest) in
-      only-bound (leb l R.limit) (max (only may (B n l)) (max b rest)) (max (only (leb l R.limit) was) floor) (λ t. rw (only-true (leb l R.limit) was t) (max-raised (only may (B n l)) b (only may (A n l)) a rest floor pass drive))
-
-  pub given-raised : (c l : ℕ) → given R (arrival R seed bound B) n c l ≤ max (given R (arrival R seed bound A) n c l) floor
-  unfolding given
-  given-raised c l =
-      let less = wire_delay (R.wire c n) l in
-      let x = arrival R seed bound A n (load_at R c n l) - less in
-      only-bound (R.linked c n) (arrival R seed bound B n (load_at R c n l) - less) (max (only (R.linked c n) x) floor) (λ t. omega (arith, only-true (R.linked c n) x t, arrival-raised (load_at R c n l)))

@@ -139,18 +139,8 @@ module _ (R : Rules) (law : Lawful R) {f w s c l d n code : ℕ} (v : Viable R f
   pub viable-code : code ≤ fifo_code
   viable-code = way_of (code ≤ fifo_code) (λ x p q. omega (arith, x.is_register)) (λ rest o r p q. law.codes n code o.stands)
 
--- a visit that closes no span does not lessen the delay
-after-later : (R : Rules) (c n l d code : ℕ) → T (not (is_closing code)) → d ≤ after_delay R c n l d code
-unfolding delay_at
-after-later R c n l d code p = go (gate code)
-  where
-    go : Gate code → d ≤ after_delay R c n l d code
-    go (Gate.none q) = omega (arith, (after_none R c n l d code q).1)
-    go (Gate.shuts q) = absurd (T_not (is_closing code) p q)
-    go (Gate.buffer g q) = omega (arith, (after-buffer R c n l d code g q).1)
-
--- With the least figures to go, the visits that go on are the viable ones. Only the rows of the cells near by are read, from the state's delay on.
-module _ (R : Rules) (law : Lawful R) {f k₀ s₀ : ℕ} {m : ℕ → Labels} (labels : Labelled R f k₀ s₀ m) (k u : ℕ) (A : Table) (c l d : ℕ) (near : (i : ℕ) → T (R.linked c i) → RepresentsRow d A (Reaches R m f k u) i) (least : Least R f (R.weight f + k) (suc u) c l d) (n code : ℕ) where
+-- With the least figures to go, the visits that go on are the viable ones. Only the rows of the cells near by are read.
+module _ (R : Rules) (law : Lawful R) {f k₀ s₀ : ℕ} {m : ℕ → Labels} (labels : Labelled R f k₀ s₀ m) (k u : ℕ) (A : Table) (c l d : ℕ) (near : (i : ℕ) → T (R.linked c i) → RepresentsRow A (Reaches R m f k u) i) (least : Least R f (R.weight f + k) (suc u) c l d) (n code : ℕ) where
   pub goes-on-viable : T (goes_on R m f k u A c l d n code) → Viable R f (R.weight f + k) (suc u) c l d n code
   goes-on-viable t = go (goes-on-view R m f k u A c l d n code t)
     where
@@ -167,7 +157,7 @@ module _ (R : Rules) (law : Lawful R) {f k₀ s₀ : ℕ} {m : ℕ → Labels} (
       go : GoesOn R m f k u A c l d n code → Viable R f (R.weight f + k) (suc u) c l d n code
       go (through p o light h) =
           viable-cons R law f (R.weight f + k) u c l d n code (R.weight f + k) least o (omega (arith, weight-open R f code p))
-          (rw (side-kept f code p) (reaches-done R law labels k u n _ _ ((near n o.arrives.link).sound _ _ (after-later R c n l d code p) h)))
+          (rw (side-kept f code p) (reaches-done R law labels k u n _ _ ((near n o.arrives.link).sound _ _ h)))
       go (closes q arrives seed time) =
           let x = exact-view m k u code n seed in
           close q arrives time (after_more k u (inr (x.same, x.early)) (label-enough R law f k₀ s₀ m labels code n q x.known))
@@ -186,7 +176,7 @@ module _ (R : Rules) (law : Lawful R) {f k₀ s₀ : ℕ} {m : ℕ → Labels} (
               let same : side_after f code ≡ f = side-kept f code p in
               let heavy : weigh R (side_after f code) rest ≡ R.weight f + k = omega (arith, weigh-cons R f (visit n code) rest, weight-open R f code p) in
               through p o (light (ending-view R n 0 _ _ rest r))
-              ((near n o.arrives.link).complete _ _ (after-later R c n l d code p)
+              ((near n o.arrives.link).complete _ _
               (done-reaches R law labels u k n _ _ rest h (rw same at r) (rw same at heavy) (omega arith)
               (rw same at (less-after R law f c l d n code (R.weight f + k) (R.weight f + k) o (omega (arith, weight-open R f code p)) (least-less least)))))
 
@@ -203,7 +193,7 @@ least-goes-on R law f w u c l d least = go least.enough.route least.enough.endin
         record { cell = v.cell; code = v.code; linked = viable-linked R law x; small = viable-code R law x; viable = x }
 
 -- the first visit that goes on is the first viable one
-pub first-goes-on : (R : Rules) (law : Lawful R) {f k₀ s₀ : ℕ} {m : ℕ → Labels} → Labelled R f k₀ s₀ m → (k u : ℕ) → k ≤ k₀ → (A : Table) (c l d : ℕ) → ((i : ℕ) → T (R.linked c i) → RepresentsRow d A (Reaches R m f k u) i) → Least R f (R.weight f + k) (suc u) c l d → (n code : ℕ) → T (goes_on R m f k u A c l d n code) → ((p a : ℕ) → T (R.linked c p) → a ≤ fifo_code → Before p a n code → T (goes_on R m f k u A c l d p a) → ⊥) → FirstViable R f (R.weight f + k) (suc u) c l d n code
+pub first-goes-on : (R : Rules) (law : Lawful R) {f k₀ s₀ : ℕ} {m : ℕ → Labels} → Labelled R f k₀ s₀ m → (k u : ℕ) → k ≤ k₀ → (A : Table) (c l d : ℕ) → ((i : ℕ) → T (R.linked c i) → RepresentsRow A (Reaches R m f k u) i) → Least R f (R.weight f + k) (suc u) c l d → (n code : ℕ) → T (goes_on R m f k u A c l d n code) → ((p a : ℕ) → T (R.linked c p) → a ≤ fifo_code → Before p a n code → T (goes_on R m f k u A c l d p a) → ⊥) → FirstViable R f (R.weight f + k) (suc u) c l d n code
 first-goes-on R law labels k u h A c l d near least n code t first =
     record {
       viable = goes-on-viable R law labels k u A c l d near least n code t;

@@ -162,36 +162,27 @@ layer-represents R seed bound A X inp rep =
 
 -- a table, row by row
 
-pub row_of : {A : Table} {X : States} → Represents A X → (floor c : ℕ) → RepresentsRow floor A X c
-row_of rep floor c = record { sound = λ l d from. rep.sound c l d; complete = λ l d from. rep.complete c l d }
+pub row_of : {A : Table} {X : States} → Represents A X → (c : ℕ) → RepresentsRow A X c
+row_of rep c = record { sound = rep.sound c; complete = rep.complete c }
 
-pub same_row : {floor : ℕ} {A B : Table} {X : States} {c : ℕ} → ((l : ℕ) → B c l ≡ A c l) → RepresentsRow floor A X c → RepresentsRow floor B X c
+pub same_row : {A B : Table} {X : States} {c : ℕ} → ((l : ℕ) → B c l ≡ A c l) → RepresentsRow A X c → RepresentsRow B X c
 same_row e row =
-    record { sound = λ l d from h. row.sound l d from (omega (arith, e l)); complete = λ l d from x. omega (arith, e l, row.complete l d from x) }
+    record { sound = λ l d h. row.sound l d (omega (arith, e l)); complete = λ l d x. omega (arith, e l, row.complete l d x) }
 
--- a row whose words were raised, but to no more than a higher floor, is right from that floor on
-pub raised-row : {floor higher : ℕ} {A B : Table} {X : States} {c : ℕ} → floor ≤ higher → ((l : ℕ) → (A c l ≤ B c l) × (B c l ≤ max (A c l) higher)) → RepresentsRow floor A X c → RepresentsRow higher B X c
-raised-row up between row =
+-- More seeds, and more states at c and at its neighbours: more steps at c.
+pub step-near : {R : Rules} {seed more : Seeds} {bound : ℕ} {X Y : States} (c : ℕ) → ((code n : ℕ) → T (seed code n) → T (more code n)) → ((l d : ℕ) → X c l d → Y c l d) → ((n : ℕ) → T (R.linked c n) → (l d : ℕ) → X n l d → Y n l d) → (l d : ℕ) → Step R seed bound X c l d → Step R more bound Y c l d
+step-near c f own near l d (stays x) = stays (own l d x)
+step-near c f own near l d (passes n link may fits x) = passes n link may fits (near n link _ _ x)
+step-near c f own near l d (drives n i six link may fits light x) = drives n i six link may fits light (near n link _ _ x)
+step-near c f own near l d (closes n code shut link s fits h) = closes n code shut link (f code n s) fits h
+
+-- The layer's row at c is right if the rows of c and of its neighbours are.
+-- Proof: A represents the states below it, so the layer represents their step; at c that is the step of X. Qed.
+pub layer_row : (R : Rules) (seed : Seeds) (bound : ℕ) (A : Table) (X : States) → InPlan R → (c : ℕ) → RepresentsRow A X c → ((n : ℕ) → T (R.linked c n) → RepresentsRow A X n) → RepresentsRow (layer R seed bound A) (Step R seed bound X) c
+layer_row R seed bound A X inp c own near =
     record {
-      sound = λ l d from h. row.sound l d (omega arith) (omega (arith, (between l).1));
-      complete = λ l d from x. omega (arith, (between l).0, row.complete l d (omega arith) x);
-    }
-
--- More seeds, and more states at c and at its neighbours, of no less delay: more steps at c. A delay never falls over a visit.
-pub step-near : {R : Rules} {seed more : Seeds} {bound : ℕ} {X Y : States} (c : ℕ) → ((code n : ℕ) → T (seed code n) → T (more code n)) → (l d : ℕ) → ((k e : ℕ) → d ≤ e → X c k e → Y c k e) → ((n : ℕ) → T (R.linked c n) → (k e : ℕ) → d ≤ e → X n k e → Y n k e) → Step R seed bound X c l d → Step R more bound Y c l d
-unfolding delay_at
-step-near c f l d own near (stays x) = stays (own l d (omega arith) x)
-step-near c f l d own near (passes n link may fits x) = passes n link may fits (near n link _ _ (omega arith) x)
-step-near c f l d own near (drives n i six link may fits light x) = drives n i six link may fits light (near n link _ _ (omega arith) x)
-step-near c f l d own near (closes n code shut link s fits h) = closes n code shut link (f code n s) fits h
-
--- The layer's row at c is right, from the floor on, if the rows of c and of its neighbours are.
--- Proof: A represents the states below it, so the layer represents their step; at c, from the floor on, that is the step of X. Qed.
-pub layer_row : (R : Rules) (seed : Seeds) (bound floor : ℕ) (A : Table) (X : States) → InPlan R → (c : ℕ) → RepresentsRow floor A X c → ((n : ℕ) → T (R.linked c n) → RepresentsRow floor A X n) → RepresentsRow floor (layer R seed bound A) (Step R seed bound X) c
-layer_row R seed bound floor A X inp c own near =
-    record {
-      sound = λ l d from h. step-near c (λ code n s. s) l d (λ k e later. own.sound k e (omega arith)) (λ n link k e later. (near n link).sound k e (omega arith)) (below.sound c l d h);
-      complete = λ l d from x. below.complete c l d (step-near c (λ code n s. s) l d (λ k e later. own.complete k e (omega arith)) (λ n link k e later. (near n link).complete k e (omega arith)) x);
+      sound = λ l d h. step-near c (λ code n s. s) own.sound (λ n link. (near n link).sound) l d (below.sound c l d h);
+      complete = λ l d x. below.complete c l d (step-near c (λ code n s. s) own.complete (λ n link. (near n link).complete) l d x);
     }
   where
     below : Represents (layer R seed bound A) (Step R seed bound (λ c l d. d < A c l))

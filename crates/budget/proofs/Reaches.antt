@@ -46,7 +46,7 @@ exact-view m k u code n h =
 
 -- more seeds and more states: more steps
 pub step-more : {R : Rules} {seed more : Seeds} {bound : ℕ} {X Y : States} → ((code n : ℕ) → T (seed code n) → T (more code n)) → ((c l d : ℕ) → X c l d → Y c l d) → (c l d : ℕ) → Step R seed bound X c l d → Step R more bound Y c l d
-step-more f g c l d x = step-near c f l d (λ k e later. g c k e) (λ n link k e later. g n k e) x
+step-more f g c l d x = step-near c f (g c) (λ n link. g n) l d x
 
 module _ (R : Rules) (law : Lawful R) {f k₀ s₀ : ℕ} {m : ℕ → Labels} (labels : Labelled R f k₀ s₀ m) where
   exact-right : (k u code n : ℕ) → T (is_closing code) → T (exact_seed m k u code n) → After R f code k u n
@@ -159,27 +159,23 @@ module _ (R : Rules) (m : ℕ → Labels) (f k : ℕ) where
   pub reaches-start : {A : Table} → ((c l : ℕ) → A c l ≡ 0) → Represents A (Reaches R m f k 0)
   reaches-start zeros = record { sound = λ c l d h. absurd (omega (arith, zeros c l)); complete = λ c l d x. absurd x }
 
-  -- so a row that is not above the floor is right from it on
-  pub reaches-none : {floor : ℕ} {A : Table} {c : ℕ} → ((l : ℕ) → A c l ≤ floor) → RepresentsRow floor A (Reaches R m f k 0) c
-  reaches-none low = record { sound = λ l d from h. absurd (omega (arith, low l)); complete = λ l d from x. absurd x }
-
   pub reaches-layer : Lawful R → (u : ℕ) {A B : Table} → Represents A (Reaches R m f k u) → ((c l : ℕ) → B c l ≡ layer R (exact_seed m k u) (R.bound 0 f) A c l) → Represents B (Reaches R m f k (suc u))
   reaches-layer law u {A} rep next =
       same-table (Reaches R m f k (suc u)) next (layer-represents R (exact_seed m k u) (R.bound 0 f) A (Reaches R m f k u) law.in_plan rep)
 
-  -- The rows of a shrinking set of cells, from the floor on
-  module _ (law : Lawful R) {P : ℕ → ℕ → Bool} (shrinks : Shrinking R P) {floor : ℕ} where
-    row_in : (seed : Seeds) (u : ℕ) {A B : Table} → RepresentsIn floor (P u) A (Reaches R m f k u) → (c : ℕ) → T (P (suc u) c) → ((l : ℕ) → B c l ≡ layer R seed (R.bound 0 f) A c l) → RepresentsRow floor B (Step R seed (R.bound 0 f) (Reaches R m f k u)) c
+  -- The rows of a shrinking set of cells
+  module _ (law : Lawful R) {P : ℕ → ℕ → Bool} (shrinks : Shrinking R P) where
+    row_in : (seed : Seeds) (u : ℕ) {A B : Table} → RepresentsIn (P u) A (Reaches R m f k u) → (c : ℕ) → T (P (suc u) c) → ((l : ℕ) → B c l ≡ layer R seed (R.bound 0 f) A c l) → RepresentsRow B (Step R seed (R.bound 0 f) (Reaches R m f k u)) c
     row_in seed u {A} rep c t next =
-        same_row next (layer_row R seed (R.bound 0 f) floor A (Reaches R m f k u) law.in_plan c (rep c (shrinks.own u c t)) (λ x link. rep x (shrinks.near u c x t link)))
+        same_row next (layer_row R seed (R.bound 0 f) A (Reaches R m f k u) law.in_plan c (rep c (shrinks.own u c t)) (λ x link. rep x (shrinks.near u c x t link)))
 
     -- a layer is right in the next set, if it is one wherever all neighbours are in the set
-    pub layer-in : (u : ℕ) {A B : Table} → RepresentsIn floor (P u) A (Reaches R m f k u) → ((c : ℕ) → ((x : ℕ) → T (R.linked c x) → T (P u x)) → (l : ℕ) → B c l ≡ layer R (exact_seed m k u) (R.bound 0 f) A c l) → RepresentsIn floor (P (suc u)) B (Reaches R m f k (suc u))
+    pub layer-in : (u : ℕ) {A B : Table} → RepresentsIn (P u) A (Reaches R m f k u) → ((c : ℕ) → ((x : ℕ) → T (R.linked c x) → T (P u x)) → (l : ℕ) → B c l ≡ layer R (exact_seed m k u) (R.bound 0 f) A c l) → RepresentsIn (P (suc u)) B (Reaches R m f k (suc u))
     layer-in u rep next c t = row_in (exact_seed m k u) u rep c t (next c (λ x link. shrinks.near u c x t link))
 
     -- After a layer that changes nothing there the table stays right up to the next label.
-    module _ (u : ℕ) (A : Table) (rep : RepresentsIn floor (P u) A (Reaches R m f k u)) (quiet : (c : ℕ) → ((x : ℕ) → T (R.linked c x) → T (P u x)) → (l : ℕ) → A c l ≡ layer R (exact_seed m k u) (R.bound 0 f) A c l) (t : ℕ) (idle : (code n : ℕ) → T ((m code).known n) → (m code).weight n ≡ k → ((m code).steps n ≤ u) ⊎ (t ≤ (m code).steps n)) where
-      ahead : (i : ℕ) → u + i ≤ t → RepresentsIn floor (P (u + i)) A (Reaches R m f k (u + i))
+    module _ (u : ℕ) (A : Table) (rep : RepresentsIn (P u) A (Reaches R m f k u)) (quiet : (c : ℕ) → ((x : ℕ) → T (R.linked c x) → T (P u x)) → (l : ℕ) → A c l ≡ layer R (exact_seed m k u) (R.bound 0 f) A c l) (t : ℕ) (idle : (code n : ℕ) → T ((m code).known n) → (m code).weight n ≡ k → ((m code).steps n ≤ u) ⊎ (t ≤ (m code).steps n)) where
+      ahead : (i : ℕ) → u + i ≤ t → RepresentsIn (P (u + i)) A (Reaches R m f k (u + i))
       ahead zero h = rw native.Mathlib.Nat.add-zero rep
       ahead (suc i) h = rw native.Mathlib.Nat.add-suc (next (ahead i (omega arith)))
         where
@@ -187,15 +183,15 @@ module _ (R : Rules) (m : ℕ → Labels) (f k : ℕ) where
           early (inl w) g = w
           early (inr w) g = absurd (omega arith)
 
-          next : RepresentsIn floor (P (u + i)) A (Reaches R m f k (u + i)) → RepresentsIn floor (P (suc (u + i))) A (Reaches R m f k (suc (u + i)))
+          next : RepresentsIn (P (u + i)) A (Reaches R m f k (u + i)) → RepresentsIn (P (suc (u + i))) A (Reaches R m f k (suc (u + i)))
           next before c g =
               let r = row_in (exact_seed m k u) (u + i) {B = A} before c g (quiet c (λ x link. shrinks-by shrinks u i x (shrinks.near (u + i) c x g link))) in
               record {
-                sound = λ l d from y. step-more (λ code n. exact-later m k u (u + i) code n (λ a b g. omega arith)) (λ c l d x. x) c l d (r.sound l d from y);
-                complete = λ l d from y. r.complete l d from (step-more (λ code n. exact-later m k (u + i) u code n (λ a b g. early (idle code n a b) g)) (λ c l d x. x) c l d y);
+                sound = λ l d y. step-more (λ code n. exact-later m k u (u + i) code n (λ a b g. omega arith)) (λ c l d x. x) c l d (r.sound l d y);
+                complete = λ l d y. r.complete l d (step-more (λ code n. exact-later m k (u + i) u code n (λ a b g. early (idle code n a b) g)) (λ c l d x. x) c l d y);
               }
 
-      pub until-in : (v : ℕ) → u ≤ v → v ≤ t → RepresentsIn floor (P v) A (Reaches R m f k v)
+      pub until-in : (v : ℕ) → u ≤ v → v ≤ t → RepresentsIn (P v) A (Reaches R m f k v)
       until-in v lo hi =
           let e : u + (v - u) ≡ v = omega arith in
-          subst (λ (q : ℕ). RepresentsIn floor (P q) A (Reaches R m f k q)) e (ahead (v - u) (omega arith))
+          subst (λ (q : ℕ). RepresentsIn (P q) A (Reaches R m f k q)) e (ahead (v - u) (omega arith))

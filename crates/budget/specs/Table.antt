@@ -21,10 +21,10 @@ pub record Represents (A : Table) (X : States) : Type 0 where
   pub sound : (c l d : ℕ) → d < A c l → X c l d
   pub complete : (c l d : ℕ) → X c l d → d < A c l
 
--- the same of one cell's row, for delays from the floor on; what is below it the row does not tell
-pub record RepresentsRow (floor : ℕ) (A : Table) (X : States) (c : ℕ) : Type 0 where
-  pub sound : (l d : ℕ) → floor ≤ d → d < A c l → X c l d
-  pub complete : (l d : ℕ) → floor ≤ d → X c l d → d < A c l
+-- the same of one cell's row
+pub record RepresentsRow (A : Table) (X : States) (c : ℕ) : Type 0 where
+  pub sound : (l d : ℕ) → d < A c l → X c l d
+  pub complete : (l d : ℕ) → X c l d → d < A c l
 
 -- load and delay on arrival at n, from a state (c, l, d)
 unfoldable pub load_at : Rules → ℕ → ℕ → ℕ → ℕ

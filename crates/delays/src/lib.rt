@@ -8,7 +8,6 @@ ghost use Rattle.delays.specs.Delays.{never, Falling, Cut, Eased, Lines, NextClo
 use costs::ROW;
 use layout::{CLOSES, QUEUE};
 use queue::join;
-use rows::fill;
 
 // Later than any delay.
 pub const NEVER: u16 = 65_535;
@@ -21,7 +20,11 @@ pub fn fill_never(scratch: &mut [u16], at: usize, end: usize)
     requires { (at ≤ end) × (end ≤ length scratch.old) }
     ensures { Filled (λ k. never) at (end - at) scratch.old scratch.new }
 {
-    fill(scratch, at, end, NEVER);
+    let mut i = at;
+    while i < end {
+        scratch[i] = NEVER;
+        i += 1;
+    }
 }
 
 // Words from `at` up to `end` become the delay, as far as they are later.

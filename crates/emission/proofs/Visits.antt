@@ -154,7 +154,7 @@ module _ (R : Rules) (law : Lawful R) (n k s aside : ℕ) (words₀ visits₀ : 
         rest = λ i h. refl;
       }
 
-  module _ (words visits : List ℕ) (at : State) (layers : Layers) (place : ℕ) (left : Counts) (tally : Tally) (e : Emitting R n k s aside words₀ words visits₀ visits at layers place left tally) (more : 0 < at.steps) (new : List ℕ) (next : Layers) (loaded : Loaded R n at.side left.registers left.exits at.cell at.weight (at.steps - 1) at.delay.0 words new next) where
+  module _ (words visits : List ℕ) (at : State) (layers : Layers) (place : ℕ) (left : Counts) (tally : Tally) (e : Emitting R n k s aside words₀ words visits₀ visits at layers place left tally) (more : 0 < at.steps) (new : List ℕ) (next : Layers) (loaded : Loaded R n at.side left.registers left.exits at.cell at.weight (at.steps - 1) words new next) where
     abbrev f : ℕ
     f = at.side
 
@@ -301,7 +301,6 @@ module _ (R : Rules) (law : Lawful R) (n k s aside : ℕ) (words₀ visits₀ : 
                 wide = loaded.held.wide;
                 past = past-kept loaded.held.past last (λ i lo hi. passed.low i (omega arith)) (record { near = λ i lo hi. passed.low i hi; far = λ i lo hi. passed.high i (omega arith) });
                 means = λ own. absurd (omega (arith, loaded.own, here));
-                marked = λ own. absurd (omega (arith, loaded.own, here));
               }
 
         module _ (z : code ≡ fifo_code → ⊥) where

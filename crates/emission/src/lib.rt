@@ -79,7 +79,6 @@ pub fn emit(
             at.cell,
             at.weight,
             at.steps - 1,
-            at.delay.0 as u16,
             layers,
         );
         let choice = choose(plan, scratch, net, left.exits, at);

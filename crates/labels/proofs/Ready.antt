@@ -5,19 +5,16 @@ use mathlib.Core.List.{List}
 use native.Mathlib.Omega.{arith}
 use lib.ListN.{length}
 use Rattle.plan.specs.Apart.{apart_by}
-use Rattle.plan.proofs.Joined.{joined_in}
 use Rattle.rules.specs.Crossing.{period_on}
-use Rattle.rules.proofs.Clocks.{between-linked}
 use Rattle.budget.specs.Done.{Least, Lawful}
 use Rattle.budget.specs.Cone.{Lipschitz}
 use Rattle.budget.proofs.Clocks.{between-lawful, between-from, between-steps, between-weight, period-most}
 use Rattle.budget.proofs.Short.{side-least-short}
 use Rattle.budget.proofs.Cone.{apart-lipschitz}
 use Rattle.problem.specs.declared.net.Net.{Net}
-use Rattle.problem.proofs.Sizes.{few-cells, cells_are}
-use Rattle.problem.proofs.Clocks.{net-cells, net-fifos, net-limit}
+use Rattle.problem.proofs.Sizes.{few-cells}
+use Rattle.problem.proofs.Clocks.{net-cells, net-fifos}
 use Rattle.table.specs.Problem.{plan_for, net_rules, NetReady}
-use Rattle.table.proofs.Floor.{Rowed}
 
 -- rows and columns from any cell are a distance
 pub rules-apart : (net : Net) (marks : List ℕ) (start : ℕ) → Lipschitz (net_rules net marks) (apart_by net.problem.width start)
@@ -33,16 +30,6 @@ module _ (net : Net) (marks : List ℕ) (ready : NetReady net marks) where
 
   pub ready-cells : (net_rules net marks).cell_count ≡ length marks
   ready-cells = net-cells net marks ready
-
-  -- every load fits a row of the table, and a wire leads only from a cell of the plan
-  pub ready-rowed : Rowed (net_rules net marks) (length marks)
-  unfolding net_rules
-  ready-rowed =
-      let P = plan_for net.problem marks in
-      record {
-        light = omega (arith, net-limit net marks, ready.ready.valid.limit);
-        from = λ c x link. omega (arith, (joined_in P c x (rw (between-linked P net.problem.elements net.clocks net.problem.source net.problem.sink c x) at link)).0, cells_are net.problem marks ready.ready);
-      }
 
   -- what a closing delay stays below has 16 bits
   pub ready-top : (f : ℕ) → 2 * period_on net.problem.elements net.clocks f + 1 ≤ 60001

@@ -5,11 +5,15 @@ ghost use Rattle.rows.specs.Words.{Filled};
 ghost use Rattle.labels.specs.Labels.{CopyAsks};
 
 use layout::LABEL_WORDS;
-use rows::copy_words;
 
 pub fn copy_set(scratch: &mut [u16], n: usize, from: usize, to: usize)
     requires { CopyAsks n from to scratch.old }
     ensures { Filled (λ k. get_or scratch.old (from + k) 0) to (n * label_words) scratch.old scratch.new }
 {
-    copy_words(scratch, from, to, n * LABEL_WORDS);
+    let count = n * LABEL_WORDS;
+    let mut i = 0;
+    while i < count {
+        scratch[to + i] = scratch[from + i];
+        i += 1;
+    }
 }

@@ -74,22 +74,6 @@ crossing_words = 512
 abbrev pub far_words : ℕ
 far_words = 119
 
--- a run laid aside: its active list, next list, flags and seed marks, `list_words` words a cell; the table's rows but the last follow the arrival row
-abbrev pub mark_lists : ℕ
-mark_lists = 251
-
--- a run laid aside: the table's last row
-abbrev pub mark_row : ℕ
-mark_row = 255
-
--- words a cell from the active list to the trail
-abbrev pub list_words : ℕ
-list_words = 4
-
--- words a cell of the far stretch where a run is laid aside: from `trail_at` to `mark_lists`
-abbrev pub short_words : ℕ
-short_words = 114
-
 -- words a cell of the near stretch, with the arrival row: from `arrival_at` to `labels_at`
 abbrev pub near_words : ℕ
 near_words = 64

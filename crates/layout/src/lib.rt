@@ -55,18 +55,6 @@ pub const CROSSING_WORDS: usize = 512;
 // Words a cell of the far stretch: from TRAIL to CELL_WORDS.
 pub const FAR_WORDS: usize = 119;
 
-// A run laid aside: its active list, next list, flags and seed marks, LIST_WORDS words a cell. The table's rows but the last follow the arrival row.
-pub const MARK_LISTS: usize = 251;
-
-// A run laid aside: the table's last row.
-pub const MARK_ROW: usize = 255;
-
-// Words a cell from the active list to the trail.
-pub const LIST_WORDS: usize = 4;
-
-// Words a cell of the far stretch where a run is laid aside: from TRAIL to MARK_LISTS.
-pub const SHORT_WORDS: usize = 114;
-
 // Words a cell of the near stretch, with the arrival row: from ARRIVAL to LABELS.
 pub const NEAR_WORDS: usize = 64;
 

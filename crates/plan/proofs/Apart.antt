@@ -1,5 +1,5 @@
 -- A cell is at no distance from itself, and a wire leads to a cell that is at most 1 farther from any cell.
-use Prim.Native.Nat.{ℕ, ◌+◌, ◌/◌, ◌%◌, ◌≤◌}
+use Prim.Native.Nat.{ℕ, ◌+◌, ◌≤◌}
 use mathlib.Core.Path.{◌≡◌, ap}
 use native.Mathlib.Omega.{arith}
 use lib.Dec.{T}
@@ -11,15 +11,6 @@ use Rattle.plan.proofs.Joined.{Near, joined-near}
 pub apart-self : (width a : ℕ) → apart_by width a a ≡ 0
 unfolding apart_by gap
 apart-self width a = omega arith
-
-gap_by : (a b c : ℕ) → gap a c ≤ gap a b + gap b c
-unfolding gap
-gap_by a b c = omega arith
-
--- by way of another cell it is no nearer
-pub apart_by : (width a b c : ℕ) → apart_by width a c ≤ apart_by width a b + apart_by width b c
-unfolding apart_by
-apart_by width a b c = omega (arith, gap_by (a / width) (b / width) (c / width), gap_by (a % width) (b % width) (c % width))
 
 gap-near : (a b c : ℕ) → c ≤ b + 1 → b ≤ c + 1 → gap a c ≤ gap a b + 1
 unfolding gap

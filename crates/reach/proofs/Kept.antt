@@ -44,11 +44,11 @@ module _ (n exits : ℕ) (old new : List ℕ) (kept : LabelsKept n exits old new
   reaches-kept R f k (suc u) c l d x = step-more (λ code i. exact-kept k u code i) (λ c l d. reaches-kept R f k u c l d) c l d x
 
 -- so a row of the states by the old labels is one by the new
-pub row_kept : (n exits : ℕ) (old new : List ℕ) → LabelsKept n exits old new → (R : Rules) (f k u : ℕ) {floor : ℕ} {A : Table} {c : ℕ} → RepresentsRow floor A (Reaches R (labels_for n exits old) f k u) c → RepresentsRow floor A (Reaches R (labels_for n exits new) f k u) c
+pub row_kept : (n exits : ℕ) (old new : List ℕ) → LabelsKept n exits old new → (R : Rules) (f k u : ℕ) {A : Table} {c : ℕ} → RepresentsRow A (Reaches R (labels_for n exits old) f k u) c → RepresentsRow A (Reaches R (labels_for n exits new) f k u) c
 row_kept n exits old new kept R f k u {c = c} row =
     record {
-      sound = λ l d from h. reaches-kept n exits old new kept R f k u c l d (row.sound l d from h);
-      complete = λ l d from x. row.complete l d from (reaches-kept n exits new old back R f k u c l d x);
+      sound = λ l d h. reaches-kept n exits old new kept R f k u c l d (row.sound l d h);
+      complete = λ l d x. row.complete l d (reaches-kept n exits new old back R f k u c l d x);
     }
   where
     back : LabelsKept n exits new old

@@ -1,7 +1,5 @@
-pub mod Copies
 pub mod Kept
 pub mod Sets
 pub mod Turns
 pub mod Start
 pub mod Trailing
-pub mod Standing

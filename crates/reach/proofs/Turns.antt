@@ -9,23 +9,19 @@ use lib.Dec.{T}
 use lib.ListN.{length}
 use Rattle.rules.specs.Rules.{Rules, register_code, fifo_code, is_closing}
 use Rattle.rules.proofs.View.{register-closing, fifo-closing}
-use Rattle.budget.specs.Table.{arrival, layer}
+use Rattle.budget.specs.Table.{layer}
 use Rattle.budget.specs.Done.{Labels, Lawful}
 use Rattle.budget.specs.Emission.{exact_seed, Reaches}
 use Rattle.budget.specs.Cone.{RepresentsIn, Shrinking}
-use Rattle.budget.proofs.Layer.{same_row, raised-row}
-use Rattle.budget.proofs.Active.{arrival-row, given-row}
+use Rattle.budget.proofs.Layer.{same_row}
 use Rattle.budget.proofs.Cone.{shrinks-fewer}
 use Rattle.budget.proofs.Reaches.{layer-in, until-in}
-use Rattle.layout.specs.Layout.{arrival_at, labels_at, exits_at, aside_at, label_words, active_at, seeds_at, trail_at, cell_words}
-use Rattle.rows.specs.Words.{Kept, KeptFrom}
-use Rattle.lists.specs.Lists.{flag_of, Listed}
-use Rattle.lists.proofs.Lists.{listed_kept, listed-count}
+use Rattle.layout.specs.Layout.{labels_at, exits_at, aside_at, label_words}
+use Rattle.rows.specs.Words.{Kept}
 use Rattle.table.specs.Problem.{Room, budget_of, seed_of}
 use Rattle.trail.specs.declared.Trail.{Trail}
 use Rattle.table.specs.declared.pushes.Grown.{Grown}
-use Rattle.table.specs.Layer.{Settled, ActiveIn, Layered}
-use Rattle.table.proofs.Floor.{Rowed, RaisedTo, raised-between, settled-raised}
+use Rattle.table.specs.Layer.{ActiveIn, Layered}
 use Rattle.table.proofs.Quiet.{quiet-layer}
 use Rattle.table.proofs.Views.{budget-kept, seeds-kept}
 use Rattle.table.proofs.Colours.{coloured-none, coloured-kept, coloured-layer}
@@ -40,11 +36,11 @@ use Rattle.reach.specs.Cone.{Dropped}
 use Rattle.reach.specs.Reach.{BothIn, NextBoth, BothSoon, Running, Current}
 use Rattle.reach.proofs.Sets.{now-ordered, order-asks, soon-head, head-soon, set-comes, both-on, both-exact, both-idle, both-late, both-arrive}
 
-module _ (R : Rules) (n f k floor : ℕ) (P : ℕ → ℕ → Bool) (old : List ℕ) (count exits : ℕ) where
+module _ (R : Rules) (n f k : ℕ) (P : ℕ → ℕ → Bool) (old : List ℕ) (count exits : ℕ) where
   abbrev m : ℕ → Labels
   m = labels_for n exits old
 
-  module _ (words : List ℕ) (u active at exit : ℕ) (r : Running R n f k floor P old words u active at count exit exits) where
+  module _ (words : List ℕ) (u active at exit : ℕ) (r : Running R n f k P old words u active at count exit exits) where
     -- the words of both sets stay
     kept_near : Kept (n * labels_at) (n * labels_at + n * label_words) old words
     kept_near i lo hi = r.labels i lo (omega arith)
@@ -69,8 +65,8 @@ module _ (R : Rules) (n f k floor : ℕ) (P : ℕ → ℕ → Bool) (old : List 
             far = λ h. order-asks (r.sets.far (omega arith)) kept-far;
           }
 
-  module _ (words : List ℕ) (u active at exit : ℕ) (g : Current R n f k floor P old words u active at count exit exits) where
-    r : Running R n f k floor P old words u active at count exit exits
+  module _ (words : List ℕ) (u active at exit : ℕ) (g : Current R n f k P old words u active at count exit exits) where
+    r : Running R n f k P old words u active at count exit exits
     r = g.reaching
 
     module _ (law : Lawful R) (cells : R.cell_count ≡ n) (shrinks : Shrinking R P) where
@@ -82,7 +78,7 @@ module _ (R : Rules) (n f k floor : ℕ) (P : ℕ → ℕ → Bool) (old : List 
       list-fewer : (v : ℕ) → u ≤ v → {new : List ℕ} {count : ℕ} → ActiveIn R n (R.bound 0 f) (P u) new count → ActiveIn R n (R.bound 0 f) (P v) new count
       list-fewer v h a = record { listed = a.listed; settled = λ c i t z. a.settled c i (shrinks-fewer shrinks u v c h t) z }
 
-      pub layer-turn : (t : Trail) (new : List ℕ) (next : Grown) → Layered R n (R.bound 0 f) t words new next → Running R n f k floor P old new (u + 1) next.count at count exit exits
+      pub layer-turn : (t : Trail) (new : List ℕ) (next : Grown) → Layered R n (R.bound 0 f) t words new next → Running R n f k P old new (u + 1) next.count at count exit exits
       layer-turn t new next l =
           record {
             same = l.same ∙ r.same;
@@ -116,10 +112,10 @@ module _ (R : Rules) (n f k floor : ℕ) (P : ℕ → ℕ → Bool) (old : List 
               far = λ h. head-soon (r.sets.far (omega arith)) (kept-far words u active at exit r) t next.far h;
             }
 
-        pub leap-tables : (s : ℕ) → u ≤ s → s ≤ t → RepresentsIn floor (P s) (budget_of n words) (Reaches R m f k s)
+        pub leap-tables : (s : ℕ) → u ≤ s → s ≤ t → RepresentsIn (P s) (budget_of n words) (Reaches R m f k s)
         leap-tables s lo hi = until-in R m f k law shrinks u (budget_of n words) r.table (quiet none) t (both-idle r.sets t soon) s lo hi
 
-        pub leap-turn : Running R n f k floor P old words t active at count exit exits
+        pub leap-turn : Running R n f k P old words t active at count exit exits
         leap-turn =
             record {
               same = r.same;
@@ -133,7 +129,7 @@ module _ (R : Rules) (n f k floor : ℕ) (P : ℕ → ℕ → Bool) (old : List 
             }
 
   -- labels whose steps have come become seeds
-  pub arrive-turn : (words : List ℕ) (u active at exit : ℕ) → Running R n f k floor P old words u active at count exit exits → (new : List ℕ) (to out active' : ℕ) → ArrivedBoth n no_idle at count exit exits k u words new to out active' → Current R n f k floor P old new u active' to count out exits
+  pub arrive-turn : (words : List ℕ) (u active at exit : ℕ) → Running R n f k P old words u active at count exit exits → (new : List ℕ) (to out active' : ℕ) → ArrivedBoth n no_idle at count exit exits k u words new to out active' → Current R n f k P old new u active' to count out exits
   arrive-turn words u active at exit r new to out active' a =
       let near = kept_near words u active at exit r in
       let far = kept-far words u active at exit r in
@@ -154,68 +150,25 @@ module _ (R : Rules) (n f k floor : ℕ) (P : ℕ → ℕ → Bool) (old : List 
         late = both-late r.sets near far new a;
       }
 
-  -- other words with the same table, labels and seeds, and an active list that is right in the same cells
-  pub moved-turn : (words : List ℕ) (u active at exit : ℕ) → Current R n f k floor P old words u active at count exit exits → (new : List ℕ) (active' : ℕ) → length new ≡ length old → Kept (n * labels_at) (n * active_at) old new → KeptFrom (n * cell_words) old new → Kept 0 (n * arrival_at) words new → Kept (n * seeds_at) (n * trail_at) words new → Listed n new (n * active_at) active' → ((c : ℕ) → c < n → flag_of n new c ≡ 1 → flag_of n words c ≡ 1) → ((c : ℕ) → c < n → T (P u c) → flag_of n new c ≡ flag_of n words c) → Current R n f k floor P old new u active' at count exit exits
-  moved-turn words u active at exit g new active' same labels rest table marks listed fewer inside =
-      let r = g.reaching in
-      let seeds : (code c : ℕ) → T (is_closing code) → c < n → seed_of n new code c ≡ seed_of n words code c = λ code c shut h. seeds-kept n words new marks c h code shut in
-      record {
-        reaching =
-            record {
-              same = same;
-              labels = labels;
-              rest = rest;
-              table = λ c t. same_row (budget-kept n words new table c) (r.table c t);
-              list = active-kept R n (R.bound 0 f) words new r.list listed (λ i h. table i (omega arith) h) (λ c h t z. (t, (sym (inside c h t) ∙ z, λ code shut. seeds code c shut h)));
-              sets = both-on r.sets new u (omega arith) seeds (soon r);
-              in_step = r.in_step;
-              coloured = coloured-kept r.coloured new fewer;
-            };
-        late = g.late;
-      }
-    where
-      soon : Running R n f k floor P old words u active at count exit exits → BothSoon n old k u at count exit exits
-      soon r = record { near = r.sets.near.soon; far = λ h. (r.sets.far (omega arith)).soon h }
-
   -- cells out of P u leave the list
-  pub drop-turn : (words : List ℕ) (u active at exit : ℕ) → Current R n f k floor P old words u active at count exit exits → (new : List ℕ) (active' : ℕ) → Dropped n (P u) words new active' → Current R n f k floor P old new u active' at count exit exits
+  pub drop-turn : (words : List ℕ) (u active at exit : ℕ) → Current R n f k P old words u active at count exit exits → (new : List ℕ) (active' : ℕ) → Dropped n (P u) words new active' → Current R n f k P old new u active' at count exit exits
   drop-turn words u active at exit g new active' d =
       let r = g.reaching in
-      moved-turn words u active at exit g new active' (d.same ∙ r.same) (λ i lo hi. d.low i hi ∙ r.labels i lo hi) (λ i lo. d.high i (omega arith) ∙ r.rest i lo) (λ i lo hi. d.low i (omega arith)) (λ i lo hi. d.high i lo) d.listed d.fewer d.inside
-
-  -- other words with the same labels, lists and seeds, and the table raised to a higher floor; in fewer cells
-  pub raise-turn : Rowed R n → (words : List ℕ) (u active at exit : ℕ) → Current R n f k floor P old words u active at count exit exits → (higher : ℕ) → floor ≤ higher → (Q : ℕ → ℕ → Bool) → ((c : ℕ) → T (Q u c) → T (P u c)) → (new : List ℕ) → length new ≡ length old → Kept (n * labels_at) (n * active_at) old new → KeptFrom (n * cell_words) old new → RaisedTo n higher (budget_of n words) (budget_of n new) → Kept (n * active_at) (n * trail_at) words new → Current R n f k higher Q old new u active at count exit exits
-  raise-turn rowed words u active at exit g higher up Q fewer new same labels rest raised lists =
+      let seeds : (code c : ℕ) → T (is_closing code) → c < n → seed_of n new code c ≡ seed_of n words code c = λ code c shut h. seeds-kept n words new (λ i lo hi. d.high i lo) c h code shut in
       record {
         reaching =
             record {
-              same = same;
-              labels = labels;
-              rest = rest;
-              table = λ c t. raised-row up (raised-between raised c) (r.table c (fewer c t));
-              list = record { listed = listed_kept r.list.listed new flags (λ i h. lists _ (omega arith) (omega (arith, listed-count r.list.listed))); settled = settled };
-              sets = both-on r.sets new u (omega arith) seeds (record { near = r.sets.near.soon; far = λ h. (r.sets.far (omega arith)).soon h });
+              same = d.same ∙ r.same;
+              labels = λ i lo hi. d.low i hi ∙ r.labels i lo hi;
+              rest = λ i lo. d.high i (omega arith) ∙ r.rest i lo;
+              table = λ c t. same_row (budget-kept n words new (λ i lo hi. d.low i (omega arith)) c) (r.table c t);
+              list = active-kept R n (R.bound 0 f) words new r.list d.listed (λ i h. d.low i (omega arith)) (λ c h t z. (t, (sym (d.inside c h t) ∙ z, λ code shut. seeds code c shut h)));
+              sets = both-on r.sets new u (omega arith) seeds (soon r);
               in_step = r.in_step;
-              coloured = coloured-kept r.coloured new (λ c h e. sym (flags c h) ∙ e);
+              coloured = coloured-kept r.coloured new d.fewer;
             };
         late = g.late;
       }
     where
-      r : Running R n f k floor P old words u active at count exit exits
-      r = g.reaching
-
-      flags : (c : ℕ) → c < n → flag_of n new c ≡ flag_of n words c
-      flags c h = lists _ (omega arith) (omega arith)
-
-      seeds : (code c : ℕ) → T (is_closing code) → c < n → seed_of n new code c ≡ seed_of n words code c
-      seeds code c shut h = seeds-kept n words new (λ i lo hi. lists i (omega arith) hi) c h code shut
-
-      settled : (c : ℕ) → c < n → T (Q u c) → flag_of n new c ≡ 0 → Settled R n (R.bound 0 f) new c
-      settled c h t z =
-          settled-raised R n rowed (seed_of n new) (R.bound 0 f) higher (budget_of n words) (budget_of n new) raised c
-          (λ x l.
-          omega (
-            arith,
-            given-row R (arrival R (seed_of n words) (R.bound 0 f) (budget_of n words)) (arrival R (seed_of n new) (R.bound 0 f) (budget_of n words)) c (arrival-row R (seed_of n words) (seed_of n new) (R.bound 0 f) (budget_of n words) (budget_of n words) c (λ l. refl) (λ code shut. seeds code c shut h)) x l,
-            r.list.settled c h (fewer c t) (sym (flags c h) ∙ z) x l,
-          ))
+      soon : Running R n f k P old words u active at count exit exits → BothSoon n old k u at count exit exits
+      soon r = record { near = r.sets.near.soon; far = λ h. (r.sets.far (omega arith)).soon h }

@@ -1,6 +1,6 @@
--- Emission's table of the current span: the budget rows hold the table of `Reaches R m f k s`, m the labels in the words, f the side; for delays from a floor on, which the route has spent already.
+-- Emission's table of the current span: the budget rows hold the table of `Reaches R m f k s`, m the labels in the words, f the side.
 -- The seeds of a span with weight k to go after it are the labels of weight k. They wait in the orders of both sets and come in by their steps.
-use Rattle.std.specs.Prelude.{ℕ, suc, ◌+◌, ◌*◌, ◌≤◌, ◌<◌, ◌≡◌, Bool, ◌&&◌, ◌⊎◌, List, T, eqb, leb, length, get_or}
+use Rattle.std.specs.Prelude.{ℕ, suc, ◌*◌, ◌≤◌, ◌<◌, ◌≡◌, Bool, ◌&&◌, ◌⊎◌, List, T, eqb, leb, length, get_or}
 use Rattle.rules.specs.Rules.{Rules, register_code, fifo_code}
 use Rattle.plan.specs.Apart.{apart_by}
 use Rattle.budget.specs.Done.{NotAfter}
@@ -9,7 +9,7 @@ use Rattle.budget.specs.Cone.{RepresentsIn, in_cone}
 use Rattle.budget.specs.Emission.{exact_seed, Reaches}
 use Rattle.budget.specs.Colours.{LabelsInStep}
 use Rattle.costs.specs.Costs.{row_words, CostsOf}
-use Rattle.layout.specs.Layout.{arrival_at, labels_at, exits_at, aside_at, active_at, listed_at, trail_at, cell_words, slot_words, short_words}
+use Rattle.layout.specs.Layout.{arrival_at, labels_at, exits_at, aside_at, active_at, listed_at, trail_at, cell_words}
 use Rattle.rows.specs.Words.{Kept, KeptFrom}
 use Rattle.trail.specs.declared.Trail.{Trail}
 use Rattle.trail.specs.Trail.{Sound, History}
@@ -19,10 +19,6 @@ use Rattle.table.specs.Colours.{Coloured}
 use Rattle.problem.specs.declared.net.Net.{Net}
 use Rattle.problem.specs.Net.{fifo_of}
 use Rattle.reach.specs.declared.layers.Layers.{Layers}
-use Rattle.reach.specs.declared.run.Run.{Run}
-use Rattle.reach.specs.declared.marks.Mark.{Mark}
-use Rattle.reach.specs.Aside.{Copies, CopiesKept}
-use Rattle.labels.specs.declared.both.BothArrivals.{BothArrivals}
 use Rattle.labels.specs.Labels.{weight_of, steps_of, order_of, labels_of, labels_for, SetIn, Ordered}
 
 -- the weight and the steps of the label at place i of the order
@@ -73,24 +69,24 @@ pub record NextBoth (n : ℕ) (words : List ℕ) (at count exit exits weight ste
   pub far : HeadFrom n (n * exits_at) words exit exits weight r
   pub most : (u : ℕ) → u ≤ steps → HeadFrom n (n * labels_at) words at count weight u → HeadFrom n (n * exits_at) words exit exits weight u → u ≤ r
 
--- The layers that the trail holds, up to that of the table, of u steps: Z s is the one of s steps, the first has the floor everywhere.
-pub record Past (n floor : ℕ) (words : List ℕ) (u : ℕ) (t : Trail) : Type 0 where
+-- The layers that the trail holds, up to that of the table, of u steps: Z s is the one of s steps, the first is empty.
+pub record Past (n : ℕ) (words : List ℕ) (u : ℕ) (t : Trail) : Type 0 where
   pub Z : ℕ → Table
   pub sound : Sound n words t
   pub history : History n words t u Z
-  pub level : t.low ≡ 0 → (c l : ℕ) → c < n → l < row_words → Z 0 c l ≡ floor
+  pub none : (c l : ℕ) → Z 0 c l ≡ 0
   pub outside : (s c l : ℕ) → (c < n → l < row_words → ⊥) → Z s c l ≡ 0
 
--- After `level_table`: the floor everywhere; the words after the table stay.
-pub record Levelled (n floor : ℕ) (old new : List ℕ) : Type 0 where
+-- After `clear_table`: no budget; the words after the table stay.
+pub record TableCleared (n : ℕ) (old new : List ℕ) : Type 0 where
   pub same : length new ≡ length old
-  pub rows : (i : ℕ) → i < n * arrival_at → get_or new i 0 ≡ floor
+  pub rows : (i : ℕ) → i < n * arrival_at → get_or new i 0 ≡ 0
   pub rest : KeptFrom (n * arrival_at) old new
 
--- After `clear_span`: the floor everywhere, no cell listed, no seed; the other words stay.
-pub record Cleared (n floor : ℕ) (old new : List ℕ) : Type 0 where
+-- After `clear_span`: no budget, no cell listed, no seed; the other words stay.
+pub record Cleared (n : ℕ) (old new : List ℕ) : Type 0 where
   pub same : length new ≡ length old
-  pub rows : (i : ℕ) → i < n * arrival_at → get_or new i 0 ≡ floor
+  pub rows : (i : ℕ) → i < n * arrival_at → get_or new i 0 ≡ 0
   pub flags : (i : ℕ) → n * listed_at ≤ i → i < n * trail_at → get_or new i 0 ≡ 0
   pub kept : Kept (n * arrival_at) (n * listed_at) old new
   pub rest : KeptFrom (n * trail_at) old new
@@ -127,12 +123,12 @@ pub record BothAt (n exits k : ℕ) (old words : List ℕ) (u at count exit : �
   pub far : 0 < exits → SetAt n exits k (n * exits_at) fifo_code old words u exit exits
   pub no_fifo : exits ≡ 0 → (c : ℕ) → c < n → T (seed_of n words fifo_code c) → ⊥
 
--- In the rows of P u the table is that of u steps on side f, from the floor on, the active list is right there, and the seeds are those of both sets.
-pub record Running (R : Rules) (n f k floor : ℕ) (P : ℕ → ℕ → Bool) (old words : List ℕ) (u active at count exit exits : ℕ) : Type 0 where
+-- In the rows of P u the table is that of u steps on side f, the active list is right there, and the seeds are those of both sets.
+pub record Running (R : Rules) (n f k : ℕ) (P : ℕ → ℕ → Bool) (old words : List ℕ) (u active at count exit exits : ℕ) : Type 0 where
   pub same : length words ≡ length old
   pub labels : Kept (n * labels_at) (n * active_at) old words
   pub rest : KeptFrom (n * cell_words) old words
-  pub table : RepresentsIn floor (P u) (budget_of n words) (Reaches R (labels_for n exits old) f k u)
+  pub table : RepresentsIn (P u) (budget_of n words) (Reaches R (labels_for n exits old) f k u)
   pub list : ActiveIn R n (R.bound 0 f) (P u) words active
   pub sets : BothAt n exits k old words u at count exit
   -- the labels and the active cells have the colours of their steps
@@ -140,20 +136,20 @@ pub record Running (R : Rules) (n f k floor : ℕ) (P : ℕ → ℕ → Bool) (o
   pub coloured : Coloured R n u words
 
 -- and the trail holds the layers up to u
-pub record Trailing (R : Rules) (n f k floor exits : ℕ) (P : ℕ → ℕ → Bool) (old words : List ℕ) (u : ℕ) (t : Trail) : Type 0 where
-  pub past : Past n floor words u t
-  pub means : (s : ℕ) → t.low ≤ s → s ≤ u → RepresentsIn floor (P s) (past.Z s) (Reaches R (labels_for n exits old) f k s)
+pub record Trailing (R : Rules) (n f k exits : ℕ) (P : ℕ → ℕ → Bool) (old words : List ℕ) (u : ℕ) (t : Trail) : Type 0 where
+  pub past : Past n words u t
+  pub means : (s : ℕ) → s ≤ u → RepresentsIn (P s) (past.Z s) (Reaches R (labels_for n exits old) f k s)
   pub stamp : t.stamp ≤ u
 
 -- and every label that waits is after weight k and u steps
-pub record Current (R : Rules) (n f k floor : ℕ) (P : ℕ → ℕ → Bool) (old words : List ℕ) (u active at count exit exits : ℕ) : Type 0 where
-  pub reaching : Running R n f k floor P old words u active at count exit exits
+pub record Current (R : Rules) (n f k : ℕ) (P : ℕ → ℕ → Bool) (old words : List ℕ) (u active at count exit exits : ℕ) : Type 0 where
+  pub reaching : Running R n f k P old words u active at count exit exits
   pub late : BothSoon n old k (suc u) at count exit exits
 
--- After `start_span`: the floor everywhere, and so the table of no steps in any rows, on any side.
-pub record Started (R : Rules) (n k floor : ℕ) (old words : List ℕ) (active at count exit exits : ℕ) : Type 0 where
-  pub level : (c l : ℕ) → c < n → l < row_words → budget_of n words c l ≡ floor
-  pub current : (f : ℕ) (P : ℕ → ℕ → Bool) → Current R n f k floor P old words 0 active at count exit exits
+-- After `start_span`: no budget, and so the table of no steps in any rows, on any side.
+pub record Started (R : Rules) (n k : ℕ) (old words : List ℕ) (active at count exit exits : ℕ) : Type 0 where
+  pub empty : (c l : ℕ) → budget_of n words c l ≡ 0
+  pub current : (f : ℕ) (P : ℕ → ℕ → Bool) → Current R n f k P old words 0 active at count exit exits
 
 pub record SpanAsks (net : Net) (marks : List ℕ) (count exits : ℕ) (words : List ℕ) (layers : Layers) : Type 0 where
   pub ready : NetReady net marks
@@ -162,123 +158,29 @@ pub record SpanAsks (net : Net) (marks : List ℕ) (count exits : ℕ) (words : 
   pub ordered : Ordered (length marks) (length marks * labels_at) words count
   pub exits_ordered : 0 < exits → Ordered (length marks) (length marks * exits_at) words exits
   pub in_step : LabelsInStep (net_rules net marks) (labels_for (length marks) exits words)
-  pub past : Past (length marks) layers.floor words layers.steps layers.trail
-
--- where a run has come
-abbrev pub At : Rules → ℕ → ℕ → ℕ → ℕ → (ℕ → ℕ → Bool) → ℕ → ℕ → List ℕ → List ℕ → Run → Type 0
-At R n f k floor P count exits old words run =
-    Current R n f k floor P old words run.u run.active run.at count run.exit exits × Trailing R n f k floor exits P old words run.u run.trail
-
--- the rows that matter: those in the cone of the cell, in a plan of this width
-abbrev pub cone_by : ℕ → ℕ → ℕ → ℕ → ℕ → Bool
-cone_by width cell most = in_cone (apart_by width cell) (most + 1)
-
-abbrev pub cone_of : Net → ℕ → ℕ → ℕ → ℕ → Bool
-cone_of net cell most = cone_by net.problem.width cell most
-
--- Before `advance`: the span has come so far, from whatever words the labels are and whatever the floor is.
-pub record AdvanceAsks (net : Net) (marks costs : List ℕ) (side count exits cell weight most : ℕ) (begun : Run) (until : ℕ) (words : List ℕ) : Type 0 where
-  pub ready : NetReady net marks
-  pub costed : CostsOf net.problem.elements (fifo_of net) costs
-  pub room : Room (length marks) words
-  pub exits_in : 0 < exits → length marks * aside_at ≤ length words
-  pub before : begun.u ≤ until
-  pub old : List ℕ
-  pub floor : ℕ
-  pub come : At (net_rules net marks) (length marks) side weight floor (cone_of net cell most) count exits old words begun
-
--- After `advance`: it has come to the layer `until`.
-pub record Advanced (net : Net) (marks : List ℕ) (side count exits cell weight most : ℕ) (begun : Run) (until : ℕ) (words new : List ℕ) (run : Run) : Type 0 where
-  pub same : length new ≡ length words
-  pub there : run.u ≡ until
-  -- a run laid aside stays so, on a short trail
-  pub aside : begun.trail.room * slot_words ≤ length marks * short_words → CopiesKept (length marks) words new
-  pub come : (old : List ℕ) (floor : ℕ) → At (net_rules net marks) (length marks) side weight floor (cone_of net cell most) count exits old words begun → At (net_rules net marks) (length marks) side weight floor (cone_of net cell most) count exits old new run
-
--- the run stands at the mark, in these words and this cone, from this floor on
-abbrev pub Stands : Rules → ℕ → ℕ → ℕ → ℕ → (ℕ → ℕ → Bool) → ℕ → ℕ → List ℕ → List ℕ → Mark → Type 0
-Stands R n f k floor P count exits old words mark =
-    Current R n f k floor P old words mark.layer mark.active mark.at count mark.exit exits
-
--- A run of the span was laid aside: the words hold copies of those in which it stands, in its own cone and from its own floor on. The labels are as they were.
-pub record MarkedAt (R : Rules) (n f k width count exits : ℕ) (words : List ℕ) (mark : Mark) : Type 0 where
-  pub many : row_words ≤ n
-  pub old : List ℕ
-  pub was : List ℕ
-  pub stands : Stands R n f k mark.floor (cone_by width mark.from mark.most) count exits old was mark
-  pub copies : Copies n words was
-  pub same : length words ≡ length old
-  pub labels : Kept (n * labels_at) (n * active_at) old words
-  pub rest : KeptFrom (n * cell_words) old words
-
--- no mark, or one that is not after the steps, in a plan large enough to lay a row aside
-pub record MarkPlaced (n steps place : ℕ) : Type 0 where
-  pub within : place ≤ steps
-  pub many : 0 < place → row_words ≤ n
-
--- Before `run_whole`, `run_marked`: the span has started.
-pub record WholeAsks (net : Net) (marks costs : List ℕ) (count exits weight delay : ℕ) (span : BothArrivals) (words : List ℕ) : Type 0 where
-  pub ready : NetReady net marks
-  pub costed : CostsOf net.problem.elements (fifo_of net) costs
-  pub room : Room (length marks) words
-  pub exits_in : 0 < exits → length marks * aside_at ≤ length words
-  pub old : List ℕ
-  pub started : Started (net_rules net marks) (length marks) weight delay old words span.active span.at count span.exit exits
-
--- Before `run_again`: a run was laid aside, not after the steps, the cell in its cone.
-pub record AgainAsks (net : Net) (marks costs : List ℕ) (side count exits cell weight steps delay : ℕ) (mark : Mark) (words : List ℕ) : Type 0 where
-  pub ready : NetReady net marks
-  pub costed : CostsOf net.problem.elements (fifo_of net) costs
-  pub room : Room (length marks) words
-  pub exits_in : 0 < exits → length marks * aside_at ≤ length words
-  pub some : 0 < mark.layer
-  pub before : mark.layer ≤ steps
-  pub spent : mark.floor ≤ delay
-  pub near : T (in_cone (apart_by net.problem.width mark.from) mark.most steps cell)
-  pub marked : MarkedAt (net_rules net marks) (length marks) side weight net.problem.width count exits words mark
-
--- Before `run_on`: it stands at the mark, in the cone of the cell and from the delay on.
-pub record RunAsks (net : Net) (marks costs : List ℕ) (side count exits cell weight steps delay : ℕ) (mark : Mark) (words : List ℕ) : Type 0 where
-  pub ready : NetReady net marks
-  pub costed : CostsOf net.problem.elements (fifo_of net) costs
-  pub room : Room (length marks) words
-  pub exits_in : 0 < exits → length marks * aside_at ≤ length words
-  pub some : 0 < mark.layer
-  pub before : mark.layer ≤ steps
-  pub marked : MarkedAt (net_rules net marks) (length marks) side weight net.problem.width count exits words mark
-  pub old : List ℕ
-  pub stands : Stands (net_rules net marks) (length marks) side weight delay (cone_of net cell steps) count exits old words mark
+  pub past : Past (length marks) words layers.steps layers.trail
 
 -- before the first call of `load_layer`
-abbrev pub no_mark : Mark
-no_mark = record { layer = 0; from = 0; most = 0; floor = 0; at = 0; exit = 0; active = 0 }
-
 abbrev pub no_layers : Layers
 no_layers =
-    record { side = 0; weight = 0; steps = 0; width = 1; from = 0; most = 0; floor = 0; mark = no_mark; trail = record { room = 0; start = 0; count = 0; low = 1; stamp = 1 } }
+    record { side = 0; weight = 0; steps = 0; width = 1; from = 0; most = 0; trail = record { room = 0; start = 0; count = 0; low = 1; stamp = 1 } }
 
 -- the rows next to this cell are right in the layer of s steps
 abbrev pub near_by : Layers → ℕ → ℕ → Bool
 near_by layers s cell = in_cone (apart_by layers.width layers.from) layers.most s cell
 
--- the table of this span, on this side, and these steps can be had back, next to this cell, from this delay on
-abbrev pub held_by : Layers → ℕ → ℕ → ℕ → ℕ → ℕ → Bool
-held_by layers side cell weight steps delay =
-    eqb layers.side side && (eqb layers.weight weight && (leb layers.floor delay && (leb layers.trail.low steps && (leb steps layers.steps && near_by layers steps cell))))
-
--- a run of this span that was laid aside serves, next to this cell, from this delay on
-abbrev pub marked_by : Layers → ℕ → ℕ → ℕ → ℕ → ℕ → ℕ → Bool
-marked_by layers width side cell weight steps delay =
-    eqb layers.width width && (eqb layers.side side && (eqb layers.weight weight && (leb layers.mark.floor delay && (leb 1 layers.mark.layer && (leb layers.mark.layer steps && in_cone (apart_by width layers.mark.from) layers.mark.most steps cell)))))
+-- the table of this span, on this side, and these steps can be had back, next to this cell
+abbrev pub held_by : Layers → ℕ → ℕ → ℕ → ℕ → Bool
+held_by layers side cell weight steps =
+    eqb layers.side side && (eqb layers.weight weight && (leb layers.trail.low steps && (leb steps layers.steps && near_by layers steps cell)))
 
 -- What holds of the words and of `layers` from one call of `load_layer` to the next: the search's labels stand in their orders, and each layer of side f that can be had back is the span's.
 pub record Held (R : Rules) (n f count exits : ℕ) (words : List ℕ) (layers : Layers) : Type 0 where
   pub ordered : Ordered n (n * labels_at) words count
   pub exits_ordered : 0 < exits → Ordered n (n * exits_at) words exits
   pub wide : 0 < layers.width
-  pub past : Past n layers.floor words layers.steps layers.trail
-  pub means : layers.side ≡ f → (s cell : ℕ) → layers.trail.low ≤ s → s ≤ layers.steps → T (near_by layers s cell) → (c : ℕ) → T (R.linked cell c) → RepresentsRow layers.floor (past.Z s) (Reaches R (labels_for n exits words) f layers.weight s) c
-  pub marked : layers.side ≡ f → 0 < layers.mark.layer → MarkedAt R n f layers.weight layers.width count exits words layers.mark
+  pub past : Past n words layers.steps layers.trail
+  pub means : layers.side ≡ f → (s cell : ℕ) → layers.trail.low ≤ s → s ≤ layers.steps → T (near_by layers s cell) → (c : ℕ) → T (R.linked cell c) → RepresentsRow (past.Z s) (Reaches R (labels_for n exits words) f layers.weight s) c
 
 pub record LoadAsks (net : Net) (marks costs : List ℕ) (side count exits : ℕ) (words : List ℕ) (layers : Layers) : Type 0 where
   pub ready : NetReady net marks
@@ -288,10 +190,10 @@ pub record LoadAsks (net : Net) (marks costs : List ℕ) (side count exits : ℕ
   pub held : Held (net_rules net marks) (length marks) side count exits words layers
   pub in_step : LabelsInStep (net_rules net marks) (labels_for (length marks) exits words)
 
--- After `load_layer`: the rows of the cells that a wire joins to `cell` are those of the span's table, from the delay on.
-pub record Loaded (R : Rules) (n f count exits cell weight steps delay : ℕ) (old new : List ℕ) (layers : Layers) : Type 0 where
+-- After `load_layer`: the rows of the cells that a wire joins to `cell` are those of the span's table.
+pub record Loaded (R : Rules) (n f count exits cell weight steps : ℕ) (old new : List ℕ) (layers : Layers) : Type 0 where
   pub same : length new ≡ length old
-  pub near : (c : ℕ) → T (R.linked cell c) → RepresentsRow delay (budget_of n new) (Reaches R (labels_for n exits new) f weight steps) c
+  pub near : (c : ℕ) → T (R.linked cell c) → RepresentsRow (budget_of n new) (Reaches R (labels_for n exits new) f weight steps) c
   pub labels : Kept (n * labels_at) (n * active_at) old new
   pub rest : KeptFrom (n * cell_words) old new
   pub held : Held R n f count exits new layers

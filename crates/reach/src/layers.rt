@@ -1,17 +1,18 @@
-// The layers of a span, had back from the trail, or from a run laid aside, or made again.
+// The layers of a span, had back from the trail or made again.
 ghost use Rattle.std.specs.Prelude.{◌<◌, ◌≡◌, length};
 ghost use Rattle.table.specs.Problem.{net_rules};
 ghost use Rattle.reach.specs.Reach.{no_layers, held_by, LoadAsks, Loaded};
 
-use crate::cone::in_cone;
-use crate::marks::{Mark, marked_by, no_mark};
-use crate::runs::{run_again, run_span};
+use crate::cone::{drop_outside, in_cone};
+use crate::span::{next_both, start_span};
 use costs::COSTS;
+use labels::{arrive_both, no_idle};
 use problem::Net;
-use trail::{Trail, rewind};
+use table::next_layer;
+use trail::{Trail, new_trail, rewind, stamped};
 
 // What one call of `load_layer` leaves for the next, beside the words: the table is that of `steps` steps in the span on this side with this weight to go after it.
-// The span was run at the cell `from`, of a plan of this width, with `most` steps: its layers are right in that cone, for delays from the floor on. A run of it may be laid aside at the mark.
+// The span was run at the cell `from`, of a plan of this width, with `most` steps: its layers are right in that cone.
 #[derive(Drop)]
 pub struct Layers {
     pub side: usize,
@@ -20,8 +21,6 @@ pub struct Layers {
     pub width: usize,
     pub from: usize,
     pub most: u32,
-    pub floor: u16,
-    pub mark: Mark,
     pub trail: Trail,
 }
 
@@ -29,7 +28,6 @@ pub struct Layers {
 pub fn no_layers() -> Layers
     ensures { result ≡ no_layers }
 {
-    let mark = no_mark();
     Layers {
         side: 0,
         weight: 0,
@@ -37,8 +35,6 @@ pub fn no_layers() -> Layers
         width: 1,
         from: 0,
         most: 0,
-        floor: 0,
-        mark: mark,
         trail: Trail {
             room: 0,
             start: 0,
@@ -49,20 +45,18 @@ pub fn no_layers() -> Layers
     }
 }
 
-// The rows next to the cell can be had back from the trail, for this delay and greater ones.
-fn held_by(layers: Layers, side: usize, cell: usize, weight: u32, steps: u32, delay: u16) -> bool
+// The rows next to the cell can be had back from the trail.
+fn held_by(layers: Layers, side: usize, cell: usize, weight: u32, steps: u32) -> bool
     requires { 0 < layers.width }
-    ensures { result ≡ held_by layers side cell weight steps delay }
+    ensures { result ≡ held_by layers side cell weight steps }
 {
     let trail = layers.trail;
     if layers.side == side {
         if layers.weight == weight {
-            if layers.floor <= delay {
-                if trail.low <= steps {
-                    if steps <= layers.steps {
-                        let most = layers.most as usize;
-                        return in_cone(layers.width, layers.from, most, steps as usize, cell);
-                    }
+            if trail.low <= steps {
+                if steps <= layers.steps {
+                    let most = layers.most as usize;
+                    return in_cone(layers.width, layers.from, most, steps as usize, cell);
                 }
             }
         }
@@ -70,7 +64,78 @@ fn held_by(layers: Layers, side: usize, cell: usize, weight: u32, steps: u32, de
     false
 }
 
-// The table of this span, on this side, with `steps` steps to go, in the rows next to the cell, for this delay and greater ones.
+// The layers of the span, from no steps on, in the cone of the cell.
+// With no active cell a layer changes nothing, so u goes on to the next label of either set.
+fn run_span(
+    plan: &[u8],
+    scratch: &mut [u16],
+    net: Net,
+    costs: &[u16; COSTS],
+    side: usize,
+    count: usize,
+    exits: usize,
+    cell: usize,
+    weight: u32,
+    steps: u32,
+    layers: Layers,
+) -> Layers
+    requires { LoadAsks net plan.now costs.now side count exits scratch.old layers }
+    ensures { Loaded (net_rules net plan.now) (length plan.now) side count exits cell weight steps scratch.old scratch.new result }
+{
+    let n = plan.len();
+    let p = net.problem;
+    let top = 2 * net.period(side) + 1;
+    let span = start_span(plan, scratch, net, count, exits, weight, layers);
+    let mut u: u32 = 0;
+    let mut at = span.at;
+    let mut exit = span.exit;
+    let mut active = span.active;
+    let mut trail = new_trail(n);
+    while u < steps {
+        if active == 0 {
+            u = next_both(scratch, n, at, count, exit, exits, weight, steps);
+        } else {
+            let grown = next_layer(
+                plan,
+                scratch,
+                net,
+                top,
+                costs,
+                active,
+                stamped(trail, u + 1),
+            );
+            active = grown.count;
+            trail = grown.trail;
+            u += 1;
+        }
+        let next = arrive_both(
+            scratch,
+            n,
+            at,
+            count,
+            exit,
+            exits,
+            weight,
+            u,
+            active,
+            no_idle(),
+        );
+        at = next.at;
+        exit = next.exit;
+        active = drop_outside(scratch, n, next.active, p, cell, steps, u);
+    }
+    Layers {
+        side: side,
+        weight: weight,
+        steps: steps,
+        width: p.width,
+        from: cell,
+        most: steps,
+        trail: trail,
+    }
+}
+
+// The table of this span, on this side, with `steps` steps to go, in the rows next to the cell.
 pub fn load_layer(
     plan: &[u8],
     scratch: &mut [u16],
@@ -82,14 +147,12 @@ pub fn load_layer(
     cell: usize,
     weight: u32,
     steps: u32,
-    delay: u16,
     layers: Layers,
 ) -> Layers
     requires { LoadAsks net plan.now costs.now side count exits scratch.old layers }
-    ensures { Loaded (net_rules net plan.now) (length plan.now) side count exits cell weight steps delay scratch.old scratch.new result }
+    ensures { Loaded (net_rules net plan.now) (length plan.now) side count exits cell weight steps scratch.old scratch.new result }
 {
-    let mark = layers.mark;
-    if held_by(layers, side, cell, weight, steps, delay) {
+    if held_by(layers, side, cell, weight, steps) {
         let trail = rewind(scratch, plan.len(), layers.trail, steps);
         return Layers {
             side: side,
@@ -98,17 +161,10 @@ pub fn load_layer(
             width: layers.width,
             from: layers.from,
             most: layers.most,
-            floor: layers.floor,
-            mark: mark,
             trail: trail,
         };
     }
-    if marked_by(layers, net.problem.width, side, cell, weight, steps, delay) {
-        return run_again(
-            plan, scratch, net, costs, side, count, exits, cell, weight, steps, delay, mark,
-        );
-    }
     run_span(
-        plan, scratch, net, costs, side, count, exits, cell, weight, steps, delay, layers,
+        plan, scratch, net, costs, side, count, exits, cell, weight, steps, layers,
     )
 }

@@ -1,10 +1,6 @@
 // Emission's table of the current span, on the scratch words: from which states the span closes at a seed with few enough steps.
-mod aside;
 mod cone;
 mod layers;
-mod marks;
-mod run;
-mod runs;
 mod span;
 
 pub use layers::{Layers, load_layer, no_layers};

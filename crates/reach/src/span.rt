@@ -2,13 +2,13 @@
 ghost use Rattle.std.specs.Prelude.{◌*◌, ◌≤◌, length};
 ghost use Rattle.layout.specs.Layout.{cell_words};
 ghost use Rattle.table.specs.Problem.{net_rules};
-ghost use Rattle.reach.specs.Reach.{OrderIn, ExitsIn, BothIn, FirstWith, FirstExit, NextSteps, NextBoth, Past, Levelled, Cleared, Started, SpanAsks};
+ghost use Rattle.reach.specs.Reach.{OrderIn, ExitsIn, BothIn, FirstWith, FirstExit, NextSteps, NextBoth, Past, TableCleared, Cleared, Started, SpanAsks};
 
 use crate::layers::Layers;
 use labels::{BothArrivals, arrive_both, no_idle, steps_of, weight_word};
 use layout::{ARRIVAL, EXITS, LABELS, LISTED, ORDER, TRAIL};
 use problem::Net;
-use rows::{clear, fill};
+use rows::clear;
 use trail::rewind;
 
 // The first place of the order, up to `count`, whose label has at least this weight.
@@ -87,31 +87,29 @@ pub fn next_both(
     first
 }
 
-// Every word of the table becomes the floor: on the trail, if that goes back to layer 0 and began with this floor.
-fn level_table(scratch: &mut [u16], n: usize, floor: u16, layers: Layers)
-    requires { Past n layers.floor scratch.old layers.steps layers.trail × ((n ≤ 1024) × (n * cell_words ≤ length scratch.old)) }
-    ensures { Levelled n floor scratch.old scratch.new }
+// The table becomes 0: on the trail, if that goes back to layer 0.
+fn clear_table(scratch: &mut [u16], n: usize, layers: Layers)
+    requires { Past n scratch.old layers.steps layers.trail × ((n ≤ 1024) × (n * cell_words ≤ length scratch.old)) }
+    ensures { TableCleared n scratch.old scratch.new }
 {
     let trail = layers.trail;
-    if layers.floor == floor {
-        if trail.low == 0 {
-            rewind(scratch, n, trail, 0);
-            return;
-        }
+    if trail.low == 0 {
+        rewind(scratch, n, trail, 0);
+        return;
     }
-    fill(scratch, 0, n * ARRIVAL, floor);
+    clear(scratch, 0, n * ARRIVAL);
 }
 
-// The table becomes the floor, the flags and the seed flags become 0.
-fn clear_span(scratch: &mut [u16], n: usize, floor: u16, layers: Layers)
-    requires { Past n layers.floor scratch.old layers.steps layers.trail × ((n ≤ 1024) × (n * cell_words ≤ length scratch.old)) }
-    ensures { Cleared n floor scratch.old scratch.new }
+// The table, the flags and the seed flags become 0.
+fn clear_span(scratch: &mut [u16], n: usize, layers: Layers)
+    requires { Past n scratch.old layers.steps layers.trail × ((n ≤ 1024) × (n * cell_words ≤ length scratch.old)) }
+    ensures { Cleared n scratch.old scratch.new }
 {
-    level_table(scratch, n, floor, layers);
+    clear_table(scratch, n, layers);
     clear(scratch, n * LISTED, n * TRAIL);
 }
 
-// The table of no steps, from the floor on, and the seeds that need none after the close: where the labels of both sets wait that come later, and the count of the active list.
+// The table of no steps, and the seeds that need none after the close: where the labels of both sets wait that come later, and the count of the active list.
 pub fn start_span(
     plan: &[u8],
     scratch: &mut [u16],
@@ -119,14 +117,13 @@ pub fn start_span(
     count: usize,
     exits: usize,
     weight: u32,
-    floor: u16,
     layers: Layers,
 ) -> BothArrivals
     requires { SpanAsks net plan.now count exits scratch.old layers }
-    ensures { Started (net_rules net plan.now) (length plan.now) weight floor scratch.old scratch.new result.active result.at count result.exit exits }
+    ensures { Started (net_rules net plan.now) (length plan.now) weight scratch.old scratch.new result.active result.at count result.exit exits }
 {
     let n = plan.len();
-    clear_span(scratch, n, floor, layers);
+    clear_span(scratch, n, layers);
     let at = first_with(scratch, n, n * LABELS, count, weight);
     let exit = first_exit(scratch, n, exits, weight);
     arrive_both(scratch, n, at, count, exit, exits, weight, 0, 0, no_idle())

@@ -1,5 +1,5 @@
 -- What a function leaves in the scratch words: a stretch of them written, all others as they were.
-use Rattle.std.specs.Prelude.{ℕ, ◌+◌, ◌≤◌, ◌<◌, ◌≡◌, ◌⊎◌, List, length, get_or}
+use Rattle.std.specs.Prelude.{ℕ, ◌+◌, ◌≤◌, ◌<◌, ◌≡◌, List, length, get_or}
 
 -- `new` is `old` with F 0, .., F (n - 1) from `at`
 pub record Filled (F : ℕ → ℕ) (at n : ℕ) (old new : List ℕ) : Type 0 where
@@ -15,9 +15,3 @@ Kept at end old new = (k : ℕ) → at ≤ k → k < end → get_or new k 0 ≡ 
 -- and those from `at` on
 abbrev pub KeptFrom : ℕ → List ℕ → List ℕ → Type 0
 KeptFrom at old new = (k : ℕ) → at ≤ k → get_or new k 0 ≡ get_or old k 0
-
--- Before `copy_words`: the words read and those written share none, and are there; their places are far below 2 ^ 64.
-pub record CopyAsks (from to count lent : ℕ) : Type 0 where
-  pub apart : (from + count ≤ to) ⊎ (to + count ≤ from)
-  pub read : from + count ≤ lent
-  pub written : to + count ≤ lent

@@ -1,8 +1,8 @@
 // Row operations on the scratch words. A row is 64 words, one a load; a word is one more than the largest delay, 0 for none.
 // What a step or a gate costs is a row too, of the array of all costs.
-ghost use Rattle.std.specs.Prelude.{◌≡◌, ◌+◌, ◌*◌, ◌-◌, ◌≤◌, ◌<◌, max, length, get_or};
+ghost use Rattle.std.specs.Prelude.{◌≡◌, ◌+◌, ◌*◌, ◌-◌, ◌≤◌, ◌<◌, max, length};
 ghost use Rattle.costs.specs.Costs.{row_words, cost_words};
-ghost use Rattle.rows.specs.Words.{Filled, CopyAsks};
+ghost use Rattle.rows.specs.Words.{Filled};
 ghost use Rattle.rows.specs.Rows.{view_of, copied, raised, pushed, StepRow, Grows};
 
 use costs::{COSTS, ROW};
@@ -21,46 +21,14 @@ pub fn above(a: u16, b: u16) -> u16
     if b < a { a - b } else { 0 }
 }
 
-// Words from `at` up to `end` become this one.
-pub fn fill(scratch: &mut [u16], at: usize, end: usize, word: u16)
-    requires { (at ≤ end) × (end ≤ length scratch.old) }
-    ensures { Filled (λ k. word) at (end - at) scratch.old scratch.new }
-{
-    let mut i = at;
-    while i < end {
-        scratch[i] = word;
-        i += 1;
-    }
-}
-
 // Words from `at` up to `end` become 0.
 pub fn clear(scratch: &mut [u16], at: usize, end: usize)
     requires { (at ≤ end) × (end ≤ length scratch.old) }
     ensures { Filled (λ k. 0) at (end - at) scratch.old scratch.new }
 {
-    fill(scratch, at, end, 0);
-}
-
-// So many words at `to` become those at `from`.
-pub fn copy_words(scratch: &mut [u16], from: usize, to: usize, count: usize)
-    requires { CopyAsks from to count (length scratch.old) }
-    ensures { Filled (λ k. get_or scratch.old (from + k) 0) to count scratch.old scratch.new }
-{
-    let mut i = 0;
-    while i < count {
-        scratch[to + i] = scratch[from + i];
-        i += 1;
-    }
-}
-
-// So many words from the first on become the floor, as far as they are below it.
-pub fn raise_words(scratch: &mut [u16], count: usize, floor: u16)
-    requires { count ≤ length scratch.old }
-    ensures { Filled (λ k. max (get_or scratch.old k 0) floor) 0 count scratch.old scratch.new }
-{
-    let mut i = 0;
-    while i < count {
-        scratch[i] = larger(scratch[i], floor);
+    let mut i = at;
+    while i < end {
+        scratch[i] = 0;
         i += 1;
     }
 }

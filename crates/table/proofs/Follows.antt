@@ -19,7 +19,6 @@ follows_same s =
     record {
       sound = s;
       room = refl;
-      lowest = omega arith;
       stamp = refl;
       near = λ few k lo hi. refl;
       beyond = λ k h. refl;
@@ -32,7 +31,6 @@ follows-more f g =
     record {
       sound = g.sound;
       room = g.room ∙ f.room;
-      lowest = omega (arith, f.lowest, g.lowest);
       stamp = g.stamp ∙ f.stamp;
       near = λ few k lo hi. g.near (omega (arith, f.room)) k lo hi ∙ f.near few k lo hi;
       beyond = λ k h. g.beyond k (omega (arith, f.room)) ∙ f.beyond k h;
@@ -46,7 +44,6 @@ follows-kept {n} {t} {old} {new} some s low high =
     record {
       sound = sound-kept n old t new s kept;
       room = refl;
-      lowest = omega arith;
       stamp = refl;
       near = λ few k lo hi. high k lo;
       beyond = λ k h. high k (omega arith);
@@ -72,7 +69,6 @@ noted-saved {n} {cell} {old} {new} {t} {r} x =
           record {
             sound = x.sound;
             room = x.room;
-            lowest = x.lowest;
             stamp = x.stamp;
             near = x.near;
             beyond = x.high;
@@ -92,7 +88,6 @@ module _ (n cell : ℕ) (old : List ℕ) (t : Trail) (mid : List ℕ) (r : Trail
       record {
         sound = sound-kept n mid r new note.follows.sound kept;
         room = note.follows.room;
-        lowest = note.follows.lowest;
         stamp = note.follows.stamp;
         near = λ few k lo hi. near k lo hi ∙ note.follows.near few k lo hi;
         beyond = λ k h. high k (omega arith) ∙ note.follows.beyond k h;

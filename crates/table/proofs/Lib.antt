@@ -1,5 +1,4 @@
 pub mod Views
-pub mod Floor
 pub mod ArrivalRow
 pub mod Clears
 pub mod Follows

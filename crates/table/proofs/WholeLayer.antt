@@ -153,7 +153,6 @@ module _ (R : Rules) (n top : ℕ) (t : Trail) (old mid pushed new : List ℕ) (
         beyond = λ i h. taken.high i (omega arith) ∙ (spread.follows.beyond i h ∙ cleared.rest i (omega arith));
         sound = sound-kept n pushed next.trail new spread.follows.sound taken-trail;
         room = spread.follows.room;
-        lowest = spread.follows.lowest;
         stamp = spread.follows.stamp;
         history = history;
         neighbour = neighbour;

@@ -74,7 +74,6 @@ FlagsNoted n words t = (c : ℕ) → c < n → flag_of n words c ≡ 1 → Noted
 pub record Follows (n : ℕ) (t : Trail) (old : List ℕ) (r : Trail) (new : List ℕ) : Type 0 where
   pub sound : Sound n new r
   pub room : r.room ≡ t.room
-  pub lowest : t.low ≤ r.low
   pub stamp : r.stamp ≡ t.stamp
   -- with few slots all of them are in the first stretch
   pub near : t.room * slot_words ≤ n * far_words → Kept (n * arrival_at + row_words) (n * labels_at) old new
@@ -155,7 +154,6 @@ pub record Layered (R : Rules) (n top : ℕ) (t : Trail) (old new : List ℕ) (n
   -- the trail; stamp is the layer made
   pub sound : Sound n new next.trail
   pub room : next.trail.room ≡ t.room
-  pub lowest : t.low ≤ next.trail.low
   pub stamp : next.trail.stamp ≡ t.stamp
   pub history : (u : ℕ) (Z : ℕ → Table) → u < t.stamp → History n old t u Z → History n new next.trail u Z
   -- a cell that has grown is next to one that was active

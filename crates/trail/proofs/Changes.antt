@@ -93,7 +93,6 @@ module _ (n : ℕ) (words : List ℕ) (t r : Trail) (sound : Sound n words t) (s
             };
         free = omega (arith, sound.fits);
         room = room;
-        lowest = omega (arith, lower);
         stamp = stamp;
         history = forget-history;
         noted = forget-noted;
@@ -194,7 +193,6 @@ module _ (n cell : ℕ) (old : List ℕ) (t : Trail) (new : List ℕ) (r : Trail
               sorted = λ i j h k. entry-cases (λ j. i ≤ j → stamp_at n new r i ≤ stamp_at n new r j) (λ j k h. omega (arith, stamp-alike n old t new r t.count alike i (omega arith), stamp-alike n old t new r t.count alike j k, sound.sorted i j h k)) (λ h. omega (arith, new-stamp, late i (omega arith))) j k h;
             };
         room = room;
-        lowest = omega arith;
         stamp = stamp;
         history = save-history;
         noted = inr (record { at = t.count; below = omega arith; now = omega (arith, new-stamp); holds = new-cell });

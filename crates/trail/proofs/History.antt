@@ -99,10 +99,10 @@ module _ (Z : ℕ → Table) (u : ℕ) (A : Table) where
       go (inl q) = rw (followed-before s q) (past s c lo q h)
       go (inr q) = rw (followed-after s q) (RowOf.stays (λ i k a e. omega (arith, sound.late i k)) (λ l k. same c l h k))
 
--- an empty trail, with the table of its lowest layer
-pub history-start : (n : ℕ) (words : List ℕ) (t : Trail) (u : ℕ) (Z : ℕ → Table) → t.count ≡ 0 → t.low ≡ u → ((c l : ℕ) → c < n → l < row_words → view_of words c l ≡ Z u c l) → History n words t u Z
-history-start n words t u Z none low same s c lo hi h =
-    let e : s ≡ u = omega arith in
+-- an empty trail, with the table of layer 0
+pub history-start : (n : ℕ) (words : List ℕ) (t : Trail) (Z : ℕ → Table) → t.count ≡ 0 → ((c l : ℕ) → c < n → l < row_words → view_of words c l ≡ Z 0 c l) → History n words t 0 Z
+history-start n words t Z none same s c lo hi h =
+    let e : s ≡ 0 = omega arith in
     rw e (RowOf.stays (λ i k a f. omega arith) (λ l k. same c l h k))
 
 pub sound_none : (n : ℕ) (words : List ℕ) (t : Trail) → t.start ≡ 0 → t.count ≡ 0 → t.room ≤ slots_of n → t.low ≤ t.stamp → Sound n words t

@@ -4,7 +4,7 @@
 use Rattle.std.specs.Prelude.{ℕ, ◌+◌, ◌-◌, ◌*◌, ◌/◌, ◌≤◌, ◌<◌, min, ◌≡◌, cond, ◌⊎◌, List, leb, ltb, length, get_or}
 use Rattle.budget.specs.Table.{Table}
 use Rattle.costs.specs.Costs.{row_words}
-use Rattle.layout.specs.Layout.{arrival_at, labels_at, trail_at, cell_words, near_words, far_words, short_words, slot_words, slot_cell, slot_low, slot_high}
+use Rattle.layout.specs.Layout.{arrival_at, labels_at, trail_at, cell_words, near_words, far_words, slot_words, slot_cell, slot_low, slot_high}
 use Rattle.rows.specs.Rows.{view_of}
 use Rattle.rows.specs.Words.{Kept, KeptFrom}
 use Rattle.trail.specs.declared.Trail.{Trail}
@@ -18,11 +18,6 @@ slots_of n = n * far_words / slot_words + (n * near_words - row_words) / slot_wo
 
 abbrev pub new_trail : ℕ → Trail
 new_trail n = record { room = slots_of n; start = 0; count = 0; low = 0; stamp = 0 }
-
--- with the slots that a run laid aside leaves, from a layer on
-abbrev pub short_trail : ℕ → ℕ → Trail
-short_trail n low =
-    record { room = n * short_words / slot_words; start = 0; count = 0; low = low; stamp = low }
 
 -- the same trail while another layer is made
 abbrev pub stamped : Trail → ℕ → Trail
@@ -115,7 +110,6 @@ pub record RoomMade (n : ℕ) (words : List ℕ) (t r : Trail) : Type 0 where
   pub sound : Sound n words r
   pub free : r.count < r.room
   pub room : r.room ≡ t.room
-  pub lowest : t.low ≤ r.low
   pub stamp : r.stamp ≡ t.stamp
   pub history : (u : ℕ) (Z : ℕ → Table) → History n words t u Z → History n words r u Z
   pub noted : (c : ℕ) → Noted n words t c → Noted n words r c
@@ -130,8 +124,6 @@ pub record Saved (n cell : ℕ) (old : List ℕ) (t : Trail) (new : List ℕ) (r
   pub high : KeptFrom (n * trail_at + min (t.room * slot_words) (n * far_words)) old new
   pub sound : Sound n new r
   pub room : r.room ≡ t.room
-  -- a layer that was forgotten stays so
-  pub lowest : t.low ≤ r.low
   pub stamp : r.stamp ≡ t.stamp
   pub history : (u : ℕ) (Z : ℕ → Table) → u < t.stamp → History n old t u Z → History n new r u Z
   pub noted : Noted n new r cell

@@ -4,13 +4,10 @@ ghost use Rattle.std.specs.Prelude.{◌≡◌, ◌⊎◌, ◌+◌, ◌*◌, ◌�
 ghost use Rattle.layout.specs.Layout.{slot_words};
 ghost use Rattle.rows.specs.Words.{Filled};
 ghost use Rattle.costs.specs.Costs.{row_words};
-ghost use Rattle.trail.specs.Trail.{no_trail, new_trail, short_trail, stamped, slots_of, slot_of, place_of, stamp_of, TrailAsks, RoomMade, Saved, Restored, Rewound};
+ghost use Rattle.trail.specs.Trail.{no_trail, new_trail, stamped, slots_of, slot_of, place_of, stamp_of, TrailAsks, RoomMade, Saved, Restored, Rewound};
 
 use costs::ROW;
-use layout::{
-    FAR_WORDS, LABELS, NEAR_WORDS, SHORT_WORDS, SLOT, SLOT_CELL, SLOT_HIGH, SLOT_LOW, TRAIL,
-};
-use rows::copy_words;
+use layout::{FAR_WORDS, LABELS, NEAR_WORDS, SLOT, SLOT_CELL, SLOT_HIGH, SLOT_LOW, TRAIL};
 
 // `room` slots, of which `count` are in use, the oldest at `start`. Layers up to `low` cannot be undone. `stamp` is the layer that is being made.
 #[derive(Drop)]
@@ -46,20 +43,6 @@ pub fn new_trail(n: usize) -> Trail
         count: 0,
         low: 0,
         stamp: 0,
-    }
-}
-
-// An empty trail whose lowest layer is this one, with the slots of the far stretch that a run laid aside leaves.
-pub fn short_trail(n: usize, low: u32) -> Trail
-    requires { n ≤ 1024 }
-    ensures { result ≡ short_trail n low }
-{
-    Trail {
-        room: n * SHORT_WORDS / SLOT,
-        start: 0,
-        count: 0,
-        low: low,
-        stamp: low,
     }
 }
 
@@ -111,7 +94,11 @@ fn copy(scratch: &mut [u16], from: usize, to: usize)
     requires { ((from + row_words ≤ to) ⊎ (to + row_words ≤ from)) × ((from + row_words ≤ length scratch.old) × (to + row_words ≤ length scratch.old)) }
     ensures { Filled (λ k. get_or scratch.old (from + k) 0) to row_words scratch.old scratch.new }
 {
-    copy_words(scratch, from, to, ROW);
+    let mut l = 0;
+    while l < ROW {
+        scratch[to + l] = scratch[from + l];
+        l += 1;
+    }
 }
 
 // A full trail forgets its oldest entry.

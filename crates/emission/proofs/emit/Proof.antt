@@ -79,13 +79,9 @@ loop-holds c = λ v q.
 sub-load-layer : tie.Need-overflow-sub-load-layer invariant-loop decreases-loop
 sub-load-layer c = omega (arith, c.before.before.if1.true)
 
-cast-load-layer : tie.Need-overflow-cast-load-layer invariant-loop decreases-loop
-cast-load-layer c =
-    omega (arith, (head c.before.before.before.before.before).in_range.early)
-
 load-layer-requires : tie.Need-load-layer-requires invariant-loop decreases-loop
 load-layer-requires c κs =
-    let a = c.before.before.before.before.before in
+    let a = c.before.before.before.before in
     record {
       ready = (start a).requires.ready;
       costed = (start a).requires.costed;
@@ -97,14 +93,14 @@ load-layer-requires c κs =
 
 choose-requires : tie.Need-choose-requires invariant-loop decreases-loop
 choose-requires c κs =
-    let a = c.before.before.before.before.before.before.before.before.before in
+    let a = c.before.before.before.before.before.before.before.before in
     let l = c.before.before.before.load-layer.ensures in
     record {
       ready = (start a).requires.ready;
       room = omega (arith, (start a).requires.room, (head a).same, l.same);
       exits_in = λ h. omega (arith, ((head a).ahead h).1.room, l.same);
       in_range = (head a).in_range;
-      more = omega (arith, c.before.before.before.before.before.before.before.if1.true);
+      more = omega (arith, c.before.before.before.before.before.before.if1.true);
       few = omega (arith, (head a).sides);
     }
 
@@ -115,70 +111,70 @@ enum-known-choice c = search rules
 abbrev words : tie.After-known-told invariant-loop decreases-loop → List ℕ
 words c = c.before.before.before.before.before.before.before.load-layer.new.1.0
 
-chosen : (c : tie.After-known-told invariant-loop decreases-loop) → let a = c.before.before.before.before.before.before.before.before.before.before.before.before.before in FirstVisit (R a) (length (start a).args.plan.now) (labels_for (length (start a).args.plan.now) a.loop.left.exits (words c)) (budget_of (length (start a).args.plan.now) (words c)) a.loop.at (λ cell. T ((R a).linked a.loop.at.cell cell)) c.before.choice.given.0.0 c.before.choice.given.0.1.0
+chosen : (c : tie.After-known-told invariant-loop decreases-loop) → let a = c.before.before.before.before.before.before.before.before.before.before.before.before in FirstVisit (R a) (length (start a).args.plan.now) (labels_for (length (start a).args.plan.now) a.loop.left.exits (words c)) (budget_of (length (start a).args.plan.now) (words c)) a.loop.at (λ cell. T ((R a).linked a.loop.at.cell cell)) c.before.choice.given.0.0 c.before.choice.given.0.1.0
 chosen c =
     chosen-visit c.before.before.before.choose.ensures c.before.choice.given.0.0 c.before.choice.given.0.1.0 c.before.choice.given.1
 
 put-visit-requires-2 : tie.Need-put-visit-requires-2 invariant-loop decreases-loop
 put-visit-requires-2 c κs =
-    let a = c.before.before.before.before.before.before.before.before.before.before.before.before.before.before in
+    let a = c.before.before.before.before.before.before.before.before.before.before.before.before.before in
     let e = head a in
     record {
       cell_fits = omega (arith, (chosen c.before).in_range.in_plan, few-cells _ _ (start a).requires.ready.ready);
       place_fits = omega (arith, e.placed, e.whole, (start a).ranges.steps.fits);
-      fits = rw e.kept (narrower (start a).requires.fits (omega (arith, e.placed, e.whole, c.before.before.before.before.before.before.before.before.before.before.before.before.if1.true)));
+      fits = rw e.kept (narrower (start a).requires.fits (omega (arith, e.placed, e.whole, c.before.before.before.before.before.before.before.before.before.before.before.if1.true)));
     }
 
 pass-requires : tie.Need-pass-requires invariant-loop decreases-loop
 pass-requires c κs =
     let told = c.before.before.before.before.before in
-    let a = told.before.before.before.before.before.before.before.before.before.before.before.before.before in
+    let a = told.before.before.before.before.before.before.before.before.before.before.before.before in
     record {
       few = few-cells _ _ (start a).requires.ready.ready;
-      room = pass-room _ (ready-lawful _ _ (start a).requires.ready) _ _ _ _ _ _ _ _ _ _ _ _ _ (head a) (omega (arith, told.before.before.before.before.before.before.before.before.before.before.before.if1.true)) _ _ told.before.before.before.before.before.before.before.load-layer.ensures _ _ (chosen told);
+      room = pass-room _ (ready-lawful _ _ (start a).requires.ready) _ _ _ _ _ _ _ _ _ _ _ _ _ (head a) (omega (arith, told.before.before.before.before.before.before.before.before.before.before.if1.true)) _ _ told.before.before.before.before.before.before.before.load-layer.ensures _ _ (chosen told);
     }
 
 tallied-requires : tie.Need-tallied-requires invariant-loop decreases-loop
 tallied-requires c κs =
     let told = c.before.before.before.before.before.before.before.before in
-    let a = told.before.before.before.before.before.before.before.before.before.before.before.before.before in
+    let a = told.before.before.before.before.before.before.before.before.before.before.before.before in
     let e = head a in
-    omega (arith, e.counted, e.whole, (start a).ranges.steps.fits, told.before.before.before.before.before.before.before.before.before.before.before.if1.true)
+    omega (arith, e.counted, e.whole, (start a).ranges.steps.fits, told.before.before.before.before.before.before.before.before.before.before.if1.true)
 
 add-i : tie.Need-overflow-add-i invariant-loop decreases-loop
 add-i c =
     let told = c.before.before.before.before.before.before.before.before.before in
-    let a = told.before.before.before.before.before.before.before.before.before.before.before.before.before in
+    let a = told.before.before.before.before.before.before.before.before.before.before.before.before in
     let e = head a in
-    omega (arith, e.placed, e.whole, (start a).ranges.steps.fits, told.before.before.before.before.before.before.before.before.before.before.before.if1.true)
+    omega (arith, e.placed, e.whole, (start a).ranges.steps.fits, told.before.before.before.before.before.before.before.before.before.before.if1.true)
 
 loop-less : tie.Need-loop-smaller invariant-loop decreases-loop
 loop-less c =
     let told = c.before.before.before.before.before.before.before.before.before in
-    omega (arith, (chosen told).steps, told.before.before.before.before.before.before.before.before.before.before.before.if1.true)
+    omega (arith, (chosen told).steps, told.before.before.before.before.before.before.before.before.before.before.if1.true)
 
 loop-again : tie.Need-loop-preserved invariant-loop decreases-loop
 loop-again c = λ v q.
     let told = c.before.before.before.before.before.before.before.before.before in
-    let a = told.before.before.before.before.before.before.before.before.before.before.before.before.before in
+    let a = told.before.before.before.before.before.before.before.before.before.before.before.before in
     rw (c.before.before.before.before.before.before.before.put-visit2.ensures, c.before.before.before.pass.ensures.1, c.tallied.ensures)
-    (emit-next _ (ready-lawful _ _ (start a).requires.ready) _ _ _ _ _ v _ _ _ _ _ _ _ (a.loop.invariant v q) (omega (arith, told.before.before.before.before.before.before.before.before.before.before.before.if1.true)) _ _ told.before.before.before.before.before.before.before.load-layer.ensures _ _ (chosen told) _ c.before.before.before.pass.ensures.0)
+    (emit-next _ (ready-lawful _ _ (start a).requires.ready) _ _ _ _ _ v _ _ _ _ _ _ _ (a.loop.invariant v q) (omega (arith, told.before.before.before.before.before.before.before.before.before.before.if1.true)) _ _ told.before.before.before.before.before.before.before.load-layer.ensures _ _ (chosen told) _ c.before.before.before.pass.ensures.0)
 
 enum_told : tie.Need-enum-told invariant-loop decreases-loop
 enum_told c = search rules
 
 same_length : tie.Need-same-length invariant-loop decreases-loop
-same_length c = c.before.before.before.before.before.before.before.load-layer.ensures.same ∙ (head c.before.before.before.before.before.before.before.before.before.before.before.before.before).same
+same_length c = c.before.before.before.before.before.before.before.load-layer.ensures.same ∙ (head c.before.before.before.before.before.before.before.before.before.before.before.before).same
 
 same-length-2 : tie.Need-same-length-2 invariant-loop decreases-loop
-same-length-2 c = (head c.before.before.before.before.before.before.before.before.before.before.before.before.before).kept
+same-length-2 c = (head c.before.before.before.before.before.before.before.before.before.before.before.before).kept
 
 returns : tie.Need-returns invariant-loop decreases-loop
 returns c =
     let told = c.before in
-    let a = c.before.before.before.before.before.before.before.before.before.before.before.before.before in
+    let a = c.before.before.before.before.before.before.before.before.before.before.before.before in
     absurd
-    (emit-nothing _ (ready-lawful _ _ (start a).requires.ready) _ _ _ _ _ _ _ _ _ _ _ _ _ (head a) (omega (arith, c.before.before.before.before.before.before.before.before.before.before.before.if1.true)) _ _ c.before.before.before.before.before.before.before.load-layer.ensures (rw told.enum_told.given.1 at c.before.before.before.choose.ensures))
+    (emit-nothing _ (ready-lawful _ _ (start a).requires.ready) _ _ _ _ _ _ _ _ _ _ _ _ _ (head a) (omega (arith, c.before.before.before.before.before.before.before.before.before.before.if1.true)) _ _ c.before.before.before.before.before.before.before.load-layer.ensures (rw told.enum_told.given.1 at c.before.before.before.choose.ensures))
 
 same-length-3 : tie.Need-same-length-3 invariant-loop decreases-loop
 same-length-3 c = (head c.before.before.before).same
@@ -205,7 +201,6 @@ emit-spec =
     no-layers-requires
     loop-holds
     sub-load-layer
-    cast-load-layer
     load-layer-requires
     choose-requires
     enum-known-choice

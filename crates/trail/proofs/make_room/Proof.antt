@@ -15,7 +15,6 @@ returns c =
       sound = s.requires.0.sound;
       free = c.if1.true;
       room = refl;
-      lowest = omega arith;
       stamp = refl;
       history = λ u Z past. past;
       noted = λ x h. h;

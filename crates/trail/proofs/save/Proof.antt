@@ -11,7 +11,7 @@ use Rattle.layout.specs.Layout.{arrival_at, cell_words, slot_words, slot_cell, s
 use Rattle.rows.specs.Words.{Filled}
 use Rattle.costs.specs.Costs.{row_words}
 use Rattle.trail.specs.declared.Trail.{Trail}
-use Rattle.trail.specs.Trail.{place_of, stamp_of, Sound, TrailAsks, RoomMade, Saved}
+use Rattle.trail.specs.Trail.{place_of, stamp_of, TrailAsks, RoomMade, Saved}
 use Rattle.trail.proofs.Slots.{place-in, place-above}
 use Rattle.trail.proofs.History.{sound_none}
 use Rattle.trail.proofs.Changes.{saved}
@@ -19,8 +19,8 @@ use Rattle.trail.proofs.save.Statement.{statement}
 use Rattle.trail.proofs.save.Tie as tie
 
 -- no slots: nothing can be had back any more
-pub save-nothing : (n cell : ℕ) (words : List ℕ) (t : Trail) → Sound n words t → t.room ≡ 0 → Saved n cell words t words (record { room = 0; start = 0; count = 0; low = t.stamp; stamp = t.stamp })
-save-nothing n cell words t s none =
+pub save-nothing : (n cell : ℕ) (words : List ℕ) (t : Trail) → t.room ≡ 0 → Saved n cell words t words (record { room = 0; start = 0; count = 0; low = t.stamp; stamp = t.stamp })
+save-nothing n cell words t none =
     record {
       same = refl;
       low = λ k lo hi. refl;
@@ -29,7 +29,6 @@ save-nothing n cell words t s none =
       high = λ k h. refl;
       sound = sound_none n words _ refl refl (omega arith) (omega arith);
       room = sym none;
-      lowest = s.low;
       stamp = refl;
       history = λ u Z below past s c lo hi h. absurd (omega arith);
       noted = inl (omega arith);
@@ -86,7 +85,6 @@ module _ (n cell : ℕ) (old : List ℕ) (t k : Trail) (stamp : ℕ) (asks : Tra
         high = λ i h. x.high i (omega (arith, made.room));
         sound = x.sound;
         room = x.room ∙ made.room;
-        lowest = omega (arith, x.lowest, made.lowest);
         stamp = omega arith;
         history = λ u Z below past. x.history u Z (omega (arith, made.stamp)) (made.history u Z past);
         noted = x.noted;
@@ -94,7 +92,7 @@ module _ (n cell : ℕ) (old : List ℕ) (t k : Trail) (stamp : ℕ) (asks : Tra
       }
 
 returns : tie.Need-returns
-returns c = save-nothing _ _ _ _ c.before.before.before.requires.0.sound c.if1.true
+returns c = save-nothing _ _ _ _ c.if1.true
 
 make-room-requires : tie.Need-make-room-requires
 make-room-requires c κs =

@@ -1,4 +1,4 @@
--- `reach::span::clear_span`: the table becomes the floor, and then the flags 0.
+-- `reach::span::clear_span`: the table and then the flags become 0.
 use Prim.Native.Nat.{ℕ, ◌+◌, ◌-◌, ◌*◌, ◌≤◌, ◌<◌}
 use mathlib.Core.Path.{◌≡◌, ◌∙◌}
 use mathlib.Core.List.{List}
@@ -7,7 +7,7 @@ use borrow.Author.Rules.{rules}
 use lib.ListN.{get_or}
 use Rattle.layout.specs.Layout.{listed_at, trail_at}
 use Rattle.rows.specs.Words.{Filled}
-use Rattle.reach.specs.Reach.{Levelled, Cleared}
+use Rattle.reach.specs.Reach.{TableCleared, Cleared}
 use Rattle.reach.proofs.span.clear_span.Statement.{statement}
 use Rattle.reach.proofs.span.clear_span.Tie as tie
 
@@ -17,8 +17,8 @@ zero-at at end old new f i lo hi =
     let e : at + (i - at) ≡ i = omega arith in
     rw e at (f.done (i - at) (omega arith))
 
-cleared : (n floor : ℕ) (old mid new : List ℕ) → Levelled n floor old mid → Filled (λ k. 0) (n * listed_at) (n * trail_at - n * listed_at) mid new → Cleared n floor old new
-cleared n floor old mid new f g =
+cleared : (n : ℕ) (old mid new : List ℕ) → TableCleared n old mid → Filled (λ k. 0) (n * listed_at) (n * trail_at - n * listed_at) mid new → Cleared n old new
+cleared n old mid new f g =
     record {
       same = g.same ∙ f.same;
       rows = λ i h. g.low i (omega arith) ∙ f.rows i h;
@@ -27,8 +27,8 @@ cleared n floor old mid new f g =
       rest = λ i lo. g.high i (omega arith) ∙ f.rest i (omega arith);
     }
 
-level-table-requires : tie.Need-level-table-requires
-level-table-requires c κs = search rules
+clear-table-requires : tie.Need-clear-table-requires
+clear-table-requires c κs = search rules
 
 mul-clear : tie.Need-overflow-mul-clear
 mul-clear c = search rules
@@ -44,7 +44,7 @@ same_length c = search rules
 
 returns : tie.Need-returns
 returns c =
-    cleared _ _ _ _ _ c.before.before.before.before.before.before.level-table.ensures c.before.before.clear.ensures
+    cleared _ _ _ _ c.before.before.before.before.before.before.clear-table.ensures c.before.before.clear.ensures
 
 pub clear-span-spec : {M : Type 1} → statement M
-clear-span-spec = tie.close (tie.spec level-table-requires mul-clear mul-clear-2 clear-requires same_length returns)
+clear-span-spec = tie.close (tie.spec clear-table-requires mul-clear mul-clear-2 clear-requires same_length returns)

@@ -5,7 +5,6 @@ use mathlib.Core.Bool.{true}
 use Rattle.table.specs.Problem.{net_rules}
 use Rattle.problem.proofs.Sizes.{few-cells}
 use Rattle.labels.proofs.Labels.{ordered-kept, set-in, exits-in}
-use Rattle.labels.proofs.Ready.{ready-rowed}
 use Rattle.reach.proofs.Turns.{both-ask}
 use Rattle.reach.proofs.Start.{start-near, start-far, labels-start, labels-started}
 use Rattle.reach.proofs.span.start_span.Statement.{statement}
@@ -24,14 +23,14 @@ first-with-requires c κs =
     let z = c.before.before.before in
     let s = z.before.before.before.before in
     let R = net_rules s.args.net s.args.plan.now in
-    (ordered-kept s.requires.ordered _ (start-near R _ _ _ _ z.clear-span.ensures), set-in _ _ (few-cells _ _ s.requires.ready.ready) (omega (arith, s.requires.room, z.clear-span.ensures.same)))
+    (ordered-kept s.requires.ordered _ (start-near R _ _ _ z.clear-span.ensures), set-in _ _ (few-cells _ _ s.requires.ready.ready) (omega (arith, s.requires.room, z.clear-span.ensures.same)))
 
 first-exit-requires : tie.Need-first-exit-requires
 first-exit-requires c κs =
     let z = c.before.before.before.before.before in
     let s = z.before.before.before.before in
     let R = net_rules s.args.net s.args.plan.now in
-    λ h. (ordered-kept (s.requires.exits_ordered h) _ (start-far R _ _ _ _ z.clear-span.ensures), exits-in _ _ (few-cells _ _ s.requires.ready.ready) (omega (arith, s.requires.exits_in h, z.clear-span.ensures.same)))
+    λ h. (ordered-kept (s.requires.exits_ordered h) _ (start-far R _ _ _ z.clear-span.ensures), exits-in _ _ (few-cells _ _ s.requires.ready.ready) (omega (arith, s.requires.exits_in h, z.clear-span.ensures.same)))
 
 no-idle-requires : tie.Need-no-idle-requires
 no-idle-requires c κs = search rules
@@ -44,8 +43,8 @@ arrive-both-requires c κs =
     let s = z.before.before.before.before in
     let R = net_rules s.args.net s.args.plan.now in
     let same = z.clear-span.ensures.same in
-    let r = labels-start R _ _ _ _ z.clear-span.ensures (ready-rowed _ _ s.requires.ready) _ _ _ s.requires.ordered s.requires.exits_ordered s.requires.in_step _ _ x.first-with.ensures y.first-exit.ensures 0 (λ u x. true) in
-    both-ask R _ _ _ _ _ _ _ _ _ _ _ _ _ r (few-cells _ _ s.requires.ready.ready) (omega (arith, s.requires.room, same)) (λ h. omega (arith, s.requires.exits_in h, same))
+    let r = labels-start R _ _ _ z.clear-span.ensures _ _ _ s.requires.ordered s.requires.exits_ordered s.requires.in_step _ _ x.first-with.ensures y.first-exit.ensures 0 (λ u x. true) in
+    both-ask R _ _ _ _ _ _ _ _ _ _ _ _ r (few-cells _ _ s.requires.ready.ready) (omega (arith, s.requires.room, same)) (λ h. omega (arith, s.requires.exits_in h, same))
 
 same_length : tie.Need-same-length
 same_length c = search rules
@@ -58,7 +57,7 @@ returns c =
     let z = x.before.before.before.before in
     let s = z.before.before.before.before in
     let R = net_rules s.args.net s.args.plan.now in
-    labels-started R _ _ _ _ z.clear-span.ensures (ready-rowed _ _ s.requires.ready) _ _ _ s.requires.ordered s.requires.exits_ordered s.requires.in_step _ _ x.first-with.ensures y.first-exit.ensures _ _ _ _ (rw a.before.no-idle.ensures at a.arrive-both.ensures)
+    labels-started R _ _ _ z.clear-span.ensures _ _ _ s.requires.ordered s.requires.exits_ordered s.requires.in_step _ _ x.first-with.ensures y.first-exit.ensures _ _ _ _ (rw a.before.no-idle.ensures at a.arrive-both.ensures)
 
 pub start-span-spec : {M : Type 1} → statement M
 start-span-spec =
