@@ -4,7 +4,7 @@ ghost use Rattle.answers.specs.Numbers.{refusal_number, answer_number, answer_fi
 
 // Refusal 4: which number was at fault. Buffer holds the buffer's place, from 1.
 // With one clock T is `Period`; between two clocks `SourcePeriod` and `SinkPeriod` stand in its place, and `Fifo` after `Register`. `Skew` is document 02's, C-16.
-#[derive(Drop)]
+#[derive(Clone, Copy)]
 pub enum Fault {
     // T
     Period,
@@ -22,7 +22,7 @@ pub enum Fault {
 }
 
 // The refusals that have no figures.
-#[derive(Drop)]
+#[derive(Clone, Copy)]
 pub enum Refusal {
     Grid,
     // plan length
@@ -42,7 +42,7 @@ pub enum Refusal {
     RouteExists,
 }
 
-#[derive(Drop)]
+#[derive(Clone, Copy)]
 pub struct Figures {
     pub registers: u16,
     pub steps: u32,
@@ -51,7 +51,7 @@ pub struct Figures {
     pub slack: i32,
 }
 
-#[derive(Drop)]
+#[derive(Clone, Copy)]
 pub enum Answer {
     Found(Figures),
     // sheet: the visits need more words than were lent

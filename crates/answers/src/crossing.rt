@@ -4,7 +4,7 @@ ghost use Rattle.answers.specs.Numbers.{crossing_number, crossing_figures};
 
 use crate::answer::Refusal;
 
-#[derive(Drop)]
+#[derive(Clone, Copy)]
 pub struct CrossingFigures {
     // registers on the source's side of the FIFO; neither the FIFO nor an end is among them
     pub source: u32,
@@ -16,7 +16,7 @@ pub struct CrossingFigures {
     pub slack: i32,
 }
 
-#[derive(Drop)]
+#[derive(Clone, Copy)]
 pub enum CrossingAnswer {
     Found(CrossingFigures),
     // sheet: the visits need more words than were lent

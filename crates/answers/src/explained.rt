@@ -5,7 +5,7 @@ ghost use Rattle.answers.specs.Numbers.{explained_number};
 use crate::answer::Refusal;
 
 // Why there is no route.
-#[derive(Drop)]
+#[derive(Clone, Copy)]
 pub enum Reason {
     // "no chain of uncut wires joins the ends"
     WalledOff,
@@ -17,7 +17,7 @@ pub enum Reason {
     TooShort,
 }
 
-#[derive(Drop)]
+#[derive(Clone, Copy)]
 pub enum Explained {
     Because(Reason),
     Refused(Refusal),

@@ -1,5 +1,7 @@
 // What outsiders lend for a route and what they are answered: raw records, refusals, the answer.
 // The checks of tables (refusal 4) and ends (refusal 5). Document 01, "Elements" and "Calls and what they leave".
+#![tactic(auto)]
+
 mod answer;
 mod crossing;
 mod ends;

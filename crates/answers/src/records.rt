@@ -1,13 +1,13 @@
 // Records as outsiders lend them: numbers that nothing has checked.
 use timing::Elements;
 
-#[derive(Drop)]
+#[derive(Clone, Copy)]
 pub struct WireRecord {
     pub resistance: u16,
     pub load: u16,
 }
 
-#[derive(Drop)]
+#[derive(Clone, Copy)]
 pub struct RegisterRecord {
     pub resistance: u16,
     pub delay: u16,
@@ -15,7 +15,7 @@ pub struct RegisterRecord {
     pub setup: u16,
 }
 
-#[derive(Drop)]
+#[derive(Clone, Copy)]
 pub struct BufferRecord {
     pub resistance: u16,
     pub delay: u16,
@@ -23,7 +23,7 @@ pub struct BufferRecord {
 }
 
 // All tables but the buffers, in the job's order.
-#[derive(Drop)]
+#[derive(Clone, Copy)]
 pub struct Tables {
     pub register: RegisterRecord,
     pub horizontal: WireRecord,
@@ -34,14 +34,14 @@ pub struct Tables {
 }
 
 // What a net between two clocks has beside its tables, whose period is the sink's: the source's period and the FIFO. Document 02, C-15.
-#[derive(Drop)]
+#[derive(Clone, Copy)]
 pub struct Crossing {
     pub period: u16,
     pub fifo: RegisterRecord,
 }
 
 // A lent list of buffers: its length, and its first six records, with the record of zeros past its end.
-#[derive(Drop)]
+#[derive(Clone, Copy)]
 pub struct BufferList {
     pub n: usize,
     pub items: [BufferRecord; Elements::BUFFERS_MAX],

@@ -10,14 +10,14 @@ use timing::{
     Buffer, BufferCheck, Clocks, Elements, Load, Register, RegisterCheck, Wire, WireCheck,
 };
 
-#[derive(Drop)]
+#[derive(Clone, Copy)]
 pub enum ElementFault {
     Nothing,
     At(Fault),
 }
 
 // The elements are all zero where there is a fault.
-#[derive(Drop)]
+#[derive(Clone, Copy)]
 pub struct TablesCheck {
     pub fault: ElementFault,
     pub elements: Elements,
@@ -25,7 +25,7 @@ pub struct TablesCheck {
 
 // A list of buffers and its check: the first fault, or the six places, each buffer made by its constructor, then buffers of zeros.
 // The places are all zero where there is a fault.
-#[derive(Drop)]
+#[derive(Clone, Copy)]
 pub struct BuffersRead {
     pub list: BufferList,
     pub fault: ElementFault,
@@ -33,7 +33,7 @@ pub struct BuffersRead {
 }
 
 // Where there is a fault, the elements are all zero, and so are the clocks.
-#[derive(Drop)]
+#[derive(Clone, Copy)]
 pub struct CrossingCheck {
     pub fault: ElementFault,
     pub elements: Elements,

@@ -6,7 +6,7 @@ ghost use Rattle.answers.specs.Numbers.{verdict_number, comparison_number};
 use crate::answer::Refusal;
 
 // What is wrong with a visit, in the order of the tests.
-#[derive(Drop)]
+#[derive(Clone, Copy)]
 pub enum VisitFault {
     // "outside the plan, or an end that isn't the sink or source"
     Cell,
@@ -20,7 +20,7 @@ pub enum VisitFault {
     Period(i32),
 }
 
-#[derive(Drop)]
+#[derive(Clone, Copy)]
 pub enum Verdict {
     // the smallest spare figure over the spans
     Accepted(i32),
@@ -30,7 +30,7 @@ pub enum Verdict {
 }
 
 // Which of two lists is the better.
-#[derive(Drop)]
+#[derive(Clone, Copy)]
 pub enum Comparison {
     First,
     Second,

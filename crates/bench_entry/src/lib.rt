@@ -1,5 +1,7 @@
 // The benchmark's own entries to the route calls of one clock and of two, to the verdict and to the reasons, on numbers and lent words; not offered to anyone else.
 // Each has the whole promise of its call. That the areas lent are as long as said and lie apart is the caller's duty.
+#![tactic(auto)]
+
 ghost use Rattle.std.specs.Prelude.{◌≤◌, ◌≡◌, length};
 ghost use Rattle.job.specs.Fields.{table_numbers};
 ghost use Rattle.bench_words.specs.Words.{lengths_right, result_numbers};

@@ -8,7 +8,7 @@ use answers::{Verdict, VisitFault};
 use timing::slack_magnitude;
 
 // What is told, in the order of the words.
-#[derive(Drop)]
+#[derive(Clone, Copy)]
 pub struct Found {
     // 1 where the list is accepted
     pub accepted: u64,

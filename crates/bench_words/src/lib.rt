@@ -1,4 +1,6 @@
 // What the benchmark's entries read from words, and the words that they tell.
+#![tactic(auto)]
+
 mod crossed;
 mod faults;
 mod figures;

@@ -7,7 +7,7 @@ use crate::faults::refusal_fault;
 use answers::{Explained, Reason};
 
 // What is told, in the order of the words.
-#[derive(Drop)]
+#[derive(Clone, Copy)]
 pub struct Why {
     // the reason's place, from 1; 0 for none
     pub reason: u32,

@@ -1,4 +1,6 @@
 // One step of emission: from a state, the first visit in written order from which the rest can still be done.
+#![tactic(auto)]
+
 ghost use Rattle.std.specs.Prelude.{◌≡◌, ◌+◌, ◌*◌, ◌-◌, ◌≤◌, ◌<◌, T, length};
 ghost use Rattle.timing.specs.Ranges.{load_max};
 ghost use Rattle.rules.specs.Rules.{is_closing, side_after};
@@ -19,7 +21,7 @@ use table::takes_buffers;
 use timing::{Elements, HalfTicks, Load, Wire, smaller_slack};
 
 // After a visit's gate: the delay of the current span, the weight to go after it, the steps to go, the smallest spare figure of the spans closed so far, and the side: the FIFOs passed.
-#[derive(Drop)]
+#[derive(Clone, Copy)]
 pub struct State {
     pub cell: usize,
     pub load: Load,
@@ -31,7 +33,7 @@ pub struct State {
 }
 
 // The code of the visit, and the state after it.
-#[derive(Drop)]
+#[derive(Clone, Copy)]
 pub enum Choice {
     Visit(u16, State),
     Nothing,

@@ -1,4 +1,6 @@
 // The better of two route lists from outside: document 02, C-11. Its whole effect is specs/Better.antt.
+#![tactic(auto)]
+
 mod compare;
 mod handed;
 mod ranks;

@@ -1,5 +1,7 @@
 // What a step or a gate costs at each load, as a row of 64 words, one a load. Past the load limit it costs all that a word can hold.
 // The rows of all elements are one array, which is lent to the search.
+#![tactic(auto)]
+
 ghost use Rattle.std.specs.Prelude.{◌+◌, ◌≤◌, ◌≡◌, length};
 ghost use Rattle.timing.specs.Elements.{WireInRange, DriverInRange, RegisterInRange};
 ghost use Rattle.timing.specs.Valid.{Valid};

@@ -1,4 +1,6 @@
 // The session player's command that asks for a route between two clocks, and what it prints.
+#![tactic(auto)]
+
 ghost use Rattle.std.specs.Prelude.{◌≡◌, take};
 ghost use Rattle.question.specs.Crossing.{crossing_of};
 ghost use Rattle.crossing_router.specs.Route.{crossing_answer_of};

@@ -1,4 +1,6 @@
 // The covered route call for nets between two clocks: refusals in their order, then the best route over both sides of the FIFO.
+#![tactic(auto)]
+
 mod checks;
 mod sides;
 

@@ -16,7 +16,7 @@ use rows::clear;
 use search::{Reached, search_anew};
 
 // Labels of the source's side: of its registers, laid aside, and of the FIFOs that lead there.
-#[derive(Drop)]
+#[derive(Clone, Copy)]
 pub struct Far {
     pub registers: usize,
     pub exits: usize,

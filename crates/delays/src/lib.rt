@@ -1,4 +1,6 @@
 // The least delays, in the scratch words: for each cell and load the least so far with which a span comes to the cell under at most that load, and for each cell the least with which one closes there. NEVER is none.
+#![tactic(auto)]
+
 ghost use Rattle.std.specs.Prelude.{◌≡◌, true, ◌+◌, ◌*◌, ◌-◌, ◌≤◌, ◌<◌, length};
 ghost use Rattle.costs.specs.Costs.{row_words};
 ghost use Rattle.rows.specs.Words.{Filled};

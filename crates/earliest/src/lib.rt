@@ -1,5 +1,7 @@
 // The first period at which a route exists, in one pass from the sink on: document 02, C-13.
 // The earliest state goes first. A span closes at a cell as soon as that is within the period; where nothing more can close, the period goes up to the next close.
+#![tactic(auto)]
+
 mod turns;
 
 ghost use Rattle.std.specs.Prelude.{◌≤◌, length};
@@ -16,7 +18,7 @@ use spans::start;
 use turns::{Progress, Turn, take_turn};
 
 // What a pass tells.
-#[derive(Drop)]
+#[derive(Clone, Copy)]
 pub enum First {
     // The first period from the problem's own on at which a route exists.
     At(u16),

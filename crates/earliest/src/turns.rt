@@ -11,13 +11,13 @@ use queue::{delay_at, leave};
 use spans::{spread, start};
 
 // The period that the pass has come to, and the count of states that wait.
-#[derive(Drop)]
+#[derive(Clone, Copy)]
 pub struct Progress {
     pub period: u16,
     pub count: usize,
 }
 
-#[derive(Drop)]
+#[derive(Clone, Copy)]
 pub enum Turn {
     On(Progress),
     // No period has a route.

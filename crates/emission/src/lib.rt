@@ -1,4 +1,6 @@
 // Emission: the best route, written into the caller's visits from the sink on, its smallest spare figure and its registers on each side.
+#![tactic(auto)]
+
 ghost use Rattle.std.specs.Prelude.{◌≡◌, ◌+◌, length, set};
 ghost use Rattle.table.specs.Problem.{net_rules};
 ghost use Rattle.emission.specs.Emission.{PutAsks, Emitted, EmitAsks};
@@ -25,7 +27,7 @@ fn put_visit(visits: &mut [u16], i: usize, cell: usize, code: u16)
 }
 
 // The smallest spare figure of a route, and its registers on each side; the source's end is counted, the sink's is not.
-#[derive(Drop)]
+#[derive(Clone, Copy)]
 pub struct Told {
     pub slack: i32,
     pub sink: u32,

@@ -6,14 +6,14 @@ use labels::copy_set;
 use layout::{ASIDE, LABELS};
 
 // How many labels the side has: of registers, with the source's, and of FIFOs.
-#[derive(Drop)]
+#[derive(Clone, Copy)]
 pub struct Counts {
     pub registers: usize,
     pub exits: usize,
 }
 
 // Registers so far, on the sink's side and on the source's; the source's end is counted, the sink's is not.
-#[derive(Drop)]
+#[derive(Clone, Copy)]
 pub struct Tally {
     pub sink: u32,
     pub source: u32,

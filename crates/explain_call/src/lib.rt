@@ -1,4 +1,6 @@
 // The session player's command that asks why there is no route, and what it prints.
+#![tactic(auto)]
+
 ghost use Rattle.std.specs.Prelude.{◌≡◌, length, take};
 ghost use Rattle.question.specs.Question.{question_of};
 ghost use Rattle.reasons.specs.Reasons.{explained_of};

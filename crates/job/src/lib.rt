@@ -1,4 +1,6 @@
 // The reading of a job: document 01, "The job and its printed sheet". Part of the program; outsiders have no such call.
+#![tactic(auto)]
+
 mod fields;
 mod read;
 

@@ -32,7 +32,7 @@ const COUNT: u16 = 4;
 const SIZE: u16 = 16;
 
 // What a job asks, but for the marks and the buffers, which stand in the words lent.
-#[derive(Drop)]
+#[derive(Clone, Copy)]
 pub struct Asked {
     pub width: u16,
     pub height: u16,
@@ -42,7 +42,7 @@ pub struct Asked {
 }
 
 // The question with its count of buffers, or the refusal's number.
-#[derive(Drop)]
+#[derive(Clone, Copy)]
 pub enum Job {
     Asks(Asked, usize),
     Refused(u16),

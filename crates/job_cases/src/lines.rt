@@ -1,7 +1,7 @@
 // A line of a case, read byte by byte.
 use streams::write_text;
 
-#[derive(Drop)]
+#[derive(Clone, Copy)]
 pub struct Line {
     // the colon has passed
     pub in_job: bool,

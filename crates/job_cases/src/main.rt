@@ -1,6 +1,8 @@
 // Runs many jobs through the route printer's function. Standard input has a case a line: its label, a colon and the
 // job's bytes in decimal; it has fewer than 65,536 bytes. Standard output has each label and what is printed for its job.
 // A failed read or write ends the program with a line on standard error.
+#![tactic(auto)]
+
 mod lines;
 
 use lines::{next, start};

@@ -1,4 +1,6 @@
 // The calls on route lists from outside: document 02, C-11. All that is lent is only read.
+#![tactic(auto)]
+
 ghost use Rattle.std.specs.Prelude.{◌≡◌};
 ghost use Rattle.answers.specs.Lists.{list_of};
 ghost use Rattle.question.specs.Question.{question_of};

@@ -7,7 +7,7 @@ use crate::arrive;
 use layout::{EXITS, LABELS};
 
 // Whether gates of a code close a span no quicker than those of the other: where a cell is a seed of both, they add nothing.
-#[derive(Drop)]
+#[derive(Clone, Copy)]
 pub struct Idle {
     pub registers: bool,
     pub fifos: bool,
@@ -22,7 +22,7 @@ pub fn no_idle() -> Idle
     }
 }
 
-#[derive(Drop)]
+#[derive(Clone, Copy)]
 pub struct BothArrivals {
     pub at: usize,
     pub exit: usize,

@@ -1,4 +1,6 @@
 // Labels: for a cell where a span may close, the least weight and steps to go after the close. A label's word is weight plus one, 0 for none.
+#![tactic(auto)]
+
 mod both;
 mod sets;
 mod sites;
@@ -125,7 +127,7 @@ fn plant(scratch: &mut [u16], n: usize, cell: usize, code: u16, idle: bool, acti
     enlist(scratch, n, n * ACTIVE, active, cell)
 }
 
-#[derive(Drop)]
+#[derive(Clone, Copy)]
 pub struct Arrivals {
     pub at: usize,
     pub active: usize,

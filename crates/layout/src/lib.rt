@@ -1,5 +1,6 @@
 // Where each region of the scratch words starts, in words a cell: in a plan of n cells, at n times its number. The same names for the contracts: specs/Layout.antt.
 // From 0 on stand the budget rows, one a cell (costs::ROW words each).
+#![tactic(auto)]
 
 // The arrival row.
 pub const ARRIVAL: usize = 64;

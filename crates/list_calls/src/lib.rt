@@ -1,4 +1,6 @@
 // The session player's commands on route lists from outside, and what they print.
+#![tactic(auto)]
+
 mod commands;
 mod lines;
 mod words;

@@ -6,7 +6,7 @@ use script::{Cursor, read_number};
 pub const LIST_WORDS: usize = 32768;
 
 // How many words a list has, and where to read on.
-#[derive(Drop)]
+#[derive(Clone, Copy)]
 pub struct ListRead {
     pub words: usize,
     pub cursor: Cursor,

@@ -1,4 +1,6 @@
 // Lists of cells in the scratch words, with a flag a cell that says whether it is listed (`layout::LISTED`).
+#![tactic(auto)]
+
 ghost use Rattle.std.specs.Prelude.{◌+◌, ◌*◌, ◌≤◌, ◌<◌, length};
 ghost use Rattle.layout.specs.Layout.{next_at, listed_at, seeds_at};
 ghost use Rattle.lists.specs.Lists.{Listed, Enlisted, Taken};

@@ -1,4 +1,6 @@
 // The numbers of a job: groups of seven bits. Document 01, "The job and its printed sheet".
+#![tactic(auto)]
+
 mod number;
 mod series;
 

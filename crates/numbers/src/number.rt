@@ -6,7 +6,7 @@ ghost use Rattle.numbers.specs.Numbers.{number, second_group, third_group, read_
 const NUMBER_MAX: u32 = 65535;
 
 // The number that starts at a place, with the place after it; Fault is refusal 15.
-#[derive(Drop)]
+#[derive(Clone, Copy)]
 pub enum Number {
     Value(u16, usize),
     Fault,

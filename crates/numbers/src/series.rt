@@ -8,7 +8,7 @@ use crate::number::{Number, read_number};
 pub const JOB_FAULT: u16 = 15;
 
 // The place after the numbers, or the refusal.
-#[derive(Drop)]
+#[derive(Clone, Copy)]
 pub enum Series {
     Read(usize),
     Refused(u16),

@@ -1,4 +1,6 @@
 // The plan: width, height and one byte of marks a cell. Document 01, "The plan".
+#![tactic(auto)]
+
 ghost use Rattle.std.specs.Prelude.{◌≡◌, ◌*◌, ◌<◌};
 ghost use Rattle.plan.specs.Plan.{Sized, plan_of, blocked, tap, takes_register, cut_right, cut_below};
 ghost use Rattle.plan.specs.Joined.{neighbours_of};
@@ -9,7 +11,7 @@ ghost use Rattle.plan.specs.Check.{grid_fault, invalid_mark, mark_fault, checked
 pub const SIDE_MAX: u16 = 32;
 
 // Refusals 1, 2 and 3, or none.
-#[derive(Drop)]
+#[derive(Clone, Copy)]
 pub enum PlanCheck {
     Valid,
     Grid,
@@ -18,7 +20,7 @@ pub enum PlanCheck {
 }
 
 // The cells that an uncut wire joins to a cell, in ascending order; where there is none, the number of cells.
-#[derive(Drop)]
+#[derive(Clone, Copy)]
 pub struct Neighbours {
     pub up: usize,
     pub left: usize,

@@ -1,4 +1,6 @@
 // The plan's functions at their boundary values.
+#![tactic(auto)]
+
 ghost use Rattle.std.specs.Prelude.{◌≡◌};
 ghost use Rattle.plan.specs.Plan.{plan_of};
 ghost use Rattle.plan.specs.Check.{checked_plan};

@@ -1,4 +1,6 @@
 // The planner's calls for outsiders. Nothing is required of what they lend; every answer is stated for every input.
+#![tactic(auto)]
+
 pub use answers::{
     Answer, BufferRecord, Comparison, Crossing, CrossingAnswer, CrossingFigures, Explained, Fault,
     Figures, Reason, Refusal, RegisterRecord, Tables, Verdict, VisitFault, WireRecord,

@@ -67,7 +67,7 @@ pub fn set_byte(src: &[u8], c: Cursor, p: Player, journal: &mut [u8]) -> Turn {
 }
 
 // The numbers of a register or a FIFO, and where to read on.
-#[derive(Drop)]
+#[derive(Clone, Copy)]
 pub struct RegisterRead {
     pub register: RegisterRecord,
     pub cursor: Cursor,

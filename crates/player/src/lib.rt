@@ -1,4 +1,6 @@
 // What a session player holds beside the lent bytes and words, and the commands of its script that call nothing.
+#![tactic(auto)]
+
 mod commands;
 mod fresh;
 mod net;

@@ -1,7 +1,7 @@
 // What every question about a route starts with: the plan's sides and the ends.
 use script::{Cursor, read_number};
 
-#[derive(Drop)]
+#[derive(Clone, Copy)]
 pub struct Net {
     pub width: u16,
     pub height: u16,

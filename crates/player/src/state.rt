@@ -11,7 +11,7 @@ pub const UNKNOWN: u8 = 3;
 pub const UNWRITTEN: u8 = 4;
 
 // The record, the lengths of plan, journal and scratch, and the tables of the next call, of one clock or two.
-#[derive(Drop)]
+#[derive(Clone, Copy)]
 pub struct Player {
     pub session: Session,
     pub plan: usize,
@@ -23,7 +23,7 @@ pub struct Player {
 }
 
 // The player after a command, and where to read on.
-#[derive(Drop)]
+#[derive(Clone, Copy)]
 pub struct Turn {
     pub cursor: Cursor,
     pub player: Player,

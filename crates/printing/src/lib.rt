@@ -1,4 +1,6 @@
 // From the bytes of a job to the printed bytes: all that the route printer does but read and write.
+#![tactic(auto)]
+
 ghost use Rattle.std.specs.Prelude.{◌≡◌, ◌*◌, ◌≤◌, length, take};
 ghost use Rattle.timing.specs.Ranges.{buffers_max};
 ghost use Rattle.job.specs.Job.{asks, cells_max, question_from, marks_of};

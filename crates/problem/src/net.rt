@@ -6,7 +6,7 @@ ghost use Rattle.problem.specs.Net.{one_net, weight_on};
 use crate::Problem;
 use timing::{Clocks, Register};
 
-#[derive(Drop)]
+#[derive(Clone, Copy)]
 pub struct Net {
     pub problem: Problem,
     pub clocks: Clocks,

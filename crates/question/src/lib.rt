@@ -1,4 +1,6 @@
 // A question about a plan: refusals 1 to 5 in their order, and the routing problem where they pass.
+#![tactic(auto)]
+
 ghost use Rattle.std.specs.Prelude.{◌≡◌};
 ghost use Rattle.plan.specs.Plan.{plan_of};
 ghost use Rattle.plan.specs.Check.{checked_plan};
@@ -14,14 +16,14 @@ use plan::{PlanCheck, check_plan};
 use problem::Problem;
 use timing::Elements;
 
-#[derive(Drop)]
+#[derive(Clone, Copy)]
 pub enum Checked {
     Passes,
     Fails(Refusal),
 }
 
 // The problem is all zero where a check fails.
-#[derive(Drop)]
+#[derive(Clone, Copy)]
 pub struct QuestionCheck {
     pub outcome: Checked,
     pub problem: Problem,

@@ -1,5 +1,7 @@
 // The states that wait, in the scratch words: a heap, the earliest first. A state is a cell and a load, by its place in the rows from 0 on: cell * costs::ROW + load. Its delay is the word there.
 // What is promised is which states wait, not in what order they come: no answer depends on the order, only the time that it takes.
+#![tactic(auto)]
+
 ghost use Rattle.std.specs.Prelude.{◌≡◌, ◌*◌, ◌<◌, ltb};
 ghost use Rattle.costs.specs.Costs.{row_words};
 ghost use Rattle.queue.specs.Queue.{delay_at, Space, Slot, Queue, Exchanged, Requeued, Joined, Left};

@@ -13,7 +13,7 @@ use trail::{Trail, new_trail, rewind, stamped};
 
 // What one call of `load_layer` leaves for the next, beside the words: the table is that of `steps` steps in the span on this side with this weight to go after it.
 // The span was run at the cell `from`, of a plan of this width, with `most` steps: its layers are right in that cone.
-#[derive(Drop)]
+#[derive(Clone, Copy)]
 pub struct Layers {
     pub side: usize,
     pub weight: u32,

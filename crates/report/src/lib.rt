@@ -1,4 +1,6 @@
 // What the programs print of a call: its answer, and the words that it was lent. Each says whether all was written.
+#![tactic(auto)]
+
 mod answer;
 mod crossing;
 mod words;

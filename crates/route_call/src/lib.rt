@@ -1,4 +1,6 @@
 // A route call as a program makes it: with a part of its words.
+#![tactic(auto)]
+
 ghost use Rattle.std.specs.Prelude.{◌≡◌, take};
 ghost use Rattle.router.specs.Route.{question_of, answer_of};
 
@@ -7,7 +9,7 @@ use report::smaller;
 use router::route_with;
 
 // A route call without its plan. `scratch` and `visits` are how many words are lent.
-#[derive(Drop)]
+#[derive(Clone, Copy)]
 pub struct Call {
     pub width: u16,
     pub height: u16,

@@ -1,4 +1,6 @@
 // Runs document 01's R1 to R13, R1 and R3 with skew 1 (document 02, C-16), and each refusal 1 to 8, through the route call, and prints a line of each.
+#![tactic(auto)]
+
 mod call;
 
 use answers::{BufferList, BufferRecord, RegisterRecord, Tables, WireRecord};

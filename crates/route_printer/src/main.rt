@@ -1,6 +1,8 @@
 // Reads a job from standard input and writes the text of its answer: document 01, "The job and its printed sheet".
 // What it writes is `printed` of the bytes read (crates/printing). After a failed read it writes
 // nothing but a line on standard error.
+#![tactic(auto)]
+
 use printer::{read_deciding, write_answer};
 
 // The bytes of input that decide; `read_deciding` asks for just so many.

@@ -1,4 +1,6 @@
 // Routes on plans of the largest size, 32 by 32, and prints number, registers and steps of each. tests/speed times it.
+#![tactic(auto)]
+
 ghost use Rattle.std.specs.Prelude.{◌≡◌, length};
 
 use answers::{BufferList, BufferRecord, RegisterRecord, Tables, WireRecord};

@@ -10,7 +10,7 @@ use problem::{Net, Problem};
 use search::{Reached, search_anew};
 
 // Registers and steps of the best route, or that there is none.
-#[derive(Drop)]
+#[derive(Clone, Copy)]
 pub enum Least {
     Of(u16, u32),
     Nothing,

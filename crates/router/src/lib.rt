@@ -1,4 +1,6 @@
 // The covered route call: refusals in their order, then the best route of the problem.
+#![tactic(auto)]
+
 mod checks;
 mod least;
 mod ready;

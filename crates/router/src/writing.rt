@@ -9,7 +9,7 @@ use problem::Net;
 use rows::clear;
 
 // The smallest spare figure of a route, its registers on each side (the source's end is counted, the sink's is not), and whether its visits were written.
-#[derive(Drop)]
+#[derive(Clone, Copy)]
 pub struct Written {
     pub slack: i32,
     pub sink: u32,

@@ -1,4 +1,6 @@
 // The calls for outsiders that look for a route: `route` here, `route_crossing` in two_clocks.rt, `explain` in explaining.rt.
+#![tactic(auto)]
+
 ghost use Rattle.answers.specs.Lists.{list_of};
 ghost use Rattle.router.specs.Route.{question_of, Routed};
 

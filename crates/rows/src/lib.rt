@@ -1,5 +1,7 @@
 // Row operations on the scratch words. A row is 64 words, one a load; a word is one more than the largest delay, 0 for none.
 // What a step or a gate costs is a row too, of the array of all costs.
+#![tactic(auto)]
+
 ghost use Rattle.std.specs.Prelude.{◌≡◌, ◌+◌, ◌*◌, ◌-◌, ◌≤◌, ◌<◌, max, length};
 ghost use Rattle.costs.specs.Costs.{row_words, cost_words};
 ghost use Rattle.rows.specs.Words.{Filled};

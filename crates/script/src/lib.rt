@@ -1,4 +1,6 @@
 // A script is text: words and decimal numbers, apart by spaces and line ends. A `#` starts a comment, to the end of its line.
+#![tactic(auto)]
+
 mod numbers;
 mod words;
 

@@ -14,13 +14,13 @@ const LARGE: u32 = 1000000;
 const NONE: u32 = 2000000;
 
 // A number and where to read on.
-#[derive(Drop)]
+#[derive(Clone, Copy)]
 pub struct Number {
     pub value: u16,
     pub cursor: Cursor,
 }
 
-#[derive(Drop)]
+#[derive(Clone, Copy)]
 pub struct LargeNumber {
     pub value: u32,
     pub cursor: Cursor,

@@ -1,7 +1,7 @@
 // Words and lines.
 
 // The next byte of the script to be read, and what is wrong so far; 0: nothing.
-#[derive(Drop)]
+#[derive(Clone, Copy)]
 pub struct Cursor {
     pub at: usize,
     pub bad: u8,

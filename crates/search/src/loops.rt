@@ -13,7 +13,7 @@ use labels::{arrive_both, label};
 use layout::LABELS;
 use problem::Net;
 
-#[derive(Drop)]
+#[derive(Clone, Copy)]
 pub enum Reached {
     // The least weight after the first span, and steps, from the sink; the count of labels.
     Sink(u32, u32, usize),

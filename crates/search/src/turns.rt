@@ -16,7 +16,7 @@ use trail::no_trail;
 // Where the search stands: the weight to go after the current span, the steps to go, the count of the active list;
 // of the registers' labels those before `at` in the order are seeds, `count` is the order's length; of the FIFOs' those before `exit` are.
 // On a side after a FIFO, `watched` labels of those that lead here are made.
-#[derive(Drop)]
+#[derive(Clone, Copy)]
 pub struct Progress {
     pub weight: u32,
     pub steps: u32,
@@ -27,7 +27,7 @@ pub struct Progress {
     pub watched: usize,
 }
 
-#[derive(Drop)]
+#[derive(Clone, Copy)]
 pub enum Turn {
     // Labels that are not after this weight and these steps are to become seeds.
     On(Progress),

@@ -9,7 +9,7 @@ pub const JOURNAL_BYTES: usize = 1024;
 pub const ENTRY_BYTES: usize = 4;
 
 // One move: its cell, the marks there before it, its own marks.
-#[derive(Drop)]
+#[derive(Clone, Copy)]
 pub struct Entry {
     pub cell: u16,
     pub old: u8,

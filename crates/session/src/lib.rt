@@ -1,4 +1,6 @@
 // Sessions: open, move and undo on a plan, a record and a journal. Document 01, "Calls and what they leave".
+#![tactic(auto)]
+
 mod calls;
 mod checks;
 mod journal;

@@ -3,7 +3,7 @@ ghost use Rattle.std.specs.Prelude.{◌≡◌};
 ghost use Rattle.session.specs.Numbers.{is_done, session_number};
 
 // The session record: the plan's sides and the number of moves in the journal.
-#[derive(Drop)]
+#[derive(Clone, Copy)]
 pub struct Session {
     pub width: u16,
     pub height: u16,
@@ -11,7 +11,7 @@ pub struct Session {
 }
 
 // The answer of open, set_marks and undo.
-#[derive(Drop)]
+#[derive(Clone, Copy)]
 pub enum SessionAnswer {
     Done,
     Grid,
@@ -33,7 +33,7 @@ pub enum SessionAnswer {
 }
 
 // An answer and the session record after the call.
-#[derive(Drop)]
+#[derive(Clone, Copy)]
 pub struct SessionStep {
     pub answer: SessionAnswer,
     pub session: Session,

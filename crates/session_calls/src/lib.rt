@@ -1,4 +1,6 @@
 // The session's calls for outsiders: open, move and undo.
+#![tactic(auto)]
+
 ghost use Rattle.session.specs.Steps.{state_of, Opened, Moved, Undone};
 
 use session::{Session, SessionAnswer, SessionStep, open_at, set_marks_at, undo_at};

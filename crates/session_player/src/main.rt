@@ -27,6 +27,8 @@
 // A failed read or write ends the program with a line on standard error. A script whose read fails is not played.
 //
 // The calls are the covered functions below `planner`'s: a caller of those would be a walk too. `tests/calls` runs those.
+#![tactic(auto)]
+
 mod calls;
 mod lines;
 mod play;

@@ -1,4 +1,6 @@
 // Spans on their way, from a cell to its neighbours.
+#![tactic(auto)]
+
 mod arrivals;
 mod steps;
 

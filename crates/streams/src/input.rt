@@ -7,7 +7,7 @@ use libc::{EINTR, STDIN_FILENO};
 const INTERRUPTIONS: u32 = 1000000;
 
 // So many bytes stand at the start of the room; a failed read came after them.
-#[derive(Drop)]
+#[derive(Clone, Copy)]
 pub struct Input {
     pub bytes: usize,
     pub failed: bool,

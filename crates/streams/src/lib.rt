@@ -1,5 +1,7 @@
 // Standard input, read into a lent room, and standard output. Both are tried again after an interruption, and both say
 // whether they failed.
+#![tactic(auto)]
+
 mod input;
 mod output;
 

@@ -1,4 +1,6 @@
 // One layer of the delay-budget table, on the lent scratch words.
+#![tactic(auto)]
+
 mod arrival;
 mod layer;
 mod pushes;

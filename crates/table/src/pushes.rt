@@ -14,7 +14,7 @@ use rows::{grows, push_row};
 use trail::{Trail, save};
 
 // The count of the next list, and the trail.
-#[derive(Drop)]
+#[derive(Clone, Copy)]
 pub struct Grown {
     pub count: usize,
     pub trail: Trail,

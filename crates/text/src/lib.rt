@@ -1,4 +1,6 @@
 // The text that the route printer writes: document 01, "The job and its printed sheet".
+#![tactic(auto)]
+
 mod answer;
 mod put;
 

@@ -5,7 +5,7 @@ ghost use Rattle.timing.specs.Clocks.{one_clock};
 use crate::elements::Register;
 
 // How many FIFOs a route has, the period of the spans beyond them (the sink's is that of the tables), in ticks, and the FIFO.
-#[derive(Drop)]
+#[derive(Clone, Copy)]
 pub struct Clocks {
     pub fifos: usize,
     pub period: u16,

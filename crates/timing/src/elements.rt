@@ -10,27 +10,27 @@ ghost use Rattle.timing.specs.Elements.{WireInRange, DriverInRange, RegisterInRa
 use crate::units::{HalfTicks, Load, Resistance};
 
 // One step of wire.
-#[derive(Drop)]
+#[derive(Clone, Copy)]
 pub struct Wire {
     resistance: Resistance,
     load: Load,
 }
 
 // What drives a wire: the output of a buffer or a register. The delay is in ticks.
-#[derive(Drop)]
+#[derive(Clone, Copy)]
 pub struct Driver {
     resistance: Resistance,
     delay: u16,
 }
 
-#[derive(Drop)]
+#[derive(Clone, Copy)]
 pub struct Buffer {
     driver: Driver,
     load: Load,
 }
 
 // The setup is in ticks.
-#[derive(Drop)]
+#[derive(Clone, Copy)]
 pub struct Register {
     driver: Driver,
     load: Load,
@@ -38,7 +38,7 @@ pub struct Register {
 }
 
 // The checked tables: codes 1 to count are the first buffers. The period and the skew are in ticks.
-#[derive(Drop)]
+#[derive(Clone, Copy)]
 pub struct Elements {
     pub period: u16,
     pub skew: u16,
@@ -50,19 +50,19 @@ pub struct Elements {
     pub buffers: [Buffer; Elements::BUFFERS_MAX],
 }
 
-#[derive(Drop)]
+#[derive(Clone, Copy)]
 pub enum WireCheck {
     Valid(Wire),
     OutOfRange,
 }
 
-#[derive(Drop)]
+#[derive(Clone, Copy)]
 pub enum BufferCheck {
     Valid(Buffer),
     OutOfRange,
 }
 
-#[derive(Drop)]
+#[derive(Clone, Copy)]
 pub enum RegisterCheck {
     Valid(Register),
     OutOfRange,

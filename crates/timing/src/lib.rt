@@ -1,5 +1,7 @@
 // Elements and their timing: document 01, "Elements" and the delay formulas of "Legal routes".
 // Only Wire::delay and Driver::delay join a resistance, a load and a delay.
+#![tactic(auto)]
+
 mod clocks;
 mod elements;
 mod slack;

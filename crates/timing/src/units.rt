@@ -6,15 +6,15 @@ ghost use Rattle.timing.specs.Slack.{slack_of};
 use crate::slack::{LOWEST, MISS_MOST};
 
 // Load units.
-#[derive(Drop)]
+#[derive(Clone, Copy)]
 pub struct Load(pub u16);
 
 // Ticks per load unit.
-#[derive(Drop)]
+#[derive(Clone, Copy)]
 pub struct Resistance(pub u16);
 
 // A delay in half-ticks.
-#[derive(Drop)]
+#[derive(Clone, Copy)]
 pub struct HalfTicks(pub u32);
 
 impl Load {

@@ -1,4 +1,6 @@
 // Boundary values of the elements, the formulas, the spare figures, the checks of tables and ends, and the answers.
+#![tactic(auto)]
+
 mod answer;
 mod crossing;
 mod delay;

@@ -1,5 +1,7 @@
 // The undo trail: rows of the table as they were before a layer changed them, in the scratch words that nothing else needs: from `layout::TRAIL` on, then between the arrival row and `layout::LABELS`.
 // An entry is a slot: the row, the cell, the layer in two words. The entries are a ring: when it is full the oldest is forgotten.
+#![tactic(auto)]
+
 ghost use Rattle.std.specs.Prelude.{◌≡◌, ◌⊎◌, ◌+◌, ◌*◌, ◌≤◌, ◌<◌, length, get_or};
 ghost use Rattle.layout.specs.Layout.{slot_words};
 ghost use Rattle.rows.specs.Words.{Filled};
@@ -10,7 +12,7 @@ use costs::ROW;
 use layout::{FAR_WORDS, LABELS, NEAR_WORDS, SLOT, SLOT_CELL, SLOT_HIGH, SLOT_LOW, TRAIL};
 
 // `room` slots, of which `count` are in use, the oldest at `start`. Layers up to `low` cannot be undone. `stamp` is the layer that is being made.
-#[derive(Drop)]
+#[derive(Clone, Copy)]
 pub struct Trail {
     pub room: usize,
     pub start: usize,

@@ -7,7 +7,7 @@ use answers::VisitFault;
 use timing::{Elements, HalfTicks, Load, smaller_slack};
 
 // Where the visits judged so far have come: the last one's cell, the load and delay after its gate, and the smallest spare figure of the spans closed so far. The delay stops at DELAY_CAP.
-#[derive(Drop)]
+#[derive(Clone, Copy)]
 pub struct Point {
     pub cell: usize,
     pub load: Load,
@@ -15,7 +15,7 @@ pub struct Point {
     pub slack: i32,
 }
 
-#[derive(Drop)]
+#[derive(Clone, Copy)]
 pub enum VisitStep {
     On(Point),
     Fault(VisitFault),

@@ -1,4 +1,6 @@
 // The verdict on a route list from outside: document 02, C-11. Its whole effect is specs/Verdict.antt.
+#![tactic(auto)]
+
 ghost use Rattle.std.specs.Prelude.{◌≡◌};
 ghost use Rattle.answers.specs.Tables.{checked_list};
 ghost use Rattle.question.specs.Question.{question_of};

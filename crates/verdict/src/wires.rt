@@ -7,7 +7,7 @@ use plan::neighbours_of;
 use problem::Problem;
 use timing::Wire;
 
-#[derive(Drop)]
+#[derive(Clone, Copy)]
 pub enum Link {
     Over(Wire),
     Nothing,
