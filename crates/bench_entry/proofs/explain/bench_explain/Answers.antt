@@ -1,0 +1,16 @@
+-- The lengths decide; where they are right, the reasons were asked.
+use mathlib.Core.Path.{refl, sym, ◌∙◌}
+use Rattle.bench_words.proofs.Told.{right-lengths}
+use Rattle.bench_entry.proofs.explain.bench_explain.Goals as goal
+
+pub ask_why-requires : goal.ask_why-requires
+ask_why-requires c = right-lengths _ _ _ (sym c.lengths_right.ensures ∙ c.if-lengths_right.true)
+
+pub returns-then-lengths_right : goal.returns-then-lengths_right
+returns-then-lengths_right c =
+    let asked = c.before.before.before.before in
+    let tested = asked.before.before.before in
+    rw (sym tested.lengths_right.ensures ∙ tested.if-lengths_right.true) asked.ask_why.ensures
+
+pub returns : goal.returns
+returns c = rw (sym c.lengths_right.ensures ∙ c.if-lengths_right.false) (record { number = refl; scratch_left = refl; told_left = refl })

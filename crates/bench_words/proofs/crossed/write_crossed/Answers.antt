@@ -1,0 +1,26 @@
+-- Six stores from the start.
+use mathlib.Core.Path.{ap, ◌∙◌}
+use native.Mathlib.Omega.{arith}
+use lib.ListN.{length-set}
+use mir.Facts.{to_z-of_z}
+use mir.Syntax.{w32}
+use Rattle.timing.specs.Slack.{magnitude}
+use Rattle.bench_words.proofs.Told.{crossed-stored}
+use Rattle.bench_words.proofs.crossed.write_crossed.Reads as reads
+use Rattle.bench_words.proofs.crossed.write_crossed.Lts as lts
+use Rattle.bench_words.proofs.crossed.crossing_fault.Reads as crossing-fault-reads
+use Rattle.bench_words.proofs.crossed.write_crossed.Goals as goal
+
+pub bounds-figures-4 : goal.bounds-figures-4
+bounds-figures-4 c = simp length-set (omega (arith, c.requires))
+
+pub bounds-figures-5 : goal.bounds-figures-5
+bounds-figures-5 c = simp length-set (omega (arith, c.requires))
+
+pub returns : goal.returns
+returns c =
+    let told = c.before in
+    let figures = told.before.before in
+    let start = figures.before.before in
+    let own = to_z-of_z {w = w32} {z = figures.figures-f.result.slack} (record { sfits = told.struct_told-1.given.1.1.1.1.0.1 }) in
+    crossed-stored _ start.args.figures.now figures.figures-f.result _ _ figures.figures-f.ensures told.crossing_fault.ensures (c.slack_magnitude.ensures ∙ ap magnitude own) start.requires

@@ -1,0 +1,26 @@
+-- Five stores from the start.
+use mathlib.Core.Path.{ap, ◌∙◌}
+use native.Mathlib.Omega.{arith}
+use lib.ListN.{length-set}
+use mir.Facts.{to_z-of_z}
+use mir.Syntax.{w32}
+use Rattle.timing.specs.Slack.{magnitude}
+use Rattle.bench_words.proofs.Told.{stored}
+use Rattle.bench_words.proofs.figures.write_figures.Goals as goal
+
+pub bounds-figures-1 : goal.bounds-figures-1
+bounds-figures-1 c = simp length-set (omega arith)
+
+pub bounds-figures-2 : goal.bounds-figures-2
+bounds-figures-2 c = simp length-set (omega arith)
+
+pub bounds-figures-4 : goal.bounds-figures-4
+bounds-figures-4 c = simp length-set (omega (arith, c.requires))
+
+pub returns : goal.returns
+returns c =
+    let told = c.before in
+    let figures = told.before.before.before in
+    let start = figures.before.before in
+    let own = to_z-of_z {w = w32} {z = figures.figures-f.result.slack} (record { sfits = told.struct_told-1.given.1.1.1.0.1 }) in
+    stored _ start.args.figures.now figures.figures-f.result _ _ figures.figures-f.ensures told.answer_fault.ensures (c.slack_magnitude.ensures ∙ ap magnitude own) start.requires

@@ -1,0 +1,76 @@
+-- The tests of the code, in the order of the codes, by the laws of `Codes`.
+use Prim.Native.Nat.{ℕ, ◌+◌, ◌<◌, ◌≤◌}
+use mathlib.Core.Path.{◌≡◌, sym, ◌∙◌}
+use mathlib.Core.Logic.{⊎_elim}
+use native.Mathlib.Omega.{arith}
+use lib.Dec.{T, ltb}
+use lib.ListN.{length, get_or}
+use Rattle.rules.specs.Rules.{register_code, fifo_code}
+use Rattle.plan.proofs.Truth.{of-true}
+use Rattle.rows.specs.Rows.{view_of}
+use Rattle.labels.specs.Labels.{labels_for}
+use Rattle.table.specs.Problem.{net_rules, budget_of}
+use Rattle.choice.specs.Choice.{delay_most}
+use Rattle.choice.specs.Codes.{goes_at}
+use Rattle.choice.proofs.Codes.{high-closes, code-first, code-none, code-buffer, no_buffer, no-site, low-more}
+use Rattle.choice.proofs.first_code.Goals as goal
+use Rattle.choice.proofs.first_code.Goals.{After-below, After-shared_slice_known-2-1, Else-closes, Joined-takes_buffers}
+
+-- all words have 16 bits
+bits : (c : After-shared_slice_known-2-1) → (k : ℕ) → get_or c.args.scratch.now k 0 ≤ delay_most
+bits c k = omega (arith, c.shared_slice_known-2-1.given k)
+
+-- the test of the delay against the table's word
+tested : (c : After-below) → let a = c.args in ltb a.at.delay.0 (view_of a.scratch.now a.at.cell a.at.load.0) ≡ c.below.result
+tested c = sym (rw c.budget_at.ensures at c.below.ensures)
+
+-- past the buffers, no code below the register's goes on
+low : (c : Joined-takes_buffers) → let a = c.args in (code : ℕ) → code < register_code → T (goes_at (net_rules a.net a.plan.now) (labels_for (length a.plan.now) a.exits a.scratch.now) (budget_of (length a.plan.now) a.scratch.now) a.at code) → ⊥
+low c =
+    let start = c.before.before.before.before.before.before.before.before.before in
+    ⊎_elim
+    (λ w. no_buffer start.args.net start.args.plan.now start.args.exits start.args.scratch.now start.args.at start.requires (tested c.before.before.before.before.before ∙ c.if-below.false) (sym c.takes_buffers.ensures ∙ w.0.taken) _ w.1.ensures w.3.left)
+    (λ w. no-site start.args.net start.args.plan.now start.args.exits start.args.scratch.now start.args.at start.requires (tested c.before.before.before.before.before ∙ c.if-below.false) (sym c.takes_buffers.ensures ∙ w.left))
+    c.if-takes_buffers.branch
+
+-- nor the register's
+low-fifo : (c : Else-closes) → let a = c.args in (code : ℕ) → code < fifo_code → T (goes_at (net_rules a.net a.plan.now) (labels_for (length a.plan.now) a.exits a.scratch.now) (budget_of (length a.plan.now) a.scratch.now) a.at code) → ⊥
+low-fifo c =
+    let start = c.before.before.before.before.before.before.before.before.before.before.before in
+    low-more start.args.net start.args.plan.now start.args.exits start.args.scratch.now start.args.at start.requires register_code (low c.before.before) (sym c.closes.ensures ∙ c.if-closes.false)
+
+pub returns-then-below : goal.returns-then-below
+returns-then-below c =
+    let start = c.before.before.before.before.before in
+    code-none start.args.net start.args.plan.now start.args.exits start.args.scratch.now start.args.at start.requires (bits c.before.before.before) (tested c.before ∙ c.if-below.true)
+
+pub returns-then-i-elements : goal.returns-then-i-elements
+returns-then-i-elements c =
+    let start = c.before.before.before.before.before.before.before.before.before.before.before.before in
+    code-buffer start.args.net start.args.plan.now start.args.exits start.args.scratch.now start.args.at start.requires (bits c.before.before.before.before.before.before.before.before.before.before) (tested c.before.before.before.before.before.before.before.before ∙ c.if-below.false) (sym c.takes_buffers.ensures ∙ c.if-takes_buffers.true) _ c.first_buffer-i.ensures c.if-i-elements.true
+
+pub closes-requires : goal.closes-requires
+closes-requires c = (c.requires, high-closes _ (omega arith) (omega arith))
+
+pub returns-then-closes : goal.returns-then-closes
+returns-then-closes c =
+    let joined = c.before.before in
+    let start = joined.before.before.before.before.before.before.before.before.before in
+    code-first start.args.net start.args.plan.now start.args.exits start.args.scratch.now start.args.at start.requires (bits joined.before.before.before.before.before.before.before) register_code (omega arith) (λ k. of-true (goes_at _ _ _ _ _) (sym c.closes.ensures ∙ c.if-closes.true)) (low joined)
+
+pub closes-requires-2 : goal.closes-requires-2
+closes-requires-2 c = (c.requires, high-closes _ (omega arith) (omega arith))
+
+pub returns-then-closes-2 : goal.returns-then-closes-2
+returns-then-closes-2 c =
+    let else = c.before.before in
+    let joined = else.before.before in
+    let start = joined.before.before.before.before.before.before.before.before.before in
+    code-first start.args.net start.args.plan.now start.args.exits start.args.scratch.now start.args.at start.requires (bits joined.before.before.before.before.before.before.before) fifo_code (omega arith) (λ k. of-true (goes_at _ _ _ _ _) (sym c.closes-2.ensures ∙ c.if-closes-2.true)) (low-fifo else)
+
+pub returns : goal.returns
+returns c =
+    let else = c.before.before in
+    let joined = else.before.before in
+    let start = joined.before.before.before.before.before.before.before.before.before in
+    code-first start.args.net start.args.plan.now start.args.exits start.args.scratch.now start.args.at start.requires (bits joined.before.before.before.before.before.before.before) (fifo_code + 1) (omega arith) (λ k. absurd (omega arith)) (low-more start.args.net start.args.plan.now start.args.exits start.args.scratch.now start.args.at start.requires fifo_code (low-fifo else) (sym c.closes-2.ensures ∙ c.if-closes-2.false))

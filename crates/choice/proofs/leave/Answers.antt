@@ -1,0 +1,100 @@
+-- One case a kind of gate.
+use Prim.Native.Nat.{◌-◌}
+use mathlib.Core.Path.{◌≡◌, refl, sym, ap₂, ◌∙◌}
+use native.Mathlib.Omega.{arith}
+use borrow.Author.Tests.{eq-eqb, ne_eqb}
+use mir.Facts.{to_z-of_z}
+use mir.Syntax.{w32}
+use Rattle.timing.specs.Elements.{buffer_of, driver_of}
+use Rattle.timing.specs.Formulas.{buffer_driver}
+use Rattle.timing.specs.Slack.{smaller}
+use Rattle.rules.specs.Rules.{no_gate, is_closing}
+use Rattle.plan.proofs.Truth.{is_true, is_false}
+use Rattle.rules.proofs.View.{side-kept}
+use Rattle.costs.specs.Costs.{buffer_at}
+use Rattle.choice.specs.Codes.{left_load, left_delay, left_weight, left_slack}
+use Rattle.costs.proofs.Checked.{buffer-driver-fits}
+use Rattle.choice.proofs.Codes.{below-open, high-closes}
+use Rattle.choice.proofs.leave.Goals as goal
+
+pub returns-then-code-eq0 : goal.returns-then-code-eq0
+unfolding left_load left_delay left_weight left_slack
+returns-then-code-eq0 c =
+    let code = c.args.code in
+    let unclosed = below-open code (omega (arith, c.if-code-eq0.true)) in
+    let passes = is_false (is_closing code) unclosed in
+    record {
+      cell = refl;
+      load = simp (eq-eqb code no_gate c.if-code-eq0.true);
+      delay = simp (eq-eqb code no_gate c.if-code-eq0.true);
+      weight = simp passes;
+      steps = refl;
+      slack = simp passes;
+      side = sym (side-kept _ code unclosed);
+    }
+
+pub slack-close-requires : goal.slack-close-requires
+slack-close-requires c =
+    let start = c.before.before.before.before in
+    (rw c.gate-gate.ensures start.requires.gate, (rw c.period.ensures start.requires.period, (start.requires.valid.skew, (start.requires.light, omega (arith, start.requires.early)))))
+
+pub start_delay-requires : goal.start_delay-requires
+start_delay-requires c =
+    let start = c.before.before.before.before.before.before.before in
+    rw c.gate-gate.ensures start.requires.gate
+
+pub returns-then-code-ge7 : goal.returns-then-code-ge7
+unfolding left_load left_delay left_weight left_slack
+returns-then-code-ge7 c =
+    let after-load = c.before.before.before.before.before in
+    let after-slack = after-load.before.before in
+    let after-gate = after-slack.before.before in
+    let start = after-gate.before.before.before in
+    let at = start.args.at in
+    let code = start.args.code in
+    let shuts = is_true (is_closing code) (high-closes code start.requires.small after-gate.if-code-ge7.true) in
+    let some = after-gate.if-code-eq0.false in
+    let gate = after-gate.gate-gate.ensures in
+    let side = after-load.side_after-side.ensures in
+    let own = to_z-of_z {w = w32} {z = at.slack-close} (record { sfits = c.struct_told-1.given.1.1.1.1.1.0.1 }) in
+    let close = to_z-of_z {w = w32} {z = after-slack.slack-close.result} (record { sfits = after-slack.slack-close.type-inv }) in
+    let made = to_z-of_z {w = w32} {z = c.smaller_slack.result} (record { sfits = c.smaller_slack.type-inv }) in
+    record {
+      cell = refl;
+      load = simp (ne_eqb code no_gate some, shuts) (rw gate at after-load.load.ensures);
+      delay = simp (ne_eqb code no_gate some, shuts) (rw gate at c.start_delay.ensures);
+      weight = simp shuts (rw (c.weight.ensures, side) at c.fewer.ensures);
+      steps = refl;
+      slack = simp shuts (made ∙ (c.smaller_slack.ensures ∙ ap₂ smaller own (close ∙ rw (gate, after-slack.period.ensures) at after-slack.slack-close.ensures)));
+      side = side;
+    }
+
+pub after-requires : goal.after-requires
+unfolding buffer_at buffer_of driver_of
+after-requires c =
+    let else = c.before.before.before.before in
+    let start = else.before.before in
+    let driver : c.driver.result ≡ buffer_driver (buffer_at start.args.net.problem.elements (start.args.code - 1)) = c.driver.ensures in
+    (rw driver (buffer-driver-fits start.requires.valid (start.args.code - 1) (omega (arith, else.if-code-ge7.false))), (start.requires.light, omega (arith, start.requires.early)))
+
+pub returns : goal.returns
+unfolding left_load left_delay left_weight left_slack buffer_at buffer_of driver_of
+returns c =
+    let after-load = c.before.before.before in
+    let else = after-load.before.before.before in
+    let start = else.before.before in
+    let code = start.args.code in
+    let b = buffer_at start.args.net.problem.elements (code - 1) in
+    let some = else.if-code-eq0.false in
+    let unclosed = below-open code (omega (arith, else.if-code-ge7.false)) in
+    let passes = is_false (is_closing code) unclosed in
+    let driver : c.driver.result ≡ buffer_driver b = c.driver.ensures in
+    record {
+      cell = refl;
+      load = simp (ne_eqb code no_gate some, passes) after-load.load-2.ensures;
+      delay = simp (ne_eqb code no_gate some, passes) (rw driver at c.after.ensures);
+      weight = simp passes;
+      steps = refl;
+      slack = simp passes (to_z-of_z {w = w32} {z = start.args.at.slack} (record { sfits = c.struct_told-2-1.given.1.1.1.1.1.0.1 }));
+      side = sym (side-kept _ code unclosed);
+    }

@@ -1,0 +1,85 @@
+-- The load and the delay on arrival are the rules', so that the first code there makes the first visit.
+use Prim.Native.Nat.{◌+◌, ◌<◌, ◌≤◌}
+use mathlib.Core.Path.{◌≡◌, refl, sym, ◌∙◌}
+use native.Mathlib.Omega.{arith}
+use borrow.Author.Tests.{leb-true, leb-false, not-true, not-false}
+use lib.ListN.{length}
+use mir.Facts.{to_z-of_z}
+use mir.Syntax.{w32}
+use mir.Val.{to_z, of_z}
+use Rattle.timing.specs.Formulas.{wire_delay, wire_load}
+use Rattle.timing.proofs.Bounds.{wire-delay-max}
+use Rattle.rules.specs.Rules.{fifo_code}
+use Rattle.choice.proofs.Visits.{no-neighbour, too-heavy, at-asks, leave-asks, no_code, first-visit}
+use Rattle.choice.proofs.try_cell.Goals as goal
+use Rattle.choice.proofs.try_cell.Goals.{After-plus, After-plus-load, After-struct_told-1, Else-cell-plan, Else-code-eq9, Else-not-at_most, Then-not-at_most}
+
+inside : (c : Else-cell-plan) → c.args.cell < length c.args.plan.now
+inside c = omega (arith, c.requires.within, c.if-cell-plan.false)
+
+loads : (c : After-plus-load) → let a = c.args in c.plus-load.result.0 ≡ a.from.load.0 + wire_load a.wire
+loads c = omega (arith, c.plus-load.ensures, c.load.ensures)
+
+delays : (c : After-plus) → let a = c.args in c.plus.result.0 ≡ a.from.delay.0 + wire_delay a.wire a.from.load.0
+delays c = omega (arith, c.plus.ensures, c.delay.ensures)
+
+-- the test of the load on arrival
+light : (c : Else-not-at_most) → c.plus-load.result.0 ≤ c.args.net.problem.elements.limit.0
+light c = leb-true _ _ (sym c.at_most.ensures ∙ not-false _ c.if-not-at_most.false-raw)
+
+heavy : (c : Then-not-at_most) → c.args.net.problem.elements.limit.0 < c.plus-load.result.0
+heavy c = leb-false _ _ (sym c.at_most.ensures ∙ not-true _ c.if-not-at_most.true-raw)
+
+-- the smallest figure so far, handed on
+figure : (c : After-struct_told-1) → let a = c.args in to_z w32 (of_z w32 a.from.slack) ≡ a.from.slack
+figure c = to_z-of_z {w = w32} (record { sfits = c.struct_told-1.given.1.1.1.1.1.0.1 })
+
+-- a code that is not 9
+small : (c : Else-code-eq9) → c.first_code-code.result ≤ fifo_code
+small c = omega (arith, c.first_code-code.ensures.within, c.if-code-eq9.false)
+
+pub returns-then-cell-plan : goal.returns-then-cell-plan
+returns-then-cell-plan c =
+    let start = c.before.before.before in
+    no-neighbour start.args.net start.args.plan.now start.args.exits start.args.scratch.now start.args.from start.args.cell start.args.wire start.requires c.if-cell-plan.true
+
+pub plus-load-requires : goal.plus-load-requires
+unfolding wire_load
+plus-load-requires c =
+    let start = c.before.before.before.before in
+    (start.requires.asks.in_range.light, omega (arith, c.load.ensures, start.requires.wire_fits.load))
+
+pub returns-then-not-at_most : goal.returns-then-not-at_most
+returns-then-not-at_most c =
+    let start = c.before.before.before.before.before.before.before in
+    let from = start.args.from in
+    too-heavy start.args.net start.args.plan.now start.args.exits start.args.scratch.now start.args.from start.args.cell start.args.wire start.requires (inside c.before.before.before.before) _ (from.delay.0 + wire_delay start.args.wire from.load.0) from.slack (loads c.before.before) refl refl (heavy c)
+
+pub plus-requires : goal.plus-requires
+plus-requires c =
+    let start = c.before.before.before.before.before.before.before.before in
+    omega (arith, c.delay.ensures, start.requires.asks.in_range.early, wire-delay-max start.args.wire start.args.from.load.0 start.requires.wire_fits start.requires.asks.in_range.light)
+
+pub first_code-code-requires : goal.first_code-code-requires
+first_code-code-requires c =
+    let told = c in
+    let start = told.before.before.before.before.before.before.before.before.before.before.before in
+    at-asks start.args.net start.args.plan.now start.args.exits start.args.scratch.now start.args.from start.args.cell start.args.wire start.requires (inside told.before.before.before.before.before.before.before.before) _ _ _ (loads told.before.before.before.before.before.before) (delays told.before.before) (figure told) (light told.before.before.before.before)
+
+pub returns-then-code-eq9 : goal.returns-then-code-eq9
+returns-then-code-eq9 c =
+    let told = c.before.before in
+    let start = told.before.before.before.before.before.before.before.before.before.before.before in
+    no_code start.args.net start.args.plan.now start.args.exits start.args.scratch.now start.args.from start.args.cell start.args.wire start.requires (inside told.before.before.before.before.before.before.before.before) _ _ _ (loads told.before.before.before.before.before.before) (delays told.before.before) (figure told) (light told.before.before.before.before) (rw c.if-code-eq9.true at c.first_code-code.ensures)
+
+pub leave-requires : goal.leave-requires
+leave-requires c =
+    let told = c.before.before in
+    let start = told.before.before.before.before.before.before.before.before.before.before.before in
+    leave-asks start.args.net start.args.plan.now start.args.exits start.args.scratch.now start.args.from start.args.cell start.args.wire start.requires (inside told.before.before.before.before.before.before.before.before) _ _ _ (loads told.before.before.before.before.before.before) (delays told.before.before) (figure told) (light told.before.before.before.before) _ (small c)
+
+pub returns : goal.returns
+returns c =
+    let told = c.before.before.before in
+    let start = told.before.before.before.before.before.before.before.before.before.before.before in
+    first-visit start.args.net start.args.plan.now start.args.exits start.args.scratch.now start.args.from start.args.cell start.args.wire start.requires (inside told.before.before.before.before.before.before.before.before) _ _ _ (loads told.before.before.before.before.before.before) (delays told.before.before) (figure told) (light told.before.before.before.before) _ _ c.leave.ensures (small c.before) c.first_code-code.ensures

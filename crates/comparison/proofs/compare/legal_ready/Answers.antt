@@ -1,0 +1,61 @@
+-- The verdict accepts exactly the legal routes.
+use Prim.Native.Nat.{ℕ, ◌≤◌}
+use mathlib.Core.Bool.{Bool, true, false}
+use mathlib.Core.Logic.{⊎_elim}
+use mathlib.Core.Path.{◌≡◌, refl, sym, ap, ◌∙◌}
+use native.Mathlib.Omega.{arith}
+use borrow.Author.Rules.{rules}
+use lib.IntN.{ℤ}
+use lib.ListN.{length}
+use Rattle.plan.proofs.Truth.{decided, is_true, is_false}
+use Rattle.answers.specs.declared.verdicts.Verdict.{Verdict}
+use Rattle.answers.specs.declared.verdicts.Verdict.TheVariants.{Accepted, AtFault, Refused}
+use Rattle.problem.specs.Problem.{rules_for}
+use Rattle.rules.specs.Rules.{Rules}
+use Rattle.rules.specs.Legal.{Route, legal}
+use Rattle.rules.specs.Slack.{least_slack}
+use Rattle.verdict.specs.Verdict.{route_in, judge_route}
+use Rattle.verdict.proofs.Accepted.{accepted-legal, legal-accepted}
+use Rattle.verdict.proofs.Routes.{good-visits}
+use Rattle.comparison.proofs.compare.legal_ready.Goals as goal
+use Rattle.comparison.proofs.compare.legal_ready.Goals.{After-judge_ready-verdict, Start}
+
+abbrev start : After-judge_ready-verdict → Start
+start c = c.before.before.before
+
+abbrev rules : Start → Rules
+rules s = rules_for s.args.p s.args.plan.now
+
+abbrev route : Start → Route
+route s = route_in s.args.words.now
+
+abbrev accepts : Verdict → Bool
+accepts (Accepted z) = true
+accepts (AtFault i f) = false
+accepts (Refused k) = false
+
+accepts-legal : (R : Rules) (r : Route) → 2 ≤ length r → accepts (judge_route R r) ≡ legal R r
+accepts-legal R r h = go (judge_route R r) refl
+  where
+    not : ((z : ℤ) → judge_route R r ≡ Accepted z → ⊥) → false ≡ legal R r
+    not n = ⊎_elim (λ k. absurd (n (least_slack R r) (legal-accepted R r k))) (λ k. sym (is_false (legal R r) k)) (decided (legal R r))
+
+    go : (v : Verdict) → judge_route R r ≡ v → accepts v ≡ legal R r
+    go (Accepted z) e = sym (is_true (legal R r) ((accepted-legal R r h z).0 e).0)
+    go (AtFault i f) e = not (λ y k. let z : ◌≡◌ {A = ℕ} 0 1 = cc in omega arith)
+    go (Refused k) e = not (λ y k. let z : ◌≡◌ {A = ℕ} 0 1 = cc in omega arith)
+
+-- what the verdict told says whether the list is legal
+told : (c : After-judge_ready-verdict) (v : Verdict) → c.judge_ready-verdict.result ≡ v → accepts v ≡ legal (rules (start c)) (route (start c))
+told c v e =
+    let s = start c in
+    ap accepts (sym e ∙ c.judge_ready-verdict.ensures) ∙ accepts-legal (rules s) (route s) (good-visits _ s.requires.1)
+
+pub returns-in-Accepted : goal.returns-in-Accepted
+returns-in-Accepted c = told c.before.before _ c.in-Accepted.is
+
+pub returns-in-AtFault : goal.returns-in-AtFault
+returns-in-AtFault c = told c.before.before _ c.in-AtFault.is
+
+pub returns-in-Refused : goal.returns-in-Refused
+returns-in-Refused c = told c.before.before _ c.in-Refused.is

@@ -1,0 +1,35 @@
+use Prim.Native.Nat.{◌-◌}
+use mathlib.Core.Logic.{⊎_elim}
+use mathlib.Core.Path.{◌≡◌}
+use native.Mathlib.Omega.{arith}
+use Rattle.rules.specs.Ranking.{code_sevens, registers}
+use Rattle.verdict.specs.Verdict.{route_in}
+use Rattle.comparison.proofs.Rest.{counted_none, counted-register, counted-other, counted-all}
+use Rattle.comparison.proofs.ranks.registers_of.Goals as goal
+use Rattle.comparison.proofs.ranks.registers_of.Goals.{After-loop-i}
+
+pub loop-i-init : goal.loop-i-init
+loop-i-init c = (omega arith, counted_none _)
+
+pub loop-i-preserved : goal.loop-i-preserved
+loop-i-preserved c =
+    let k = c.before.before.before in
+    let so = k.loop-i.invariant.1 in (
+      omega arith,
+      ⊎_elim
+          (λ w. rw w.1 (counted-register _ _ _ so (omega arith) w.0.taken))
+          (λ w. rw w.1 (counted-other _ _ _ so (omega arith) w.0.left))
+          c.if-words-i-eq7.branch,
+    )
+
+-- all are counted
+all : (c : After-loop-i) → c.loop-i.count ≡ code_sevens (route_in c.args.words.now)
+all c = counted-all _ _ _ c.loop-i.invariant.1 (omega arith)
+
+pub returns-then-count-lt2 : goal.returns-then-count-lt2
+unfolding registers
+returns-then-count-lt2 c = omega (arith, all c.before)
+
+pub returns : goal.returns
+unfolding registers
+returns c = omega (arith, all c.before)

@@ -1,0 +1,31 @@
+use Prim.Native.Nat.{◌-◌}
+use mathlib.Core.Path.{◌∙◌}
+use mathlib.Core.Logic.{⊎_elim}
+use native.Mathlib.Omega.{arith}
+use borrow.Author.Tests.{le-leb, lt-leb}
+use Rattle.timing.proofs.Bounds.{gate-delay-max}
+use Rattle.costs.specs.Costs.{gate_cost}
+use Rattle.costs.proofs.Written.{written_none, written-more, written_row}
+use Rattle.costs.proofs.gate_row.Goals as goal
+
+pub loop-l-init : goal.loop-l-init
+loop-l-init c = written_none _
+
+pub overflow_cast-delay : goal.overflow_cast-delay
+overflow_cast-delay c =
+    let start = c.before.before.before in
+    omega (arith, c.delay.ensures, gate-delay-max start.args.driver c.loop-l.l start.requires (omega arith))
+
+pub loop-l-preserved : goal.loop-l-preserved
+unfolding gate_cost
+loop-l-preserved c =
+    let loop = c.loop-l in
+    let limit = c.args.limit in
+    written-more loop.invariant _ (omega arith)
+    (⊎_elim
+    (λ w. simp (le-leb loop.l limit (omega arith)) (w.1 ∙ c.delay.ensures))
+    (λ w. simp (lt-leb loop.l limit (omega arith)) w.1)
+    c.if-l-limit.branch)
+
+pub returns : goal.returns
+returns c = written_row c.loop-l.invariant (omega arith)

@@ -1,0 +1,66 @@
+-- `crossing_router::sides::search_far` meets its contract: the source's side is searched, and its labels are laid aside.
+use Prim.Native.Nat.{◌≤◌}
+use mathlib.Core.Logic.{inl}
+use mathlib.Core.Path.{◌≡◌, ◌∙◌}
+use native.Mathlib.Omega.{arith}
+use lib.ListN.{length}
+use Rattle.problem.proofs.Sizes.{few-cells}
+use Rattle.problem.proofs.Clocks.{net-fifos}
+use Rattle.problem.specs.Net.{net_rules}
+use Rattle.router.proofs.Searched.{reached-nothing}
+use Rattle.crossing_router.proofs.FarSide.{no-sink, far-asks, far-done}
+use Rattle.crossing_router.proofs.sides.search_far.Goals as goal
+use Rattle.crossing_router.proofs.sides.search_far.Goals.{Start}
+
+few : (s : Start) → length s.args.plan.now ≤ 1024
+few s = few-cells _ _ s.requires.ready.ready
+
+one-fifo : (s : Start) → (net_rules s.args.net s.args.plan.now).fifos ≡ 1
+one-fifo s = net-fifos _ _ ∙ s.requires.two
+
+pub overflow_mul-n : goal.overflow_mul-n
+overflow_mul-n c = omega (arith, few c.before.before.before)
+
+pub overflow_mul-n-2 : goal.overflow_mul-n-2
+overflow_mul-n-2 c = omega (arith, few c.before.before.before)
+
+pub clear-requires : goal.clear-requires
+clear-requires c = (omega arith, omega (arith, c.requires.room))
+
+pub search_anew-reached-requires : goal.search_anew-reached-requires
+search_anew-reached-requires c =
+    let s = c.before.before.before.before.before.before.before in
+    let cleared = c.clear.ensures in
+    (s.requires.ready, (omega (arith, s.requires.room, cleared.same), (far-asks (one-fifo s) s.requires.room cleared, s.requires.costed)))
+
+pub shape_of-scratch-in-Sink : goal.shape_of-scratch-in-Sink
+shape_of-scratch-in-Sink c = c.search_anew-reached.ensures.same ∙ c.clear.ensures.same
+
+pub returns-in-Sink : goal.returns-in-Sink
+returns-in-Sink c = absurd (no-sink c.search_anew-reached.ensures.done _ _ _ c.in-Sink.is)
+
+pub overflow_mul-n-in-Nothing : goal.overflow_mul-n-in-Nothing
+overflow_mul-n-in-Nothing c = omega (arith, few c.before.before.before.before.before.before.before.before.before.before.before.before.before.before)
+
+pub overflow_mul-n-in-Nothing-2 : goal.overflow_mul-n-in-Nothing-2
+overflow_mul-n-in-Nothing-2 c = omega (arith, few c.before.before.before.before.before.before.before.before.before.before.before.before.before.before)
+
+pub copy_set-requires : goal.copy_set-requires
+copy_set-requires c =
+    let s = c.before.before.before.before.before.before.before.before.before.before.before.before.before.before in
+    let long : length c.search_anew-reached.new.1.0 ≡ length s.args.scratch.now = c.search_anew-reached.ensures.same ∙ c.clear.ensures.same in
+    record {
+      source = record { small = few s; low = omega (arith, few s); room = omega (arith, s.requires.room, long) };
+      target = record { small = few s; low = omega (arith, few s); room = omega (arith, s.requires.room, long) };
+      apart = inl (omega arith);
+    }
+
+pub shape_of-scratch-in-Nothing : goal.shape_of-scratch-in-Nothing
+shape_of-scratch-in-Nothing c =
+    c.copy_set.ensures.same ∙ (c.search_anew-reached.ensures.same ∙ c.clear.ensures.same)
+
+pub returns-in-Nothing : goal.returns-in-Nothing
+returns-in-Nothing c =
+    let s = c.before.before.before.before.before.before.before.before.before.before.before.before.before.before.before.before.before in
+    let found = c.search_anew-reached.ensures in
+    far-done (one-fifo s) _ _ s.requires.room c.clear.ensures found.same found.beyond (reached-nothing found.done _ _ c.in-Nothing.is) c.copy_set.ensures

@@ -1,0 +1,61 @@
+-- `crossing_router::sides::write_crossing` meets its contract: the figures are those of the best route, written or not.
+use mathlib.Core.Path.{◌≡◌, sym, ◌∙◌}
+use native.Mathlib.Omega.{arith}
+use mir.Facts.{to_z-of_z}
+use mir.Syntax.{w32}
+use mir.Val.{to_z, of_z}
+use Rattle.problem.specs.Net.{net_rules}
+use Rattle.problem.proofs.Sizes.{few-cells}
+use Rattle.problem.proofs.Clocks.{net-weight}
+use Rattle.labels.proofs.Ready.{ready-short}
+use Rattle.emission.proofs.BestMade.{made-best}
+use Rattle.crossing_router.proofs.BestCrossing.{cost, sink-in, best-at}
+use Rattle.crossing_router.proofs.Outcomes.{done-no-room, done-found}
+use Rattle.crossing_router.proofs.sides.write_crossing.Goals as goal
+use Rattle.crossing_router.proofs.sides.write_crossing.Goals.{After-struct_told-1, After-weight}
+
+-- the first span's weight
+latency : (c : After-weight) → let s = c.before.before.before.before in c.weight.result ≡ (net_rules s.args.net s.args.plan.now).weight 0
+latency c = let s = c.before.before.before.before in c.weight.ensures ∙ sym (net-weight s.args.net s.args.plan.now 0)
+
+-- the figure as it was returned
+figure : (c : After-struct_told-1) → let r = c.write_out-written.result in to_z w32 (of_z w32 r.slack) ≡ r.slack
+figure c = to_z-of_z {w = w32} (record { sfits = c.struct_told-1.given.0.1 })
+
+pub overflow_add-latency : goal.overflow_add-latency
+overflow_add-latency c =
+    let s = c.before.before.before.before in
+    omega (arith, latency c, (ready-short _ _ s.requires.0.ready 0 (omega arith) _ s.requires.1.0.least).1)
+
+pub overflow_mul-n : goal.overflow_mul-n
+overflow_mul-n c = omega (arith, few-cells _ _ c.requires.0.ready.ready)
+
+pub write_out-written-requires : goal.write_out-written-requires
+write_out-written-requires c =
+    let s = c.before.before.before.before.before.before in
+    record {
+      ready = s.requires.0.ready;
+      costed = s.requires.0.costed;
+      reaching = s.requires.1.0;
+      ahead = λ h. s.requires.1.1;
+      own = omega arith;
+      within = s.requires.0.room;
+    }
+
+pub returns-then-written : goal.returns-then-written
+returns-then-written c =
+    let out = c.before.before.before.before.before.before.before in
+    let s = out.before.before.before.before.before.before.before in
+    let b = best-at _ _ s.requires.0.ready s.requires.0.two _ _ s.requires.1.0.least in
+    let w = out.write_out-written.ensures in
+    rw (figure c.before, c.without_end-source.ensures, latency out.before.before.before)
+    (done-found _ _ _ _ _ _ _ _ b _ w (made-best w.is_first s.requires.1.0.least (sink-in _ _ s.requires.0.ready s.requires.0.two) _ 0 (cost _ _ s.requires.0.ready s.requires.0.two) b.route b.is_best) c.if-written.true)
+
+pub returns : goal.returns
+returns c =
+    let out = c.before.before.before.before.before.before.before in
+    let s = out.before.before.before.before.before.before.before in
+    let b = best-at _ _ s.requires.0.ready s.requires.0.two _ _ s.requires.1.0.least in
+    let w = out.write_out-written.ensures in
+    rw (figure c.before, c.without_end-source.ensures, latency out.before.before.before)
+    (done-no-room _ _ _ _ _ _ _ _ b _ w (made-best w.is_first s.requires.1.0.least (sink-in _ _ s.requires.0.ready s.requires.0.two) _ 0 (cost _ _ s.requires.0.ready s.requires.0.two) b.route b.is_best) c.if-written.false)

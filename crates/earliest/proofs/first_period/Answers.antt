@@ -1,0 +1,66 @@
+use mathlib.Core.Path.{refl, ◌∙◌}
+use native.Mathlib.Omega.{arith}
+use Rattle.problem.proofs.Sizes.{few-cells}
+use Rattle.earliest.proofs.Parts.{first_found, first-none, first-unknown, too-heavy, turn_on, turn-ended}
+use Rattle.earliest.proofs.first_period.Goals as goal
+
+pub returns-then-elements-load : goal.returns-then-elements-load
+returns-then-elements-load c = first-none _ _ refl (λ k h. refl) (λ t h k. too-heavy _ _ (omega (arith, c.load.ensures)) t)
+
+pub begin-count-requires : goal.begin-count-requires
+begin-count-requires c =
+    let s = c.before.before.before.before.before.before.before.before.before in
+    (s.requires.0, (s.requires.1, omega (arith, c.load.ensures)))
+
+pub loop-f-init : goal.loop-f-init
+loop-f-init c = (c.begin-count.ensures.passing, (refl, λ k h. refl))
+
+pub overflow_add-n : goal.overflow_add-n
+overflow_add-n c =
+    let ready = c.requires.0 in
+    omega (arith, few-cells _ _ ready, ready.source)
+
+pub offset_bounds-scratch-n : goal.offset_bounds-scratch-n
+offset_bounds-scratch-n c =
+    let ready = c.requires.0 in
+    omega (arith, few-cells _ _ ready, ready.source)
+
+pub shape_of-scratch-then-left-eq0 : goal.shape_of-scratch-then-left-eq0
+shape_of-scratch-then-left-eq0 c =
+    let loop = c.before.before.before.before.before in
+    loop.loop-f.invariant.1.0 ∙ loop.begin-count.ensures.same
+
+pub returns-then-left-eq0 : goal.returns-then-left-eq0
+returns-then-left-eq0 c =
+    let loop = c.before.before.before.before.before in
+    let begun = loop.begin-count.ensures in
+    first-unknown _ _ (loop.loop-f.invariant.1.0 ∙ begun.same) (λ k h. loop.loop-f.invariant.1.1 k h ∙ begun.rest k h)
+
+pub take_turn-t-requires : goal.take_turn-t-requires
+take_turn-t-requires c = (c.loop-f.invariant.0, omega arith)
+
+pub shape_of-scratch-in-Ended : goal.shape_of-scratch-in-Ended
+shape_of-scratch-in-Ended c =
+    let turn = c.before.before.before.before in
+    (turn-ended _ _ turn.take_turn-t.ensures c.in-Ended.is).0 ∙ (turn.loop-f.invariant.1.0 ∙ turn.begin-count.ensures.same)
+
+pub returns-in-Ended : goal.returns-in-Ended
+returns-in-Ended c =
+    let turn = c.before.before.before.before in
+    let loop = turn.before.before.before.before.before.before.before in
+    let end = turn-ended _ _ turn.take_turn-t.ensures c.in-Ended.is in
+    let begun = loop.begin-count.ensures in
+    first-none _ _ (end.0 ∙ (loop.loop-f.invariant.1.0 ∙ begun.same)) (λ k h. end.1.0 k h ∙ (loop.loop-f.invariant.1.1 k h ∙ begun.rest k h)) end.1.1
+
+pub loop-f-preserved : goal.loop-f-preserved
+loop-f-preserved c =
+    let turn = c.before.before.before.before.before in
+    let loop = turn.before.before.before.before.before.before.before in
+    let done = turn_on _ _ turn.take_turn-t.ensures _ c.in-On.is in
+    (done.passing, (done.same ∙ loop.loop-f.invariant.1.0, λ k h. done.rest k h ∙ loop.loop-f.invariant.1.1 k h))
+
+pub returns : goal.returns
+returns c =
+    let loop = c.before.before.before.before in
+    let begun = loop.begin-count.ensures in
+    first_found _ _ (loop.loop-f.invariant.1.0 ∙ begun.same) (λ k h. loop.loop-f.invariant.1.1 k h ∙ begun.rest k h) loop.loop-f.invariant.0 (omega arith)

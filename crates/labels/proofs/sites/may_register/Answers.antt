@@ -1,0 +1,38 @@
+-- `labels::sites::may_register`: a register stands on no end's cell, and elsewhere just on a tap that is not blocked.
+use mathlib.Core.Bool.{false}
+use mathlib.Core.Path.{◌≡◌, sym, ◌∙◌}
+use mathlib.Core.List.{List}
+use borrow.Author.Tests.{ne_eqb}
+use Prim.Native.Nat.{ℕ}
+use lib.Dec.{not_T}
+use lib.ListN.{get_or}
+use Rattle.plan.specs.Plan.{marks_at, takes_register}
+use Rattle.rules.specs.Rules.{register_code, rules_of}
+use Rattle.rules.specs.Legal.{is_end, may_stand}
+use Rattle.plan.proofs.Truth.{is_false}
+use Rattle.rules.proofs.Document01.{RegisterSite, register-site, site-register}
+use Rattle.problem.specs.declared.Problem.{Problem}
+use Rattle.problem.specs.Problem.{Ready, plan_for, rules_for}
+use Rattle.labels.proofs.sites.may_register.Goals as goal
+
+module _ (p : Problem) (marks : List ℕ) (ready : Ready p marks) (cell : ℕ) where
+  refused : (RegisterSite (plan_for p marks) p.source p.sink cell → ⊥) → may_stand (rules_for p marks) cell register_code ≡ false
+  unfolding rules_for
+  refused f =
+      is_false (may_stand (rules_for p marks) cell register_code) (not_T (may_stand (rules_for p marks) cell register_code) (λ t. f (register-site (plan_for p marks) p.elements p.source p.sink cell ready.valid.count t)))
+
+  between_ends : (cell ≡ p.source → ⊥) → (cell ≡ p.sink → ⊥) → may_stand (rules_for p marks) cell register_code ≡ takes_register (get_or marks cell 0)
+  unfolding rules_for rules_of may_stand is_end plan_for marks_at
+  between_ends f g =
+      simp (ne_eqb cell p.source f, ne_eqb cell p.sink g, site-register (plan_for p marks) p.elements cell ready.valid.count)
+
+pub returns-then-cell-p : goal.returns-then-cell-p
+returns-then-cell-p c = let s = c.before.before.before in sym (refused s.args.p _ s.requires.0 s.args.cell (λ r. r.not_source c.if-cell-p.true))
+
+pub returns-then-cell-p-2 : goal.returns-then-cell-p-2
+returns-then-cell-p-2 c = let s = c.before.before.before.before.before in sym (refused s.args.p _ s.requires.0 s.args.cell (λ r. r.not_sink c.if-cell-p-2.true))
+
+pub returns : goal.returns
+returns c =
+    let s = c.before.before.before.before.before.before.before in
+    c.takes_register.ensures ∙ sym (between_ends s.args.p _ s.requires.0 s.args.cell c.if-cell-p.false c.if-cell-p-2.false)

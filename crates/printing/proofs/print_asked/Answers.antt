@@ -1,0 +1,20 @@
+-- `printing::print_asked` meets its contract: the route call answers the question that was read.
+use Prim.Native.Nat.{◌*◌}
+use mathlib.Core.Path.{sym}
+use native.Mathlib.Omega.{arith}
+use lib.Seq.{length-take-le}
+use Rattle.printing.proofs.Whole.{within-answer, asked-text}
+use Rattle.printing.proofs.print_asked.Goals as goal
+
+pub slice_bounds-route_with-end : goal.slice_bounds-route_with-end
+slice_bounds-route_with-end c =
+    let start = c.before.before.before.before.before.before.before.before.before.before in
+    sym (length-take-le (start.args.asked.width * start.args.asked.height) start.args.plan.now (omega (arith, start.requires.0)))
+
+pub put_answer-requires : goal.put_answer-requires
+put_answer-requires c = (within-answer _ _ _ _ _ c.route_with-answer.ensures.answer c.route_with-answer.auto.1.1.1.1.1.1.1.1.0, omega (arith, c.route_with-answer.auto.1.1.1.1.1.1.1.1.0, c.requires.1.1.1.1.0, c.requires.1.1.1.1.1))
+
+pub returns : goal.returns
+returns c = let a = c.args in
+    rw (asked-text a.plan.now a.scratch-1.now a.visits-1.now a.asked a.count _ _ _ c.buffers_of-list.ensures c.requires.1.1.1.0 c.requires.1.1.1.1.0 c.route_with-answer.ensures.answer c.route_with-answer.ensures.visits_left)
+    at c.put_answer.ensures

@@ -1,0 +1,47 @@
+-- `question::check_with` meets its contract: refusals 1, 2 and 3, or what follows them.
+use mathlib.Core.Path.{◌≡◌, sym, ◌∙◌}
+use Rattle.plan.specs.Plan.{plan_of}
+use Rattle.plan.specs.Check.{checked_plan}
+use Rattle.plan.specs.declared.PlanCheck.{PlanCheck}
+use Rattle.answers.specs.declared.records.Tables.{Tables}
+use Rattle.answers.specs.declared.records.BufferList.{BufferList}
+use Rattle.question.specs.Question.{Question, question_of, passes}
+use Rattle.question.proofs.Checks.{fails-grid, fails-length, fails-mark, checked-fails}
+use Rattle.question.proofs.check_with.Goals as goal
+use Rattle.question.proofs.check_with.Goals.{After-check_plan-grid, Start}
+
+abbrev start : After-check_plan-grid → Start
+start c = c.before.before
+
+abbrev asked : Start → Tables → BufferList → Question
+asked s t list = question_of s.args.plan.now s.args.width s.args.height t list s.args.source s.args.sink
+
+plan-is : (c : After-check_plan-grid) (k : PlanCheck) → c.check_plan-grid.result ≡ k → checked_plan (plan_of (start c).args.width (start c).args.height (start c).args.plan.now) ≡ k
+plan-is c k e = sym c.check_plan-grid.ensures ∙ e
+
+pub returns-in-Grid : goal.returns-in-Grid
+returns-in-Grid c = λ t list.
+    let n = c.before.before.before in
+    let s = start n in
+    let q = asked s t list in
+    c.refused.ensures ∙ checked-fails s.args.fault s.args.elements q _ (fails-grid s.args.fault q passes (plan-is n _ c.in-Grid.is))
+
+pub returns-in-Length : goal.returns-in-Length
+returns-in-Length c = λ t list.
+    let n = c.before.before.before in
+    let s = start n in
+    let q = asked s t list in
+    c.refused-in-Length.ensures ∙ checked-fails s.args.fault s.args.elements q _ (fails-length s.args.fault q passes (plan-is n _ c.in-Length.is))
+
+pub returns-in-Mark : goal.returns-in-Mark
+returns-in-Mark c = λ t list.
+    let n = c.before.before.before in
+    let s = start n in
+    let q = asked s t list in
+    c.refused-in-Mark.ensures ∙ checked-fails s.args.fault s.args.elements q _ (fails-mark s.args.fault q passes (plan-is n _ c.in-Mark.is))
+
+pub after_plan-requires : goal.after_plan-requires
+after_plan-requires c = plan-is c.before.before _ c.in-Valid.is
+
+pub returns-in-Valid : goal.returns-in-Valid
+returns-in-Valid c = c.after_plan.ensures

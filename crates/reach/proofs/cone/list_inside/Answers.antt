@@ -1,0 +1,103 @@
+use Prim.Native.Nat.{ℕ, ◌+◌, ◌*◌, ◌-◌, ◌<◌}
+use mathlib.Core.Path.{◌≡◌, refl, sym, ◌∙◌}
+use mathlib.Core.Bool.{Bool}
+use mathlib.Core.Logic.{◌⊎◌, inl, inr, ⊎_elim}
+use mathlib.Core.List.{List}
+use native.Mathlib.Omega.{arith}
+use lib.Dec.{T}
+use lib.ListN.{get_or}
+use Rattle.plan.proofs.Truth.{equal}
+use Rattle.layout.specs.Layout.{active_at, next_at}
+use Rattle.lists.specs.Lists.{flag_of, ListedAt, Enlisted}
+use Rattle.lists.proofs.Lists.{listed-none, enlisted-stays}
+use Rattle.labels.proofs.Labels.{unknown-not}
+use Rattle.reach.specs.Cone.{ListAsks, ListedInside}
+use Rattle.reach.proofs.cone.list_inside.Goals as goal
+use Rattle.reach.proofs.cone.list_inside.Goals.{In-loop-i}
+
+module _ (n : ℕ) (P : ℕ → Bool) (old : List ℕ) where
+  none_yet : {active width : ℕ} → ListAsks n active width old → ListedInside n 0 P old old 0
+  none_yet a =
+      record {
+        same = refl;
+        listed = listed-none n old (n * next_at) a.unflagged;
+        fewer = λ c h e. absurd (omega (arith, a.unflagged c h));
+        inside = λ i h t. absurd (omega arith);
+        low = λ k h. refl;
+        high = λ k h. refl;
+      }
+
+  -- one cell more
+  module _ (i count : ℕ) (mid : List ℕ) (f : ListedInside n i P old mid count) where
+    place-more : {c : ℕ} → ListedAt n old (n * active_at) i c → ListedAt n old (n * active_at) (i + 1) c
+    place-more p = record { at = p.at; below = omega arith; holds = p.holds }
+
+    not-inside : (T (P (get_or old (n * active_at + i) 0)) → ⊥) → ListedInside n (i + 1) P old mid count
+    not-inside out =
+        record {
+          same = f.same;
+          listed = f.listed;
+          fewer = λ c h e. place-more (f.fewer c h e);
+          inside = λ j h t. go j h t (equal j i);
+          low = f.low;
+          high = f.high;
+        }
+      where
+        go : (j : ℕ) → j < i + 1 → T (P (get_or old (n * active_at + j) 0)) → (j ≡ i) ⊎ (j ≡ i → ⊥) → flag_of n mid (get_or old (n * active_at + j) 0) ≡ 1
+        go j h t (inl e) = absurd (out (rw e at t))
+        go j h t (inr e) = f.inside j (omega arith) t
+
+    now-inside : (new : List ℕ) (cell next : ℕ) → cell ≡ get_or old (n * active_at + i) 0 → ((j : ℕ) → j < i → get_or old (n * active_at + j) 0 < n) → Enlisted n (n * next_at) count cell mid new next → ListedInside n (i + 1) P old new next
+    now-inside new cell next is cells p =
+        record {
+          same = p.same ∙ f.same;
+          listed = p.listed;
+          fewer = λ c h e. was c h e (equal c cell);
+          inside = λ j h t. go j h t (equal j i);
+          low = λ k h. p.low k (omega arith) ∙ f.low k h;
+          high = λ k h. p.high k h ∙ f.high k h;
+        }
+      where
+        was : (c : ℕ) → c < n → flag_of n new c ≡ 1 → (c ≡ cell) ⊎ (c ≡ cell → ⊥) → ListedAt n old (n * active_at) (i + 1) c
+        was c h e (inl q) = record { at = i; below = omega arith; holds = sym (q ∙ is) }
+        was c h e (inr q) = place-more (f.fewer c h (sym (p.others c h q) ∙ e))
+
+        go : (j : ℕ) → j < i + 1 → T (P (get_or old (n * active_at + j) 0)) → (j ≡ i) ⊎ (j ≡ i → ⊥) → flag_of n new (get_or old (n * active_at + j) 0) ≡ 1
+        go j h t (inl e) = rw (e, ← is) p.now-flagged
+        go j h t (inr e) = enlisted-stays p _ (cells j (omega arith)) (f.inside j (omega arith) t)
+
+-- the cell of the turn
+cell_same : (c : In-loop-i) → let s = c.before.before.before in get_or c.loop-i.scratch (s.args.n * active_at + c.loop-i.i) 0 ≡ get_or s.args.scratch.now (s.args.n * active_at + c.loop-i.i) 0
+cell_same c = c.loop-i.invariant.1.low _ (omega arith)
+
+cell_below : (c : In-loop-i) → let s = c.before.before.before in get_or c.loop-i.scratch (s.args.n * active_at + c.loop-i.i) 0 < s.args.n
+cell_below c = omega (arith, cell_same c, c.requires.cells c.loop-i.i (omega arith))
+
+pub loop-i-init : goal.loop-i-init
+loop-i-init c = (omega arith, none_yet _ _ _ c.requires)
+
+pub overflow_cast-cell : goal.overflow_cast-cell
+overflow_cast-cell c = omega (arith, cell_below c.before)
+
+pub enlist-count-requires : goal.enlist-count-requires
+enlist-count-requires c =
+    let w = c.before.before.before.before in
+    (w.loop-i.invariant.1.listed, (cell_below w, (omega arith, (omega arith, omega arith))))
+
+pub loop-i-preserved : goal.loop-i-preserved
+loop-i-preserved c =
+    let w = c.before.before.before in
+    let a = w.before in
+    let s = a.before.before in
+    let f = a.loop-i.invariant.1 in (
+      omega arith,
+      ⊎_elim
+          (λ x. rw (x.5, x.6) (now-inside _ _ _ _ _ _ f _ _ _ (cell_same w) (λ j h. s.requires.cells j (omega arith)) x.2.ensures))
+          (λ x. rw (x.1, x.2) (not-inside _ _ _ _ _ _ f (λ t. unknown-not (sym c.in_cone.ensures ∙ x.0.left) (rw (cell_same w) t))))
+          c.if-in_cone.branch,
+    )
+
+pub returns : goal.returns
+returns c =
+    let e : c.loop-i.i ≡ c.args.active = omega (arith, c.loop-i.invariant.0) in
+    rw e at c.loop-i.invariant.1

@@ -1,0 +1,172 @@
+use Prim.Native.Nat.{ℕ, ◌+◌, ◌-◌, ◌*◌, ◌<◌, ◌≤◌}
+use mathlib.Core.Path.{◌≡◌}
+use mathlib.Core.Logic.{⊎_elim}
+use mathlib.Core.List.{List}
+use native.Mathlib.Omega.{arith}
+use Rattle.rules.specs.Rules.{Rules}
+use Rattle.budget.specs.Cone.{Shrinking}
+use Rattle.budget.proofs.Cone.{cone-shrinks}
+use Rattle.table.specs.Problem.{plan_for, net_rules}
+use Rattle.problem.proofs.Sizes.{few-cells}
+use Rattle.problem.proofs.Clocks.{net-bound}
+use Rattle.table.proofs.Colours.{problem-colouring, coloured-unlinked}
+use Rattle.reach.specs.Reach.{Running, Trailing}
+use Rattle.labels.proofs.Ready.{rules-apart, ready-lawful, ready-cells, ready-top}
+use Rattle.reach.proofs.Turns.{layer-turn, leap-forth, leap-turn, leap-tables, arrive-turn, drop-turn, both-in, both-ask}
+use Rattle.reach.proofs.Trailing.{trail-start, trail-layer, trail-leap, trail-arrive, trail-drop, trail-sound, span-loaded}
+use Rattle.reach.proofs.layers.run_span.Invariants.{Turning, --, start, cells, cone}
+use Rattle.reach.proofs.layers.run_span.Goals as goal
+use Rattle.reach.proofs.layers.run_span.Goals.{After-arrive_both-next, After-period, At-loop-u, Joined-active-eq0}
+
+abbrev R : At-loop-u → Rules
+R a = net_rules (start a).args.net (start a).args.plan.now
+
+narrows : (a : At-loop-u) → Shrinking (R a) (cone a)
+narrows a = cone-shrinks (R a) _ _ (rules-apart (start a).args.net (start a).args.plan.now (start a).args.cell)
+
+few : (a : At-loop-u) → cells a ≤ 1024
+few a = few-cells _ _ (start a).requires.ready.ready
+
+-- what a closing delay stays below
+top-is : (a : At-loop-u) → 2 * a.period.result + 1 ≡ (R a).bound 0 (start a).args.side
+top-is a =
+    omega (arith, a.period.ensures, net-bound (start a).args.net (start a).args.plan.now 0 (start a).args.side)
+
+-- at the loop's head
+head : (a : At-loop-u) → let s = (start a).args in Turning s.net s.plan.now s.side s.count s.exits s.cell s.weight s.steps s.scratch-1.now a.loop-u.scratch a.loop-u.u a.loop-u.active a.loop-u.at a.loop-u.exit a.loop-u.trail
+head a = a.loop-u.invariant.1 (start a).args.scratch.now a.start_span-span.ensures
+
+-- u has grown
+forth : (j : Joined-active-eq0) → (j.loop-u.u < j.if-active-eq0.u) × (j.if-active-eq0.u ≤ (start j.before.before).args.steps)
+forth j =
+    let a = j.before.before in
+    ⊎_elim
+    (λ w. omega (arith, w.4, w.2.ensures.within, leap-forth (R a) _ _ _ _ _ _ _ _ _ _ _ _ (head a).0 (ready-lawful _ _ (start a).requires.ready) (ready-cells _ _ (start a).requires.ready) (narrows a) w.0.taken (start a).args.steps _ (omega (arith, j.loop-u-test.true)) w.2.ensures))
+    (λ w. omega (arith, w.8))
+    j.if-active-eq0.branch
+
+-- before the arrivals
+middle : (j : Joined-active-eq0) (old : List ℕ) → let a = j.before.before in let s = (start a).args in Turning s.net s.plan.now s.side s.count s.exits s.cell s.weight s.steps old a.loop-u.scratch a.loop-u.u a.loop-u.active a.loop-u.at a.loop-u.exit a.loop-u.trail → Running (R a) (cells a) s.side s.weight (cone a) old j.if-active-eq0.scratch j.if-active-eq0.u j.if-active-eq0.active a.loop-u.at s.count a.loop-u.exit s.exits × Trailing (R a) (cells a) s.side s.weight s.exits (cone a) old j.if-active-eq0.scratch j.if-active-eq0.u j.if-active-eq0.trail
+middle j old g =
+    let a = j.before.before in
+    let law = ready-lawful _ _ (start a).requires.ready in
+    let size = ready-cells _ _ (start a).requires.ready in
+    ⊎_elim
+    (λ w.
+    let before : a.loop-u.u < (start a).args.steps = omega (arith, j.loop-u-test.true) in
+    rw (w.3, w.4, w.5, w.6) (
+      leap-turn (R a) _ _ _ _ _ _ _ _ _ _ _ _ g.0 law size (narrows a) w.0.taken (start a).args.steps _ before w.2.ensures,
+      trail-leap (R a) _ _ _ _ _ _ _ _ _ g.1 _ (omega (arith, leap-forth (R a) _ _ _ _ _ _ _ _ _ _ _ _ g.0 law size (narrows a) w.0.taken (start a).args.steps _ before w.2.ensures))
+          (leap-tables (R a) _ _ _ _ _ _ _ _ _ _ _ _ g.0 law size (narrows a) w.0.taken (start a).args.steps _ before w.2.ensures),
+    ))
+    (λ w.
+    let made = rw (w.2.ensures, top-is a) at w.3.ensures in
+    let f = layer-turn (R a) _ _ _ _ _ _ _ _ _ _ _ _ g.0 law size (narrows a) _ _ _ made in
+    rw (w.7, w.8, w.9, w.10) (f, trail-layer (R a) _ _ _ _ _ _ _ _ _ g.1 _ _ made f.table))
+    j.if-active-eq0.branch
+
+-- the period is at most 30,000
+small : (c : After-period) → 2 * c.period.result + 1 ≤ 60001
+small c =
+    let s = c.before.before.before.before in
+    omega (arith, c.period.ensures, ready-top s.args.net s.args.plan.now s.requires.ready s.args.side)
+
+pub overflow_mul-top : goal.overflow_mul-top
+overflow_mul-top c = omega (arith, small c)
+
+pub overflow_add-top : goal.overflow_add-top
+overflow_add-top c = omega (arith, small c)
+
+pub start_span-span-requires : goal.start_span-span-requires
+start_span-span-requires c =
+    let pre = c.requires in
+    record {
+      ready = pre.ready;
+      room = pre.room;
+      exits_in = pre.exits_in;
+      ordered = pre.held.ordered;
+      exits_ordered = pre.held.exits_ordered;
+      in_step = pre.in_step;
+      past = pre.held.past;
+    }
+
+pub new_trail-trail-requires : goal.new_trail-trail-requires
+new_trail-trail-requires c =
+    let s = c.before.before.before.before.before.before.before.before in
+    (omega (arith, s.requires.ready.ready.source), few-cells _ _ s.requires.ready.ready)
+
+pub loop-u-init : goal.loop-u-init
+loop-u-init c =
+    (omega arith, λ old f. (f.current _ _, trail-start _ _ _ _ _ _ _ _ _ c.new_trail-trail.ensures f.empty))
+
+pub next_both-u-requires : goal.next_both-u-requires
+next_both-u-requires c =
+    let a = c.before.before.before in
+    let f = (head a).0.reaching in
+    both-in (R a) _ _ _ _ _ _ _ _ _ _ _ _ f (few a) (omega (arith, f.same, (start a).requires.room)) (λ h. omega (arith, f.same, (start a).requires.exits_in h))
+
+pub next_layer-grown-requires : goal.next_layer-grown-requires
+next_layer-grown-requires c =
+    let a = c.before.before.before.before in
+    let f = (head a).0.reaching in
+    ((start a).requires.ready, (omega (arith, f.same, (start a).requires.room), (f.list.listed, (rw c.stamped.ensures (trail-sound (R a) _ _ _ _ _ _ _ _ _ (head a).1), (coloured-unlinked (problem-colouring (start a).args.net (start a).args.plan.now) f.coloured, (start a).requires.costed)))))
+
+pub overflow_add-u-else-active-eq0 : goal.overflow_add-u-else-active-eq0
+overflow_add-u-else-active-eq0 c =
+    let i = c.before.before.before.before.before.before.before in
+    omega (arith, i.loop-u-test.true, (start i.before).fits.steps)
+
+pub arrive_both-next-requires : goal.arrive_both-next-requires
+arrive_both-next-requires c =
+    let a = c.before.before.before.before in
+    let f = (middle c.before.before (start a).args.scratch.now (head a)).0 in
+    both-ask (R a) _ _ _ _ _ _ _ _ _ _ _ _ f (few a) (omega (arith, f.same, (start a).requires.room)) (λ h. omega (arith, f.same, (start a).requires.exits_in h))
+
+-- after them
+later : (b : After-arrive_both-next) (old : List ℕ) → let a = b.before.before.before.before.before in let s = (start a).args in Turning s.net s.plan.now s.side s.count s.exits s.cell s.weight s.steps old a.loop-u.scratch a.loop-u.u a.loop-u.active a.loop-u.at a.loop-u.exit a.loop-u.trail → Turning s.net s.plan.now s.side s.count s.exits s.cell s.weight s.steps old b.arrive_both-next.new.0 b.if-active-eq0.u b.arrive_both-next.result.active b.arrive_both-next.result.at b.arrive_both-next.result.exit b.if-active-eq0.trail
+later b old g =
+    let a = b.before.before.before.before.before in
+    let m = middle b.before.before.before old g in
+    let come = rw b.no_idle.ensures at b.arrive_both-next.ensures in
+    (arrive-turn (R a) _ _ _ _ _ _ _ _ _ _ _ _ m.0 _ _ _ _ come, trail-arrive (R a) _ _ _ _ _ _ _ _ _ m.1 _ come)
+
+pub drop_outside-active-requires : goal.drop_outside-active-requires
+unfolding plan_for
+drop_outside-active-requires c =
+    let b = c.before.before.before in
+    let a = b.before.before.before.before.before in
+    let ready = (start a).requires.ready.ready in
+    let f = (later b (start a).args.scratch.now (head a)).0.reaching in
+    record {
+      listed = f.list.listed;
+      wide = ready.sized.wide;
+      narrow = ready.sized.narrow;
+      low = ready.sized.low;
+      few = few a;
+      room = omega (arith, f.same, (start a).requires.room);
+    }
+
+pub loop-u-smaller : goal.loop-u-smaller
+loop-u-smaller c = omega (arith, forth c.before.before.before.before.before.before.before.before.before)
+
+pub loop-u-preserved : goal.loop-u-preserved
+loop-u-preserved c =
+    let b = c.before.before.before.before.before.before in
+    let j = b.before.before.before in
+    let a = j.before.before in
+    let dropped = c.drop_outside-active.ensures in (
+      omega (arith, forth j),
+      λ old f.
+          let m = later b old (a.loop-u.invariant.1 old f) in
+          (drop-turn (R a) _ _ _ _ _ _ _ _ _ _ _ _ m.0 _ _ dropped, trail-drop (R a) _ _ _ _ _ _ _ _ _ m.1 _ dropped),
+    )
+
+pub shape_of-scratch : goal.shape_of-scratch
+shape_of-scratch c = (head c.before).0.reaching.same
+
+pub returns : goal.returns
+unfolding plan_for
+returns c =
+    let a = c.before in
+    let s = start a in
+    span-loaded (R a) _ _ _ _ _ s.args.net.problem.width s.args.cell s.requires.ready.ready.sized.wide (rules-apart s.args.net s.args.plan.now s.args.cell) _ _ _ _ _ _ _ _ (head a).0 (head a).1 (omega arith)

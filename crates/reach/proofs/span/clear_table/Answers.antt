@@ -1,0 +1,40 @@
+-- `reach::span::clear_table`: on the trail, or word by word.
+use Prim.Native.Nat.{ℕ, ◌+◌, ◌-◌, ◌*◌}
+use mathlib.Core.Path.{◌≡◌}
+use mathlib.Core.List.{List}
+use native.Mathlib.Omega.{arith}
+use Rattle.layout.specs.Layout.{arrival_at}
+use Rattle.rows.specs.Words.{Filled}
+use Rattle.reach.specs.Reach.{TableCleared}
+use Rattle.reach.proofs.Trailing.{back-empty}
+use Rattle.reach.proofs.span.clear_table.Goals as goal
+
+by-words : (n rows : ℕ) (old new : List ℕ) → Filled (λ k. 0) 0 (rows - 0) old new → rows ≡ n * arrival_at → TableCleared n old new
+by-words n rows old new f e =
+    record {
+      same = f.same;
+      rows = λ i h. let z : 0 + i ≡ i = omega arith in rw z at (f.done i (omega arith));
+      rest = λ i h. f.high i (omega arith);
+    }
+
+pub rewind-requires : goal.rewind-requires
+rewind-requires c =
+    let s = c.before.before.before.before.before in
+    record { sound = s.requires.0.sound; few = s.requires.1.0; room = s.requires.1.1 }
+
+pub shape_of-scratch-then-trail-eq0 : goal.shape_of-scratch-then-trail-eq0
+shape_of-scratch-then-trail-eq0 c = c.rewind.ensures.same
+
+pub returns-then-trail-eq0 : goal.returns-then-trail-eq0
+returns-then-trail-eq0 c =
+    let t = c.before.before.before.before in
+    let s = t.before.before.before.before in
+    let back = c.rewind.ensures in
+    record {
+      same = back.same;
+      rows = back-empty _ _ s.args.layers s.requires.0 t.if-trail-eq0.true _ _ back;
+      rest = back.kept;
+    }
+
+pub returns : goal.returns
+returns c = by-words _ _ _ _ c.clear.ensures (omega arith)

@@ -1,0 +1,65 @@
+-- `reach::span::next_steps`: the lesser of the next label's steps and `steps`.
+use Prim.Native.Nat.{◌<◌}
+use native.Mathlib.Omega.{arith}
+use Rattle.labels.specs.Labels.{weight_word, order_of}
+use Rattle.labels.proofs.Labels.{known-word, ordered-count}
+use Rattle.reach.proofs.span.next_steps.Goals as goal
+use Rattle.reach.proofs.span.next_steps.Goals.{Start, Then-at-count}
+
+-- there is a label at `at`
+
+abbrev start : Then-at-count → Start
+start c = c.before.before
+
+place-in : (c : Then-at-count) → (start c).args.at < (start c).args.n
+place-in c = omega (arith, c.if-at-count.true, ordered-count (start c).requires.0)
+
+cell_in : (c : Then-at-count) → let s = start c in order_of s.args.n s.args.set s.args.scratch.now s.args.at < s.args.n
+cell_in c = (start c).requires.0.cells (start c).args.at c.if-at-count.true
+
+word_some : (c : Then-at-count) → let s = start c in 0 < weight_word s.args.n s.args.set s.args.scratch.now (order_of s.args.n s.args.set s.args.scratch.now s.args.at)
+word_some c = known-word _ _ _ _ ((start c).requires.0.known (start c).args.at c.if-at-count.true)
+
+pub overflow_mul-cell : goal.overflow_mul-cell
+overflow_mul-cell c = omega (arith, (start c).requires.1.small)
+
+pub overflow_add-cell : goal.overflow_add-cell
+overflow_add-cell c = omega (arith, (start c).requires.1.small, (start c).requires.1.low)
+
+pub overflow_add-cell-then-at-count : goal.overflow_add-cell-then-at-count
+overflow_add-cell-then-at-count c = omega (arith, place-in c, (start c).requires.1.small, (start c).requires.1.low)
+
+pub offset_bounds-scratch-set : goal.offset_bounds-scratch-set
+offset_bounds-scratch-set c = omega (arith, place-in c, (start c).requires.1.small, (start c).requires.1.low)
+
+pub bounds-scratch-set : goal.bounds-scratch-set
+bounds-scratch-set c = omega (arith, place-in c.before, (start c.before).requires.1.room)
+
+pub overflow_cast-cell : goal.overflow_cast-cell
+overflow_cast-cell c = omega (arith, cell_in c.before, (start c.before).requires.1.small)
+
+pub weight_word-requires : goal.weight_word-requires
+weight_word-requires c = ((start c.before).requires.1, cell_in c.before)
+
+pub overflow_sub-weight_word : goal.overflow_sub-weight_word
+overflow_sub-weight_word c = omega (arith, c.weight_word.ensures, word_some c.before.before)
+
+pub steps_of-first-requires : goal.steps_of-first-requires
+steps_of-first-requires c = ((start c.before.before.before).requires.1, cell_in c.before.before.before)
+
+pub returns-then-first-steps : goal.returns-then-first-steps
+returns-then-first-steps c =
+    record {
+      within = omega arith;
+      early = λ h e. omega (arith, c.steps_of-first.ensures);
+      most = λ u h head. omega (arith, c.steps_of-first.ensures, head c.if-at-count.true (omega (arith, c.if-weight_word-weight.true, c.weight_word.ensures)));
+    }
+
+pub returns-else-first-steps : goal.returns-else-first-steps
+returns-else-first-steps c = record { within = omega arith; early = λ h e. omega (arith, c.if-first-steps.false, c.steps_of-first.ensures); most = λ u h head. h }
+
+pub returns-else-weight_word-weight : goal.returns-else-weight_word-weight
+returns-else-weight_word-weight c = record { within = omega arith; early = λ h e. absurd (omega (arith, c.if-weight_word-weight.false, c.weight_word.ensures, e)); most = λ u h head. h }
+
+pub returns-else-at-count : goal.returns-else-at-count
+returns-else-at-count c = record { within = omega arith; early = λ h e. absurd (omega (arith, c.if-at-count.false, h)); most = λ u h head. h }

@@ -1,0 +1,86 @@
+-- The search at the longest period tells whether halving finds the smallest, or no period serves.
+use mathlib.Core.Bool.{true}
+use mathlib.Core.Path.{◌≡◌, sym, ◌∙◌}
+use native.Mathlib.Omega.{arith}
+use lib.ListN.{length}
+use Rattle.timing.specs.Ranges.{period_max}
+use Rattle.timing.proofs.Relaxed.{period-valid}
+use Rattle.reasons.specs.Reasons.{routed_at}
+use Rattle.reasons.specs.Probe.{Told, routed_for, smallest_for, reason_of}
+use Rattle.reasons.proofs.Order.{timed-routed, light-routed}
+use Rattle.reasons.proofs.Periods.{smallest-most, below-longest, no-smallest}
+use Rattle.reasons.proofs.Values.{reason-period}
+use Rattle.reasons.proofs.reason.why_none.Goals as goal
+use Rattle.reasons.proofs.reason.why_none.Goals.{After-exists_with, Start, Then-exists_with}
+
+abbrev start : After-exists_with → Start
+start c = c.before.before.before.before.before.before
+
+-- what the search told, and what it left
+at-longest : (c : After-exists_with) → let s = start c in Told (routed_for s.args.p s.args.plan.now period_max) (length s.args.plan.now) s.args.scratch.now c.exists_with.new.1.0 c.exists_with.result
+unfolding routed_for routed_at
+at-longest c =
+    let done = c.exists_with.ensures in
+    record { told = rw c.at_period.ensures at done.told; same = done.same; rest = done.rest }
+
+pub exists_with-requires : goal.exists_with-requires
+exists_with-requires c =
+    let s = c.before.before.before.before.before in
+    (s.requires.0, (s.requires.1.0, rw c.at_period.ensures (period-valid _ _ s.requires.0.valid (omega arith) (omega arith))))
+
+-- a route at the longest period
+module _ (c : Then-exists_with) where
+  abbrev told : After-exists_with
+  told = c.before.before.before
+
+  abbrev s : Start
+  s = start told
+
+  longest : routed_for s.args.p s.args.plan.now period_max ≡ true
+  longest = sym (at-longest told).told ∙ c.if-exists_with.true
+
+pub smallest_period-period-requires : goal.smallest_period-period-requires
+unfolding routed_for
+smallest_period-period-requires c =
+    let probe = told c.before in
+    let at = s c.before in
+    let ready = at.requires.0 in
+    let own = at.requires.1.1 in
+    (ready, (omega (arith, (at-longest probe).same, at.requires.1.0), (ready.valid.least, (below-longest _ _ _ _ ready.valid _ ready.valid.most own (longest c.before), (omega arith, (own, longest c.before))))))
+
+pub shape_of-scratch-then-exists_with : goal.shape_of-scratch-then-exists_with
+shape_of-scratch-then-exists_with c = c.smallest_period-period.ensures.same ∙ (at-longest (told c.before.before.before.before)).same
+
+pub returns-then-exists_with : goal.returns-then-exists_with
+unfolding reason_of smallest_for routed_for
+returns-then-exists_with c =
+    let period = c.before.before in
+    let found = period.before.before in
+    let valid = (s found).requires.0.valid in
+    let was = at-longest (told found) in
+    let done = period.smallest_period-period.ensures in
+    let light = timed-routed _ _ _ _ valid period_max (omega arith) (omega arith) (longest found) in
+    record {
+      told = sym (reason-period _ _ _ _ (light-routed _ _ _ _ valid light) light _ done.told (omega (arith, done.told, smallest-most _ _ _ _ valid (longest found))));
+      same = done.same ∙ was.same;
+      rest = λ k h. done.rest k h ∙ was.rest k h;
+    }
+
+pub why_never-requires : goal.why_never-requires
+unfolding routed_for smallest_for
+why_never-requires c =
+    let probe = c.before.before.before.before in
+    let at = start probe in
+    (at.requires.0, (omega (arith, (at-longest probe).same, at.requires.1.0), no-smallest _ _ _ _ at.requires.0.valid (sym (at-longest probe).told ∙ c.if-exists_with.false)))
+
+pub shape_of-scratch : goal.shape_of-scratch
+shape_of-scratch c =
+    let why = c.before.before in
+    why.why_never.ensures.same ∙ (at-longest why.before.before.before.before.before).same
+
+pub returns : goal.returns
+returns c =
+    let why = c.before.before in
+    let was = at-longest why.before.before.before.before.before in
+    let done = why.why_never.ensures in
+    record { told = done.told; same = done.same ∙ was.same; rest = λ k h. done.rest k h ∙ was.rest k h }

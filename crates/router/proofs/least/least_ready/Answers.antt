@@ -1,0 +1,63 @@
+-- `router::least::least_ready` meets its contract: what the search found is the best route's figures.
+use Prim.Native.Nat.{ℕ}
+use mathlib.Core.Path.{◌≡◌, refl}
+use native.Mathlib.Omega.{arith}
+use Rattle.rules.specs.Rules.{Rules}
+use Rattle.best.specs.Best.{none, best}
+use Rattle.problem.specs.Problem.{rules_for}
+use Rattle.router.specs.Least.{least_of}
+use Rattle.router.specs.declared.least.Least.{Least}
+use Rattle.router.proofs.BestRoute.{BestIs, best-is, best-is-none}
+use Rattle.router.proofs.OneClock.{one-rest, net-ready, net-costed, one_side, one-searched}
+use Rattle.router.proofs.Searched.{reached-sink, reached-nothing}
+use Rattle.router.proofs.least.least_ready.Goals as goal
+use Rattle.router.proofs.least.least_ready.Goals.{In-Sink-2}
+
+least-is : {R : Rules} {period k s : ℕ} → BestIs R period k s → Least.Of k s ≡ least_of (best R)
+unfolding least_of
+least-is b = rw (b.is_found, least_of, b.registers_are, b.steps_are)
+
+least-none : (R : Rules) → best R ≡ none → Least.Nothing ≡ least_of (best R)
+unfolding least_of
+least-none R e = rw e
+
+pub search_anew-reached-requires : goal.search_anew-reached-requires
+search_anew-reached-requires c =
+    let s = c.before.before.before.before in
+    let one = c.one_clock-net.ensures in
+    (net-ready _ _ one _ s.requires.0, (s.requires.1.0, (one_side _ _ one _ _, net-costed _ _ one _ s.requires.1.1)))
+
+-- the figures, where the sink was reached
+figures : (c : In-Sink-2) → let after = c.before.before.before.before in BestIs (rules_for after.args.p after.args.plan.now) after.args.p.elements.period c.in-Sink.weight c.in-Sink.steps
+figures c =
+    let after = c.before.before.before.before in
+    best-is _ _ after.requires.0 _ _ _ _ _ _ (reached-sink (one-searched _ _ after.one_clock-net.ensures _ after.search_anew-reached.ensures).done _ _ _ c.in-Sink.is)
+
+pub overflow_cast-result : goal.overflow_cast-result
+overflow_cast-result c = omega (arith, (figures c.before).registers_fit)
+
+pub shape_of-scratch-in-Sink : goal.shape_of-scratch-in-Sink
+shape_of-scratch-in-Sink c = c.search_anew-reached.ensures.same
+
+pub returns-in-Sink : goal.returns-in-Sink
+returns-in-Sink c =
+    let after = c.before.before.before.before.before in
+    let found = after.search_anew-reached.ensures in
+    record {
+      least = least-is (figures c.before);
+      same = found.same;
+      rest = one-rest found.beyond;
+    }
+
+pub shape_of-scratch-in-Nothing : goal.shape_of-scratch-in-Nothing
+shape_of-scratch-in-Nothing c = c.search_anew-reached.ensures.same
+
+pub returns-in-Nothing : goal.returns-in-Nothing
+returns-in-Nothing c =
+    let after = c.before.before.before.before in
+    let found = after.search_anew-reached.ensures in
+    record {
+      least = least-none _ (best-is-none _ _ after.requires.0 ((reached-nothing (one-searched _ _ after.one_clock-net.ensures _ found).done _ _ c.in-Nothing.is).none refl));
+      same = found.same;
+      rest = one-rest found.beyond;
+    }

@@ -1,0 +1,91 @@
+-- `router::writing::write_out` meets its contract: emission with all words that the route needs, or none; then the words are cleared.
+use Prim.Native.Nat.{◌+◌, ◌*◌, ◌≤◌}
+use mathlib.Core.Path.{◌≡◌, sym, ◌∙◌}
+use native.Mathlib.Omega.{arith}
+use lib.ListN.{length, take, length-take}
+use mir.Facts.{to_z-of_z}
+use mir.Syntax.{w32}
+use mir.Val.{to_z, of_z}
+use Rattle.rules.specs.Ranking.{written}
+use Rattle.problem.specs.Net.{net_rules}
+use Rattle.labels.proofs.Ready.{ready-short}
+use Rattle.emission.specs.Emission.{from_sink}
+use Rattle.emission.proofs.Visits.{written-length}
+use Rattle.router.proofs.Splice.{zeroed-is}
+use Rattle.router.proofs.Lent.{Lends, lends, room_most, room_fits, room-some, kept-length, visits-left}
+use Rattle.router.proofs.writing.write_out.Goals as goal
+use Rattle.router.proofs.writing.write_out.Goals.{After-emit-arg-2-1, After-emit-told, After-words_for-room, Start}
+
+-- the steps fit
+few : (s : Start) → s.args.steps ≤ 134348800
+few s = (ready-short _ _ s.requires.ready 0 (omega arith) _ s.requires.reaching.least).0
+
+room : (c : After-words_for-room) → let s = c.before.before.before.before in Lends (2 * (s.args.steps + 1)) (length s.args.visits.now) c.words_for-room.result
+room c = lends _ _ _ c.words_for-room.ensures
+
+-- the part lent has these words
+taken : (c : After-emit-arg-2-1) → length (take c.words_for-room.result c.args.visits.now) ≡ c.words_for-room.result
+taken c =
+    let words = c.before.before in
+    omega (arith, length-take words.words_for-room.result words.args.visits.now, room_most (room words))
+
+-- and after emission as many
+left : (c : After-emit-told) → length c.emit-told.new.1.1.1.1.1.1.1.1.0 ≡ c.words_for-room.result
+left c = c.emit-told.ensures.kept ∙ taken c.before
+
+pub overflow_add-steps : goal.overflow_add-steps
+overflow_add-steps c = omega (arith, few c.before.before.before)
+
+pub overflow_mul-steps : goal.overflow_mul-steps
+overflow_mul-steps c = omega (arith, few c.before.before.before)
+
+pub slice_bounds-emit-end : goal.slice_bounds-emit-end
+slice_bounds-emit-end c = room_most (room c.before)
+
+pub slice_bounds-emit-end-2 : goal.slice_bounds-emit-end-2
+slice_bounds-emit-end-2 c = sym (taken c)
+
+pub emit-told-requires : goal.emit-told-requires
+emit-told-requires c =
+    let asks = c.requires in
+    record {
+      ready = asks.ready;
+      costed = asks.costed;
+      room = omega (arith, asks.own, asks.within);
+      reaching = asks.reaching;
+      ahead = asks.ahead;
+      fits = room_fits (taken c) (room c.before.before);
+    }
+
+pub clear-requires : goal.clear-requires
+clear-requires c =
+    let emit = c.before.before.before.before.before in
+    (omega arith, omega (arith, emit.requires.within, emit.emit-told.ensures.same))
+
+pub shape_of-scratch : goal.shape_of-scratch
+shape_of-scratch c = c.clear.ensures.same ∙ c.emit-told.ensures.same
+
+pub shape_of-visits : goal.shape_of-visits
+shape_of-visits c =
+    let emit = c.before.before.before.before.before.before.before.before.before in
+    let words = emit.before.before.before in
+    kept-length words.args.visits.now emit.emit-told.new.1.1.1.1.1.1.1.1.0 words.words_for-room.result (left emit) (room_most (room words))
+
+pub returns : goal.returns
+returns c =
+    let emit = c.before.before.before.before.before.before.before.before.before in
+    let words = emit.before.before.before in
+    let s = words.before.before.before.before in
+    let m = emit.emit-told.ensures in
+    let route = from_sink (net_rules s.args.net s.args.plan.now) m.made in
+    let figure : to_z w32 (of_z w32 emit.emit-told.result.slack) ≡ emit.emit-told.result.slack = to_z-of_z {w = w32} (record { sfits = c.struct_told-1.given.0.1 }) in
+    record {
+      made = m.made;
+      is_first = m.is_first;
+      slack = rw figure m.slack;
+      sink = m.sink;
+      source = m.source;
+      zero-words = zeroed-is _ _ _ _ _ s.requires.own s.requires.within m.same m.rest c.clear.ensures;
+      fits = room-some (room words) (omega arith);
+      filled = visits-left s.args.visits.now _ _ (left emit) (written route) _ (room words) (omega (arith, written-length route, m.is_first.steps)) (λ h. m.filled (omega (arith, taken emit.before)));
+    }

@@ -1,0 +1,104 @@
+-- `search::turns::after_quiet`: the earlier of the first labels that wait.
+use Prim.Native.Nat.{ℕ, ◌<◌}
+use mathlib.Core.List.{List}
+use native.Mathlib.Omega.{arith}
+use Rattle.budget.proofs.Done.{after-before}
+use Rattle.labels.specs.Labels.{SetIn, Ordered}
+use Rattle.labels.proofs.Labels.{ordered-count, set-in, exits-in}
+use Rattle.search.specs.Turn.{moved_to, Quieted}
+use Rattle.search.specs.Ask.{PlaceAsks}
+use Rattle.search.proofs.turns.after_quiet.Goals as goal
+use Rattle.search.proofs.turns.after_quiet.Goals.{Else-at-f, Else-at-f-2, Else-exit-exits}
+
+place : (n set : ℕ) (words : List ℕ) (at count : ℕ) → SetIn n set words → Ordered n set words count → at < count → PlaceAsks n set words at
+place n set words at count set_in o h =
+    record { set_in = set_in; within = omega (arith, ordered-count o); cell = o.cells at h; known = o.known at h }
+
+pub returns-then-at-f : goal.returns-then-at-f
+returns-then-at-f c = Quieted.nothing c.if-at-f.true c.if-exit-exits.true
+
+-- a register's label waits
+waits : (c : Else-at-f) → c.args.f.at < c.args.f.count
+waits c = omega (arith, c.if-at-f.false, c.requires.at_count)
+
+pub overflow_mul-n : goal.overflow_mul-n
+overflow_mul-n c = omega (arith, c.requires.few)
+
+pub move_to-g-requires : goal.move_to-g-requires
+move_to-g-requires c =
+    let p = c.requires in
+    place _ _ _ _ _ (set-in _ _ p.few p.room) p.near (waits c)
+
+pub returns-then-exit-exits : goal.returns-then-exit-exits
+returns-then-exit-exits c = rw c.move_to-g.ensures (Quieted.register (waits c.before) (λ h. absurd (omega (arith, c.if-exit-exits.true))))
+
+-- a FIFO's label waits
+exits-wait : (c : Else-exit-exits) → c.args.f.exit < c.args.exits
+exits-wait c = omega (arith, c.if-exit-exits.false, c.requires.within)
+
+pub overflow_mul-n-2 : goal.overflow_mul-n-2
+overflow_mul-n-2 c = omega (arith, c.requires.few)
+
+pub move_to-g-requires-2 : goal.move_to-g-requires-2
+move_to-g-requires-2 c =
+    let p = c.requires in
+    let h = exits-wait c in
+    place _ _ _ _ _ (exits-in _ _ p.few (p.exits_in (omega arith))) (p.far (omega arith)) h
+
+pub returns-then-at-f-2 : goal.returns-then-at-f-2
+returns-then-at-f-2 c = rw c.move_to-g-2.ensures (Quieted.fifo (exits-wait c.before.before.before) (λ h. absurd (omega (arith, c.if-at-f-2.true))))
+
+-- both wait
+near-waits : (c : Else-at-f-2) → c.args.f.at < c.args.f.count
+near-waits c = omega (arith, c.if-at-f-2.false, c.requires.at_count)
+
+near-in : (c : Else-at-f-2) → c.args.f.at < c.args.n
+near-in c = omega (arith, near-waits c, ordered-count c.requires.near)
+
+pub overflow_mul-first : goal.overflow_mul-first
+overflow_mul-first c = omega (arith, c.requires.few)
+
+pub overflow_mul-first-2 : goal.overflow_mul-first-2
+overflow_mul-first-2 c = omega (arith, c.requires.few)
+
+pub overflow_add-first : goal.overflow_add-first
+overflow_add-first c = omega (arith, c.requires.few)
+
+pub overflow_add-first-2 : goal.overflow_add-first-2
+overflow_add-first-2 c = omega (arith, c.requires.few, near-in c)
+
+pub offset_bounds-scratch-n : goal.offset_bounds-scratch-n
+offset_bounds-scratch-n c = omega (arith, c.requires.few, near-in c)
+
+pub bounds-scratch-n : goal.bounds-scratch-n
+bounds-scratch-n c = omega (arith, c.requires.room, near-in c.before)
+
+pub overflow_cast-first : goal.overflow_cast-first
+overflow_cast-first c = let p = c.requires in omega (arith, p.near.cells _ (near-waits c.before), p.few)
+
+pub overflow_mul-n-3 : goal.overflow_mul-n-3
+overflow_mul-n-3 c = omega (arith, c.requires.few)
+
+pub is_after-requires : goal.is_after-requires
+is_after-requires c =
+    let p = c.requires in
+    (set-in _ _ p.few p.room, p.near.known _ (near-waits c.before))
+
+pub returns-then-is_after : goal.returns-then-is_after
+returns-then-is_after c =
+    rw c.move_to-g-2.ensures
+    (Quieted.fifo (exits-wait c.before.before.before.before.before.before) (λ h. after-before (rw c.move_to-g-2.ensures at (c.is_after.ensures.after c.if-is_after.true))))
+
+pub overflow_mul-n-4 : goal.overflow_mul-n-4
+overflow_mul-n-4 c = omega (arith, c.requires.few)
+
+pub move_to-h-requires : goal.move_to-h-requires
+move_to-h-requires c =
+    let p = c.requires in
+    place _ _ _ _ _ (set-in _ _ p.few p.room) p.near (near-waits c.before.before.before)
+
+pub returns : goal.returns
+unfolding moved_to
+returns c =
+    rw c.move_to-h.ensures
+    (Quieted.register (near-waits c.before.before.before.before) (λ h. rw c.move_to-g-2.ensures at (c.is_after.ensures.by c.if-is_after.false)))

@@ -1,0 +1,145 @@
+-- `search::turns::take_turn` meets its contract, by the cases of proofs/TakeTurn.
+use Prim.Native.Nat.{◌+◌, ◌≤◌, ◌<◌}
+use mathlib.Core.Path.{◌≡◌, refl}
+use mathlib.Core.Logic.{inl, inr}
+use native.Mathlib.Omega.{arith}
+use lib.ListN.{length}
+use Rattle.trail.specs.Trail.{no_trail}
+use Rattle.trail.proofs.History.{sound_none}
+use Rattle.table.specs.Problem.{net_rules}
+use Rattle.table.specs.Layer.{Layered}
+use Rattle.table.proofs.Colours.{problem-colouring, coloured-unlinked}
+use Rattle.lists.proofs.Lists.{listed_kept}
+use Rattle.problem.proofs.Sizes.{few-cells}
+use Rattle.problem.proofs.Clocks.{net-bound, net-weight, net-fifos, net-sink, net-start-load, net-start-delay}
+use Rattle.labels.proofs.Labels.{set-in, set_apart, exits-in, exits-apart}
+use Rattle.labels.proofs.Ready.{ready-lawful, ready-cells, ready-top, ready-short}
+use Rattle.search.proofs.Layers.{layer-near, layer-far, layer-came}
+use Rattle.search.proofs.TakeTurn.{turn-quiet, turn-sink, turn-before, turn-watch, turn-grown}
+use Rattle.search.proofs.turns.take_turn.Goals as goal
+use Rattle.search.proofs.turns.take_turn.Goals.{After-next_layer-grown, After-weight, Else-active-eq0}
+
+pub overflow_mul-top : goal.overflow_mul-top
+overflow_mul-top c = let s = c.before.before.before in omega (arith, c.period.ensures, ready-top _ _ s.requires.ready s.args.side)
+
+pub overflow_add-top : goal.overflow_add-top
+overflow_add-top c = let s = c.before.before.before in omega (arith, c.period.ensures, ready-top _ _ s.requires.ready s.args.side)
+
+pub next_layer-grown-requires : goal.next_layer-grown-requires
+next_layer-grown-requires c =
+    let s = c.before.before.before.before.before in
+    (s.requires.ready, (s.requires.room, (s.requires.front.waiting.standing.list.listed, (rw c.no_trail.ensures (sound_none _ _ no_trail refl refl (omega arith) (omega arith)), (coloured-unlinked (problem-colouring s.args.net s.args.plan.now) s.requires.front.waiting.standing.coloured, s.requires.costed)))))
+
+-- the layer, made without a trail, by this side's bound
+made : (c : After-next_layer-grown) → let s = c.before.before.before.before.before.before in Layered (net_rules s.args.net s.args.plan.now) (length s.args.plan.now) ((net_rules s.args.net s.args.plan.now).bound 0 s.args.side) no_trail s.args.scratch.now c.next_layer-grown.new.1.0 c.next_layer-grown.result
+made c =
+    let s = c.before.before.before.before.before.before in
+    rw (net-bound s.args.net s.args.plan.now 0 s.args.side) (rw (c.no_trail.ensures, c.period.ensures) at c.next_layer-grown.ensures)
+
+pub after_quiet-requires : goal.after_quiet-requires
+after_quiet-requires c =
+    let s = c.before.before.before.before.before.before.before.before.before.before in
+    let r = s.requires.ready in
+    let l = made c.before.before.before.before in
+    let near = layer-near (ready-lawful _ _ r) (ready-cells _ _ r) s.requires.front l in
+    let far = layer-far (ready-lawful _ _ r) (ready-cells _ _ r) s.requires.front l in
+    record {
+      few = few-cells _ _ r.ready;
+      room = omega (arith, l.same, s.requires.room);
+      near = near.ordered;
+      at_count = near.at_count;
+      within = far.within;
+      exits_in = λ h. omega (arith, l.same, s.requires.exits_in h);
+      far = λ h. (far.queue h).ordered;
+    }
+
+pub returns-then-active-eq0 : goal.returns-then-active-eq0
+returns-then-active-eq0 c =
+    let s = c.before.before.before.before.before.before.before.before.before.before.before in
+    let r = s.requires.ready in
+    turn-quiet (ready-lawful _ _ r) (ready-cells _ _ r) s.requires.front (made c.before.before.before.before.before) c.if-active-eq0.true _ c.after_quiet.ensures
+
+-- a layer that grew: its weight and steps are small
+short : (c : Else-active-eq0) → let s = c.before.before.before.before.before.before.before.before.before in (s.args.f.steps < 134348800) × ((net_rules s.args.net s.args.plan.now).weight s.args.side + s.args.f.weight ≤ 61500000)
+short c =
+    let s = c.before.before.before.before.before.before.before.before.before in
+    let r = s.requires.ready in
+    ready-short _ _ r s.args.side (omega (arith, s.requires.side_in, net-fifos s.args.net s.args.plan.now)) s.args.f.weight (layer-came (ready-lawful _ _ r) (ready-cells _ _ r) s.requires.front (made c.before.before.before) (omega (arith, c.if-active-eq0.false)))
+
+pub overflow_add-steps : goal.overflow_add-steps
+overflow_add-steps c = omega (arith, short c.before)
+
+pub at_sink-requires : goal.at_sink-requires
+at_sink-requires c =
+    let s = c.before.before.before.before.before.before.before.before.before.before.before in
+    (s.requires.ready.ready.valid.register, omega (arith, s.requires.ready.ready.sink, s.requires.room, (made c.before.before.before.before.before).same))
+
+pub returns-then-at_sink : goal.returns-then-at_sink
+returns-then-at_sink c =
+    let s = c.before.before.before.before.before.before.before.before.before.before.before.before.before in
+    let r = s.requires.ready in
+    let net = s.args.net in
+    let marks = s.args.plan.now in
+    turn-sink (ready-lawful _ _ r) (ready-cells _ _ r) s.requires.front (made c.before.before.before.before.before.before.before) (c.at_sink.ensures.yes c.if-at_sink.true)
+    (rw (net-start-delay net marks, net-sink net marks, net-start-load net marks) (c.at_sink.ensures.comes c.if-at_sink.true (length marks) r.ready.sink))
+
+-- the weight of the new labels
+weighs : (c : After-weight) → let s = c.before.before.before.before.before.before.before.before.before.before.before.before.before.before in s.args.f.weight + c.weight.result ≡ (net_rules s.args.net s.args.plan.now).weight s.args.side + s.args.f.weight
+weighs c = let s = c.before.before.before.before.before.before.before.before.before.before.before.before.before.before in omega (arith, c.weight.ensures, net-weight s.args.net s.args.plan.now s.args.side)
+
+pub overflow_add-weight : goal.overflow_add-weight
+overflow_add-weight c = omega (arith, weighs c.before, short c.before.before.before.before.before.before)
+
+pub overflow_mul-n : goal.overflow_mul-n
+overflow_mul-n c = omega (arith, few-cells _ _ c.requires.ready.ready)
+
+pub label_active-count-requires : goal.label_active-count-requires
+label_active-count-requires c =
+    let s = c.before.before.before.before.before.before.before.before.before.before.before.before.before.before.before.before in
+    let r = s.requires.ready in
+    let l = made c.before.before.before.before.before.before.before.before.before.before in (
+      record {
+        ready = r;
+        gate = inl refl;
+        room = omega (arith, l.same, s.requires.room);
+        ordered = (layer-near (ready-lawful _ _ r) (ready-cells _ _ r) s.requires.front l).ordered;
+        last = turn-before (ready-lawful _ _ r) (ready-cells _ _ r) s.requires.front l _ (weighs c.before.before);
+        few = omega (arith, weighs c.before.before, short c.before.before.before.before.before.before.before);
+        set_in = set-in _ _ (few-cells _ _ r.ready) (omega (arith, l.same, s.requires.room));
+        apart = set_apart _;
+      },
+      l.listed,
+    )
+
+pub watch-watched-requires : goal.watch-watched-requires
+watch-watched-requires c =
+    let s = c.before.before.before.before.before.before.before.before.before.before.before.before.before.before.before.before.before.before.before.before in
+    let r = s.requires.ready in
+    let l = made c.before.before.before.before.before.before.before.before.before.before.before.before.before.before in
+    let added = c.label_active-count.ensures in
+    record {
+      few = few-cells _ _ r.ready;
+      label = λ h.
+          let v = turn-watch (ready-lawful _ _ r) (ready-cells _ _ r) s.requires.front l _ (weighs c.before.before.before.before.before.before) added h in
+          record {
+            ready = r;
+            gate = inr (refl, omega (arith, s.requires.side_in));
+            room = omega (arith, added.same, l.same, s.requires.room);
+            ordered = v.0;
+            last = v.1;
+            few = omega (arith, weighs c.before.before.before.before.before.before, short c.before.before.before.before.before.before.before.before.before.before.before);
+            set_in = exits-in _ _ (few-cells _ _ r.ready) (omega (arith, added.same, l.same, s.requires.watch_in h));
+            apart = exits-apart _;
+          };
+      listed = listed_kept l.listed _ (λ i h. added.high _ (omega arith)) (λ i h. added.high _ (omega arith));
+    }
+
+pub returns : goal.returns
+returns c =
+    let s = c.before.before.before.before.before.before.before.before.before.before.before.before.before.before.before.before.before.before.before.before.before.before.before in
+    let r = s.requires.ready in
+    let net = s.args.net in
+    let marks = s.args.plan.now in
+    turn-grown (ready-lawful _ _ r) (ready-cells _ _ r) s.requires.front (made c.before.before.before.before.before.before.before.before.before.before.before.before.before.before.before.before.before) _ (weighs c.before.before.before.before.before.before.before.before.before) (omega (arith, c.if-active-eq0.false))
+    (λ e. rw (net-start-delay net marks, net-sink net marks, net-start-load net marks) (c.at_sink.ensures.not_yet c.if-at_sink.false e (length marks) r.ready.sink))
+    c.label_active-count.ensures c.watch-watched.ensures

@@ -1,0 +1,80 @@
+-- The span passes, the buffers drive it, and it closes where it may.
+use mathlib.Core.Path.{sym, ◌∙◌}
+use mathlib.Core.Logic.{⊎_elim, inl, inr}
+use native.Mathlib.Omega.{arith}
+use borrow.Author.Tests.{not-true, not-false}
+use lib.Dec.{T_not}
+use Rattle.plan.proofs.Truth.{of-true, of-false}
+use Rattle.rules.specs.Rules.{register_code}
+use Rattle.rules.specs.Legal.{may_stand}
+use Rattle.problem.specs.Problem.{rules_for}
+use Rattle.spans.specs.Opens.{MayClose}
+use Rattle.spans.proofs.Eases.{ground-space, limit-row}
+use Rattle.spans.proofs.Arriving.{source-named, passed-asks, Through, through-none, through-buffers, arrived-open, shut-asks, arrived-shut}
+use Rattle.spans.proofs.arrivals.arrive.Goals as goal
+use Rattle.spans.proofs.arrivals.arrive.Goals.{Joined-cell-p, Joined-takes_buffers}
+
+-- passed and driven
+through : (c : Joined-takes_buffers) → let start = c.before.before.before.before.before.before.before.before.before.before.before.before.before in let a = start.args in Through a.p a.plan.now a.period a.scratch-1.now a.count a.cell a.load.0 a.delay.0 start.requires c.if-takes_buffers.scratch c.if-takes_buffers.waiting
+through c =
+    let start = c.before.before.before.before.before.before.before.before.before.before.before.before.before in
+    let a = start.args in
+    let eased = c.ease-waiting.ensures in
+    ⊎_elim
+    (λ w. rw (w.5, w.6) (through-buffers a.p a.plan.now a.period a.scratch-1.now a.count a.cell a.load.0 a.delay.0 start.requires _ _ eased _ _ w.2.ensures))
+    (λ w. rw (w.1, w.2) (through-none a.p a.plan.now a.period a.scratch-1.now a.count a.cell a.load.0 a.delay.0 start.requires _ _ eased (sym c.takes_buffers.ensures ∙ w.0.left)))
+    c.if-takes_buffers.branch
+
+closes : (c : Joined-cell-p) → let a = c.args in MayClose (rules_for a.p a.plan.now) a.cell
+closes c =
+    let a = c.args in
+    ⊎_elim
+    (λ w. inr (of-true (may_stand (rules_for a.p a.plan.now) a.cell register_code) (sym w.1.ensures ∙ not-false _ w.2.left)))
+    (λ w. inl (w.left ∙ sym (source-named a.p a.plan.now)))
+    c.if-cell-p.branch
+
+pub ease-waiting-requires : goal.ease-waiting-requires
+ease-waiting-requires c =
+    let start = c.before.before.before.before.before.before.before in
+    let g = start.requires.ground in
+    (ground-space _ _ g, (g.queue, (g.falling, (start.requires.inside, (start.requires.light, limit-row _ _ g)))))
+
+pub ease_buffers-waiting-requires : goal.ease_buffers-waiting-requires
+ease_buffers-waiting-requires c =
+    let start = c.before.before.before.before.before.before.before.before.before.before.before.before.before.before in
+    let a = start.args in
+    (passed-asks a.p a.plan.now a.period a.scratch-1.now a.count a.cell a.load.0 a.delay.0 start.requires _ _ c.ease-waiting.ensures, sym c.takes_buffers.ensures ∙ c.if-takes_buffers.true)
+
+pub may_register-requires : goal.may_register-requires
+may_register-requires c = (c.requires.ground.ready, c.requires.inside)
+
+pub shape_of-scratch-then-not-may_register : goal.shape_of-scratch-then-not-may_register
+shape_of-scratch-then-not-may_register c = (through c.before.before.before.before).eases.same
+
+pub returns-then-not-may_register : goal.returns-then-not-may_register
+returns-then-not-may_register c =
+    let start = c.before.before.before.before.before.before.before.before.before.before.before.before.before.before.before.before.before in
+    let a = start.args in
+    let may = may_stand (rules_for a.p a.plan.now) a.cell register_code in
+    arrived-open a.p a.plan.now a.period a.scratch-1.now a.count a.cell a.load.0 a.delay.0 start.requires _ _ (through c.before.before.before.before) (⊎_elim (λ e. c.if-cell-p.true (e ∙ source-named a.p a.plan.now)) (λ t. T_not may (of-false may (sym c.may_register.ensures ∙ not-true _ c.if-not-may_register.true-raw)) t))
+
+pub closing-closing-requires : goal.closing-closing-requires
+closing-closing-requires c =
+    let start = c.before.before.before.before.before.before.before.before.before.before.before.before.before.before.before.before in
+    let v = start.requires.ground.ready.valid in
+    (v.register-1, (omega (arith, v.skew), (omega (arith, start.requires.light, v.limit), omega (arith, start.requires.early))))
+
+pub shut-requires : goal.shut-requires
+shut-requires c =
+    let start = c.before.before.before.before.before.before.before.before.before.before.before.before.before.before.before.before.before.before in
+    let a = start.args in
+    rw c.closing-closing.ensures (shut-asks a.p a.plan.now a.period a.scratch-1.now a.count a.cell a.load.0 a.delay.0 start.requires _ _ (through c.before.before.before.before.before) (closes c.before.before.before))
+
+pub shape_of-scratch : goal.shape_of-scratch
+shape_of-scratch c = c.shut.ensures.0.same ∙ (through c.before.before.before.before.before.before.before.before).eases.same
+
+pub returns : goal.returns
+returns c =
+    let start = c.before.before.before.before.before.before.before.before.before.before.before.before.before.before.before.before.before.before.before.before.before in
+    let a = start.args in
+    arrived-shut a.p a.plan.now a.period a.scratch-1.now a.count a.cell a.load.0 a.delay.0 start.requires _ _ (through c.before.before.before.before.before.before.before.before) _ _ (rw c.closing-closing.ensures at c.shut.ensures)

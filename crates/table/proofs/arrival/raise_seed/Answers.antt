@@ -1,0 +1,23 @@
+-- Raised where the mark says so, else as it was.
+use mathlib.Core.Path.{◌≡◌, refl, sym, ◌∙◌}
+use mathlib.Core.Bool.{true, false}
+use lib.ListN.{get_or}
+use Rattle.rows.proofs.Words.{filled-as}
+use Rattle.table.specs.Problem.{marks_seed}
+use Rattle.table.specs.ArrivalRow.{seeded}
+use Rattle.table.proofs.arrival.raise_seed.Goals as goal
+
+pub returns-then-marks_seed : goal.returns-then-marks_seed
+unfolding seeded
+returns-then-marks_seed c =
+    let here = c.before.before.before.before.before in
+    let start = here.before.before.before.before in
+    let test : marks_seed (get_or start.args.scratch.now start.args.mark 0) start.args.code ≡ true = sym here.marks_seed.ensures ∙ here.if-marks_seed.true in
+    filled-as c.raise_row.ensures _ (λ k h. simp (test, c.above-rest.ensures))
+
+pub returns-else-marks_seed : goal.returns-else-marks_seed
+unfolding seeded
+returns-else-marks_seed c =
+    let start = c.before.before.before.before in
+    let test : marks_seed (get_or start.args.scratch.now start.args.mark 0) start.args.code ≡ false = sym c.marks_seed.ensures ∙ c.if-marks_seed.false in
+    record { same = refl; done = λ k h. simp test; low = λ k h. refl; high = λ k h. refl }

@@ -1,0 +1,30 @@
+-- The gate's delay, then twice the skew.
+use Prim.Native.Nat.{◌+◌}
+use mathlib.Core.Path.{◌≡◌}
+use native.Mathlib.Omega.{arith}
+use Rattle.timing.specs.Formulas.{gate_delay, register_driver}
+use Rattle.timing.proofs.Bounds.{gate-delay-max}
+use Rattle.timing.proofs.Skew.{skew-paid}
+use Rattle.timing.proofs.elements.Register.closing.Goals as goal
+
+pub after-after-requires : goal.after-after-requires
+unfolding register_driver
+after-after-requires c =
+    let start = c.before in
+    let driver : c.driver.result ≡ register_driver start.args.self = c.driver.ensures in
+    (rw driver start.requires.0.driver, start.requires.1.1)
+
+pub plus-requires : goal.plus-requires
+unfolding register_driver
+plus-requires c =
+    let start = c.before.before in
+    let driver : c.driver.result ≡ register_driver start.args.self = c.driver.ensures in
+    let after : c.after-after.result.0 ≡ start.args.delay.0 + gate_delay (register_driver start.args.self) start.args.load.0 = rw driver at c.after-after.ensures in
+    omega (arith, after, start.requires.1.0, start.requires.1.1.1, gate-delay-max (register_driver start.args.self) start.args.load.0 start.requires.0.driver start.requires.1.1.0)
+
+pub returns : goal.returns
+returns c =
+    let start = c.before.before.before in
+    let driver : c.driver.result ≡ register_driver start.args.self = c.driver.ensures in
+    let after : c.after-after.result.0 ≡ start.args.delay.0 + gate_delay (register_driver start.args.self) start.args.load.0 = rw driver at c.after-after.ensures in
+    omega (arith, c.plus.ensures, after, skew-paid start.args.skew (register_driver start.args.self) start.args.load.0)

@@ -1,0 +1,28 @@
+-- Each check is what the answer's contract computes to. Signed numbers are compared by their 32 bits.
+use mathlib.Core.Path.{ap}
+use borrow.Author.Tests.{eq-eqb}
+use mir.Syntax.{w32}
+use mir.Val.{of_z}
+use Rattle.answers.specs.declared.answer.Figures.{Figures}
+use Rattle.timing_check.proofs.answer.answers.Goals as goal
+
+pub expect-requires : goal.expect-requires
+expect-requires c = eq-eqb c.number.result 0 c.number.ensures
+
+pub expect-requires-2 : goal.expect-requires-2
+expect-requires-2 c = eq-eqb c.number-2.result 8 c.number-2.ensures
+
+pub expect-requires-3 : goal.expect-requires-3
+expect-requires-3 c = eq-eqb c.figures.result.latency 50 (ap (λ (f : Figures). f.latency) c.figures.ensures)
+
+pub expect-requires-4 : goal.expect-requires-4
+expect-requires-4 c = eq-eqb (of_z w32 c.figures-2.result.slack) 26 (ap (λ (f : Figures). of_z w32 f.slack) c.figures-2.ensures)
+
+pub expect-requires-5 : goal.expect-requires-5
+expect-requires-5 c = eq-eqb c.number-3.result 7 c.number-3.ensures
+
+pub expect-requires-6 : goal.expect-requires-6
+expect-requires-6 c = eq-eqb c.figures-3.result.latency 0 (ap (λ (f : Figures). f.latency) c.figures-3.ensures)
+
+pub expect-requires-7 : goal.expect-requires-7
+expect-requires-7 c = eq-eqb (of_z w32 c.figures-4.result.slack) 0 (ap (λ (f : Figures). of_z w32 f.slack) c.figures-4.ensures)

@@ -1,0 +1,73 @@
+-- `trail::restore`: the newest entry's row goes back to its cell; the trail's words and the other rows stay.
+use Prim.Native.Nat.{ℕ, ◌+◌, ◌*◌, ◌-◌, ◌≤◌, ◌<◌}
+use mathlib.Core.Path.{◌≡◌, refl, ap, ◌∙◌}
+use mathlib.Core.Logic.{inr}
+use mathlib.Core.List.{List}
+use native.Mathlib.Omega.{arith}
+use lib.ListN.{get_or}
+use Rattle.layout.specs.Layout.{cell_words, slot_words, slot_cell}
+use Rattle.rows.specs.Words.{Filled}
+use Rattle.rows.proofs.Rows.{row-elsewhere}
+use Rattle.costs.specs.Costs.{row_words}
+use Rattle.trail.specs.declared.Trail.{Trail}
+use Rattle.trail.specs.Trail.{place_of, cell_at, TrailAsks, Restored}
+use Rattle.trail.proofs.Slots.{place-in, place-above}
+use Rattle.trail.proofs.Changes.{restored}
+use Rattle.trail.proofs.restore.Goals as goal
+use Rattle.trail.proofs.restore.Goals.{After-place-at}
+
+module _ (n : ℕ) (old : List ℕ) (t : Trail) (new : List ℕ) (r : Trail) (asks : TrailAsks n old t) (at cell : ℕ) where
+  pub put_back : r.room ≡ t.room → r.start ≡ t.start → t.count ≡ r.count + 1 → r.low ≡ t.low → r.stamp ≡ t.stamp → at ≡ place_of n t r.count → cell ≡ cell_at n old t r.count → Filled (λ k. get_or old (at + k) 0) (cell * row_words) row_words old new → Restored n old t new r
+  put_back a b c d e atIs cellIs f =
+      restored n old t new r asks.sound a b c d e f.same (λ k h. f.high k (omega (arith, in_plan)))
+      (λ l k. rw (← cellIs) (f.done l k ∙ ap (λ (x : ℕ). get_or old (x + l) 0) atIs))
+      (λ x l h k q. row-elsewhere f x l k (λ z. q (z ∙ cellIs)))
+    where
+      in_plan : cell < n
+      in_plan = omega (arith, asks.sound.cells r.count (omega arith))
+
+-- the entry's place is in the words
+inside : (c : After-place-at) → c.place-at.result + slot_words ≤ c.args.n * cell_words
+inside c =
+    let s = c.before.before.before in
+    omega (arith, c.place-at.ensures, place-in s.requires.0.sound (s.args.trail.count - 1) (omega (arith, s.requires.0.sound.fits)))
+
+cell_in : (c : After-place-at) → get_or c.args.scratch.now (c.place-at.result + slot_cell) 0 < c.args.n
+cell_in c =
+    let s = c.before.before.before in
+    rw c.place-at.ensures (s.requires.0.sound.cells (s.args.trail.count - 1) (omega arith))
+
+pub place-at-requires : goal.place-at-requires
+place-at-requires c =
+    let s = c.before.before in
+    (s.requires.0.sound.start, (s.requires.0.sound.slots, (s.requires.0.few, omega (arith, s.requires.0.sound.fits))))
+
+pub overflow_add-cell : goal.overflow_add-cell
+overflow_add-cell c = omega (arith, inside c, c.requires.0.few)
+
+pub offset_bounds-scratch-at : goal.offset_bounds-scratch-at
+offset_bounds-scratch-at c = omega (arith, inside c, c.requires.0.few)
+
+pub bounds-scratch-at : goal.bounds-scratch-at
+bounds-scratch-at c = omega (arith, inside c.before, c.requires.0.room)
+
+pub overflow_cast-cell : goal.overflow_cast-cell
+overflow_cast-cell c = omega (arith, cell_in c.before, c.requires.0.few)
+
+pub overflow_mul-cell : goal.overflow_mul-cell
+overflow_mul-cell c = omega (arith, cell_in c.before.before, c.requires.0.few)
+
+pub copy-requires : goal.copy-requires
+copy-requires c =
+    let p = c.before.before in
+    let s = p.before.before.before in (
+      inr (omega (arith, cell_in p, p.place-at.ensures, place-above s.requires.0.sound (s.args.trail.count - 1) (omega (arith, s.requires.0.sound.fits)))),
+      (omega (arith, inside p, s.requires.0.room), omega (arith, cell_in p, s.requires.0.room)),
+    )
+
+pub returns : goal.returns
+returns c =
+    let p = c.before.before.before.before.before in
+    let s = p.before.before.before in
+    put_back _ _ _ _ _ s.requires.0 _ _ refl refl (omega arith) refl refl p.place-at.ensures
+    (ap (λ (x : ℕ). get_or s.args.scratch.now (x + slot_cell) 0) p.place-at.ensures) c.copy.ensures
