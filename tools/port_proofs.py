@@ -127,6 +127,82 @@ def prune(uses, body):
     return out
 
 
+PLACE = r"tie\.((?!Need)[A-Z][\w'-]*)"
+
+
+def aliased(t, names, body):
+    """Words for an earlier place: `start c` and `let w = c.before in` become `c`; a lemma at an earlier place gets `(goal.at.GOAL c).PLACE`."""
+    asked = {new: at[1] for (old, new), at in zip(names["needs"], names["asked_at"])}
+    parts = items(body)
+    ups, at = set(), {}
+    kept = []
+    for it in parts:
+        plain = re.sub(r"^--.*\n", "", it, flags=re.M)
+        m = re.match(r"(?:abbrev )?(?:pub )?([\w'-]+) : (?:\([\w']+ : " + PLACE + r"\)|" + PLACE + r") → (.*)", plain, re.S)
+        if m:
+            place = m.group(2) or m.group(3)
+            if re.match(PLACE + r"\n", m.group(4)):
+                ups.add(m.group(1))
+                continue
+            at[m.group(1)] = t.places.get(norm(place), place)
+        kept.append(it)
+    out = []
+    for it in kept:
+        m = re.search(r"^(?:abbrev )?(?:pub )?([\w'-]+) : tie\.Need-([\w'-]+)", it, re.M)
+        name = context = here = None
+        if m and norm(m.group(2)) in t.needs:
+            name, context = m.group(1), t.needs[norm(m.group(2))]
+            here = asked[context]
+        else:
+            m = re.search(r"^(?:abbrev )?(?:pub )?([\w'-]+) : (?:\([\w']+ : " + PLACE + r"\)|" + PLACE + r") → ", it, re.M)
+            if m and m.group(1) in at:
+                name, context = m.group(1), at[m.group(1)]
+                here = context
+        if not name:
+            out.append(it)
+            continue
+        m = re.search(r"^" + re.escape(name) + r" ([\w']+)", it, re.M)
+        if not m:
+            out.append(it)
+            continue
+        var = m.group(1)
+        roots = {var}
+        m = re.search(r"\(([\w']+) : " + PLACE + r"\)", it)
+        if m:
+            roots.add(m.group(1))
+        for _ in range(12):
+            before = it
+            root = r"((?:" + "|".join(re.escape(r) for r in sorted(roots)) + r")(?:\.before)*)(?![\w'.-])"
+            for up in ups:
+                it = re.sub(r"\(" + re.escape(up) + r" " + root + r"\)", r"\1", it)
+                it = re.sub(r"(?<![\w.'-])" + re.escape(up) + r" " + root, r"\1", it)
+            m = re.search(r"let ([\w']+) = " + root + r" in[ \n]", it)
+            if m:
+                a, b = m.span()
+                alias, target = m.group(1), m.group(2)
+                head, tail = it[:a], it[b:]
+                if it[b - 1] == "\n" and re.search(r"\n *$", head):
+                    head = re.sub(r"\n *$", "\n", head)
+                    it = head + re.sub(r"(?<![\w.'-])" + re.escape(alias) + r"(?![\w'-])(?! = [^≡])", lambda k: target, tail)
+                else:
+                    it = head + re.sub(r"(?<![\w.'-])" + re.escape(alias) + r"(?![\w'-])(?! = [^≡])", lambda k: target, tail).lstrip(" ")
+            if it == before:
+                break
+        root = r"(" + "|".join(re.escape(r) for r in sorted(roots)) + r")(?:\.before)*(?![\w'.-])"
+        for h, place in at.items():
+            if h == name:
+                continue
+
+            def call(m):
+                if place == here:
+                    return h + " " + m.group(1)
+                return h + " (goal.at." + context + " " + m.group(1) + ")." + place
+
+            it = re.sub(r"(?<![\w.'-])" + re.escape(h) + r" " + root, call, it)
+        out.append(it)
+    return "\n\n".join(out)
+
+
 def convert(path, module, names):
     with open(path, encoding="utf-8") as f:
         text = f.read()
@@ -146,6 +222,7 @@ def convert(path, module, names):
     body = "\n".join(lines[i:])
     handed = r"(?: (?:invariant|decreases)-loop[\w-]*)+"
     body = re.sub(r"(tie\.[A-Z][\w'-]*)" + handed, r"\1", body)
+    body = aliased(t, names, body)
     invs, answers = [], []
     inv = loop_names(t.loops, "invariant")
     dec = loop_names(t.loops, "decreases")

@@ -14,72 +14,60 @@ near c = c.neighbours_of-near.ensures.is
 
 -- what was found on each side, and that it was nothing
 
-up : (c : After-try_cell-up) → let start = c.before.before.before.before.before in Only start.args.net start.args.plan.now start.args.exits start.args.scratch.now start.args.from start.requires (neighbours_of (plan_for start.args.net.problem start.args.plan.now) start.args.from.cell).up-1 c.try_cell-up.result
-up c = rw (near c.before.before) at c.try_cell-up.ensures
+up : (c : After-try_cell-up) → Only c.args.net c.args.plan.now c.args.exits c.args.scratch.now c.args.from c.requires (neighbours_of (plan_for c.args.net.problem c.args.plan.now) c.args.from.cell).up-1 c.try_cell-up.result
+up c = rw (near (goal.at.After-try_cell-up c).After-neighbours_of-near) at c.try_cell-up.ensures
 
-no-up : (c : In_default) → let start = c.before.before.before.before.before.before.before in Empty start.args.net start.args.plan.now start.args.exits start.args.scratch.now start.args.from start.requires (neighbours_of (plan_for start.args.net.problem start.args.plan.now) start.args.from.cell).up-1
+no-up : (c : In_default) → Empty c.args.net c.args.plan.now c.args.exits c.args.scratch.now c.args.from c.requires (neighbours_of (plan_for c.args.net.problem c.args.plan.now) c.args.from.cell).up-1
 no-up c =
-    let start = c.before.before.before.before.before.before.before in
-    empty start.args.net start.args.plan.now start.args.exits start.args.scratch.now start.args.from start.requires _ (rw c.in_default.is at (up c.before.before))
+    empty c.args.net c.args.plan.now c.args.exits c.args.scratch.now c.args.from c.requires _ (rw c.in_default.is at (up (goal.at.In_default c).After-try_cell-up))
 
-left : (c : After-try_cell-left) → let start = c.before.before.before.before.before.before.before.before in Only start.args.net start.args.plan.now start.args.exits start.args.scratch.now start.args.from start.requires (neighbours_of (plan_for start.args.net.problem start.args.plan.now) start.args.from.cell).left-1 c.try_cell-left.result
-left c = rw (near c.before.before.before.before.before) at c.try_cell-left.ensures
+left : (c : After-try_cell-left) → Only c.args.net c.args.plan.now c.args.exits c.args.scratch.now c.args.from c.requires (neighbours_of (plan_for c.args.net.problem c.args.plan.now) c.args.from.cell).left-1 c.try_cell-left.result
+left c = rw (near (goal.at.After-try_cell-left c).After-neighbours_of-near) at c.try_cell-left.ensures
 
-no-left : (c : In_default-left) → let start = c.before.before.before.before.before.before.before.before.before.before in Empty start.args.net start.args.plan.now start.args.exits start.args.scratch.now start.args.from start.requires (neighbours_of (plan_for start.args.net.problem start.args.plan.now) start.args.from.cell).left-1
+no-left : (c : In_default-left) → Empty c.args.net c.args.plan.now c.args.exits c.args.scratch.now c.args.from c.requires (neighbours_of (plan_for c.args.net.problem c.args.plan.now) c.args.from.cell).left-1
 no-left c =
-    let start = c.before.before.before.before.before.before.before.before.before.before in
-    empty start.args.net start.args.plan.now start.args.exits start.args.scratch.now start.args.from start.requires _ (rw c.in_default-left.is at (left c.before.before))
+    empty c.args.net c.args.plan.now c.args.exits c.args.scratch.now c.args.from c.requires _ (rw c.in_default-left.is at (left (goal.at.In_default-left c).After-try_cell-left))
 
-right : (c : After-try_cell-right) → let start = c.before.before.before.before.before.before.before.before.before.before.before in Only start.args.net start.args.plan.now start.args.exits start.args.scratch.now start.args.from start.requires (neighbours_of (plan_for start.args.net.problem start.args.plan.now) start.args.from.cell).right-1 c.try_cell-right.result
-right c = rw (near c.before.before.before.before.before.before.before.before) at c.try_cell-right.ensures
+right : (c : After-try_cell-right) → Only c.args.net c.args.plan.now c.args.exits c.args.scratch.now c.args.from c.requires (neighbours_of (plan_for c.args.net.problem c.args.plan.now) c.args.from.cell).right-1 c.try_cell-right.result
+right c = rw (near (goal.at.After-try_cell-right c).After-neighbours_of-near) at c.try_cell-right.ensures
 
-no-right : (c : In_default-right) → let start = c.before.before.before.before.before.before.before.before.before.before.before.before.before in Empty start.args.net start.args.plan.now start.args.exits start.args.scratch.now start.args.from start.requires (neighbours_of (plan_for start.args.net.problem start.args.plan.now) start.args.from.cell).right-1
+no-right : (c : In_default-right) → Empty c.args.net c.args.plan.now c.args.exits c.args.scratch.now c.args.from c.requires (neighbours_of (plan_for c.args.net.problem c.args.plan.now) c.args.from.cell).right-1
 no-right c =
-    let start = c.before.before.before.before.before.before.before.before.before.before.before.before.before in
-    empty start.args.net start.args.plan.now start.args.exits start.args.scratch.now start.args.from start.requires _ (rw c.in_default-right.is at (right c.before.before))
+    empty c.args.net c.args.plan.now c.args.exits c.args.scratch.now c.args.from c.requires _ (rw c.in_default-right.is at (right (goal.at.In_default-right c).After-try_cell-right))
 
 pub neighbours_of-near-requires : goal.neighbours_of-near-requires
 unfolding plan_for
 neighbours_of-near-requires c =
-    let start = c.before.before in
-    (start.requires.ready.ready.sized, omega (arith, start.requires.in_range.in_plan, cells-product _ _ start.requires.ready.ready))
+    (c.requires.ready.ready.sized, omega (arith, c.requires.in_range.in_plan, cells-product _ _ c.requires.ready.ready))
 
 pub try_cell-up-requires : goal.try_cell-up-requires
 try_cell-up-requires c =
-    let start = c.before.before.before.before in
-    rw (near c.before) (up-asks start.args.net start.args.plan.now start.args.exits start.args.scratch.now start.args.from start.requires)
+    rw (near (goal.at.try_cell-up-requires c).After-neighbours_of-near) (up-asks c.args.net c.args.plan.now c.args.exits c.args.scratch.now c.args.from c.requires)
 
 pub returns-in-Visit : goal.returns-in-Visit
 returns-in-Visit c =
-    let start = c.before.before.before.before.before.before.before.before in
-    up_first start.args.net start.args.plan.now start.args.exits start.args.scratch.now start.args.from start.requires _ _ (rw c.in-Visit.is at (up c.before.before.before))
+    up_first c.args.net c.args.plan.now c.args.exits c.args.scratch.now c.args.from c.requires _ _ (rw c.in-Visit.is at (up (goal.at.returns-in-Visit c).After-try_cell-up))
 
 pub try_cell-left-requires : goal.try_cell-left-requires
 try_cell-left-requires c =
-    let start = c.before.before.before.before.before.before.before in
-    rw (near c.before.before.before.before) (left-asks start.args.net start.args.plan.now start.args.exits start.args.scratch.now start.args.from start.requires)
+    rw (near (goal.at.try_cell-left-requires c).After-neighbours_of-near) (left-asks c.args.net c.args.plan.now c.args.exits c.args.scratch.now c.args.from c.requires)
 
 pub returns-in-Visit-left : goal.returns-in-Visit-left
 returns-in-Visit-left c =
-    let start = c.before.before.before.before.before.before.before.before.before.before.before in
-    left-first start.args.net start.args.plan.now start.args.exits start.args.scratch.now start.args.from start.requires (no-up c.before.before.before.before) _ _ (rw c.in-Visit-left.is at (left c.before.before.before))
+    left-first c.args.net c.args.plan.now c.args.exits c.args.scratch.now c.args.from c.requires (no-up (goal.at.returns-in-Visit-left c).In_default) _ _ (rw c.in-Visit-left.is at (left (goal.at.returns-in-Visit-left c).After-try_cell-left))
 
 pub try_cell-right-requires : goal.try_cell-right-requires
 try_cell-right-requires c =
-    let start = c.before.before.before.before.before.before.before.before.before.before in
-    rw (near c.before.before.before.before.before.before.before) (right-asks start.args.net start.args.plan.now start.args.exits start.args.scratch.now start.args.from start.requires)
+    rw (near (goal.at.try_cell-right-requires c).After-neighbours_of-near) (right-asks c.args.net c.args.plan.now c.args.exits c.args.scratch.now c.args.from c.requires)
 
 pub returns-in-Visit-right : goal.returns-in-Visit-right
 returns-in-Visit-right c =
-    let start = c.before.before.before.before.before.before.before.before.before.before.before.before.before.before in
-    right-first start.args.net start.args.plan.now start.args.exits start.args.scratch.now start.args.from start.requires (no-up c.before.before.before.before.before.before.before) (no-left c.before.before.before.before) _ _ (rw c.in-Visit-right.is at (right c.before.before.before))
+    right-first c.args.net c.args.plan.now c.args.exits c.args.scratch.now c.args.from c.requires (no-up (goal.at.returns-in-Visit-right c).In_default) (no-left (goal.at.returns-in-Visit-right c).In_default-left) _ _ (rw c.in-Visit-right.is at (right (goal.at.returns-in-Visit-right c).After-try_cell-right))
 
 pub try_cell-requires : goal.try_cell-requires
 try_cell-requires c =
-    let start = c.before.before.before.before.before.before.before.before.before.before.before.before.before in
-    rw (near c.before.before.before.before.before.before.before.before.before.before) (down-asks start.args.net start.args.plan.now start.args.exits start.args.scratch.now start.args.from start.requires)
+    rw (near (goal.at.try_cell-requires c).After-neighbours_of-near) (down-asks c.args.net c.args.plan.now c.args.exits c.args.scratch.now c.args.from c.requires)
 
 pub returns : goal.returns
 returns c =
-    let start = c.before.before.before.before.before.before.before.before.before.before.before.before.before.before in
-    down-last start.args.net start.args.plan.now start.args.exits start.args.scratch.now start.args.from start.requires (no-up c.before.before.before.before.before.before.before) (no-left c.before.before.before.before) (no-right c.before) _ (rw (near c.before.before.before.before.before.before.before.before.before.before.before) at c.try_cell.ensures)
+    down-last c.args.net c.args.plan.now c.args.exits c.args.scratch.now c.args.from c.requires (no-up (goal.at.returns c).In_default) (no-left (goal.at.returns c).In_default-left) (no-right (goal.at.returns c).In_default-right) _ (rw (near (goal.at.returns c).After-neighbours_of-near) at c.try_cell.ensures)

@@ -27,50 +27,38 @@ tested c = sym (rw c.budget_at.ensures at c.below.ensures)
 -- past the buffers, no code below the register's goes on
 low : (c : Joined-takes_buffers) → let a = c.args in (code : ℕ) → code < register_code → T (goes_at (net_rules a.net a.plan.now) (labels_for (length a.plan.now) a.exits a.scratch.now) (budget_of (length a.plan.now) a.scratch.now) a.at code) → ⊥
 low c =
-    let start = c.before.before.before.before.before.before.before.before.before in
     ⊎_elim
-    (λ w. no_buffer start.args.net start.args.plan.now start.args.exits start.args.scratch.now start.args.at start.requires (tested c.before.before.before.before.before ∙ c.if-below.false) (sym c.takes_buffers.ensures ∙ w.0.taken) _ w.1.ensures w.3.left)
-    (λ w. no-site start.args.net start.args.plan.now start.args.exits start.args.scratch.now start.args.at start.requires (tested c.before.before.before.before.before ∙ c.if-below.false) (sym c.takes_buffers.ensures ∙ w.left))
+    (λ w. no_buffer c.args.net c.args.plan.now c.args.exits c.args.scratch.now c.args.at c.requires (tested (goal.at.Joined-takes_buffers c).After-below ∙ c.if-below.false) (sym c.takes_buffers.ensures ∙ w.0.taken) _ w.1.ensures w.3.left)
+    (λ w. no-site c.args.net c.args.plan.now c.args.exits c.args.scratch.now c.args.at c.requires (tested (goal.at.Joined-takes_buffers c).After-below ∙ c.if-below.false) (sym c.takes_buffers.ensures ∙ w.left))
     c.if-takes_buffers.branch
 
 -- nor the register's
 low-fifo : (c : Else-closes) → let a = c.args in (code : ℕ) → code < fifo_code → T (goes_at (net_rules a.net a.plan.now) (labels_for (length a.plan.now) a.exits a.scratch.now) (budget_of (length a.plan.now) a.scratch.now) a.at code) → ⊥
 low-fifo c =
-    let start = c.before.before.before.before.before.before.before.before.before.before.before in
-    low-more start.args.net start.args.plan.now start.args.exits start.args.scratch.now start.args.at start.requires register_code (low c.before.before) (sym c.closes.ensures ∙ c.if-closes.false)
+    low-more c.args.net c.args.plan.now c.args.exits c.args.scratch.now c.args.at c.requires register_code (low (goal.at.Else-closes c).Joined-takes_buffers) (sym c.closes.ensures ∙ c.if-closes.false)
 
 pub returns-then-below : goal.returns-then-below
 returns-then-below c =
-    let start = c.before.before.before.before.before in
-    code-none start.args.net start.args.plan.now start.args.exits start.args.scratch.now start.args.at start.requires (bits c.before.before.before) (tested c.before ∙ c.if-below.true)
+    code-none c.args.net c.args.plan.now c.args.exits c.args.scratch.now c.args.at c.requires (bits (goal.at.returns-then-below c).After-shared_slice_known-2-1) (tested (goal.at.returns-then-below c).After-below ∙ c.if-below.true)
 
 pub returns-then-i-elements : goal.returns-then-i-elements
 returns-then-i-elements c =
-    let start = c.before.before.before.before.before.before.before.before.before.before.before.before in
-    code-buffer start.args.net start.args.plan.now start.args.exits start.args.scratch.now start.args.at start.requires (bits c.before.before.before.before.before.before.before.before.before.before) (tested c.before.before.before.before.before.before.before.before ∙ c.if-below.false) (sym c.takes_buffers.ensures ∙ c.if-takes_buffers.true) _ c.first_buffer-i.ensures c.if-i-elements.true
+    code-buffer c.args.net c.args.plan.now c.args.exits c.args.scratch.now c.args.at c.requires (bits (goal.at.returns-then-i-elements c).After-shared_slice_known-2-1) (tested (goal.at.returns-then-i-elements c).After-below ∙ c.if-below.false) (sym c.takes_buffers.ensures ∙ c.if-takes_buffers.true) _ c.first_buffer-i.ensures c.if-i-elements.true
 
 pub closes-requires : goal.closes-requires
 closes-requires c = (c.requires, high-closes _ (omega arith) (omega arith))
 
 pub returns-then-closes : goal.returns-then-closes
 returns-then-closes c =
-    let joined = c.before.before in
-    let start = joined.before.before.before.before.before.before.before.before.before in
-    code-first start.args.net start.args.plan.now start.args.exits start.args.scratch.now start.args.at start.requires (bits joined.before.before.before.before.before.before.before) register_code (omega arith) (λ k. of-true (goes_at _ _ _ _ _) (sym c.closes.ensures ∙ c.if-closes.true)) (low joined)
+    code-first c.args.net c.args.plan.now c.args.exits c.args.scratch.now c.args.at c.requires (bits (goal.at.returns-then-closes c).After-shared_slice_known-2-1) register_code (omega arith) (λ k. of-true (goes_at _ _ _ _ _) (sym c.closes.ensures ∙ c.if-closes.true)) (low (goal.at.returns-then-closes c).Joined-takes_buffers)
 
 pub closes-requires-2 : goal.closes-requires-2
 closes-requires-2 c = (c.requires, high-closes _ (omega arith) (omega arith))
 
 pub returns-then-closes-2 : goal.returns-then-closes-2
 returns-then-closes-2 c =
-    let else = c.before.before in
-    let joined = else.before.before in
-    let start = joined.before.before.before.before.before.before.before.before.before in
-    code-first start.args.net start.args.plan.now start.args.exits start.args.scratch.now start.args.at start.requires (bits joined.before.before.before.before.before.before.before) fifo_code (omega arith) (λ k. of-true (goes_at _ _ _ _ _) (sym c.closes-2.ensures ∙ c.if-closes-2.true)) (low-fifo else)
+    code-first c.args.net c.args.plan.now c.args.exits c.args.scratch.now c.args.at c.requires (bits (goal.at.returns-then-closes-2 c).After-shared_slice_known-2-1) fifo_code (omega arith) (λ k. of-true (goes_at _ _ _ _ _) (sym c.closes-2.ensures ∙ c.if-closes-2.true)) (low-fifo (goal.at.returns-then-closes-2 c).Else-closes)
 
 pub returns : goal.returns
 returns c =
-    let else = c.before.before in
-    let joined = else.before.before in
-    let start = joined.before.before.before.before.before.before.before.before.before in
-    code-first start.args.net start.args.plan.now start.args.exits start.args.scratch.now start.args.at start.requires (bits joined.before.before.before.before.before.before.before) (fifo_code + 1) (omega arith) (λ k. absurd (omega arith)) (low-more start.args.net start.args.plan.now start.args.exits start.args.scratch.now start.args.at start.requires fifo_code (low-fifo else) (sym c.closes-2.ensures ∙ c.if-closes-2.false))
+    code-first c.args.net c.args.plan.now c.args.exits c.args.scratch.now c.args.at c.requires (bits (goal.at.returns c).After-shared_slice_known-2-1) (fifo_code + 1) (omega arith) (λ k. absurd (omega arith)) (low-more c.args.net c.args.plan.now c.args.exits c.args.scratch.now c.args.at c.requires fifo_code (low-fifo (goal.at.returns c).Else-closes) (sym c.closes-2.ensures ∙ c.if-closes-2.false))

@@ -35,13 +35,11 @@ returns-then-code-eq0 c =
 
 pub slack-close-requires : goal.slack-close-requires
 slack-close-requires c =
-    let start = c.before.before.before.before in
-    (rw c.gate-gate.ensures start.requires.gate, (rw c.period.ensures start.requires.period, (start.requires.valid.skew, (start.requires.light, omega (arith, start.requires.early)))))
+    (rw c.gate-gate.ensures c.requires.gate, (rw c.period.ensures c.requires.period, (c.requires.valid.skew, (c.requires.light, omega (arith, c.requires.early)))))
 
 pub start_delay-requires : goal.start_delay-requires
 start_delay-requires c =
-    let start = c.before.before.before.before.before.before.before in
-    rw c.gate-gate.ensures start.requires.gate
+    rw c.gate-gate.ensures c.requires.gate
 
 pub returns-then-code-ge7 : goal.returns-then-code-ge7
 unfolding left_load left_delay left_weight left_slack
@@ -72,10 +70,8 @@ returns-then-code-ge7 c =
 pub after-requires : goal.after-requires
 unfolding buffer_at buffer_of driver_of
 after-requires c =
-    let else = c.before.before.before.before in
-    let start = else.before.before in
-    let driver : c.driver.result ≡ buffer_driver (buffer_at start.args.net.problem.elements (start.args.code - 1)) = c.driver.ensures in
-    (rw driver (buffer-driver-fits start.requires.valid (start.args.code - 1) (omega (arith, else.if-code-ge7.false))), (start.requires.light, omega (arith, start.requires.early)))
+    let driver : c.driver.result ≡ buffer_driver (buffer_at c.args.net.problem.elements (c.args.code - 1)) = c.driver.ensures in
+    (rw driver (buffer-driver-fits c.requires.valid (c.args.code - 1) (omega (arith, c.if-code-ge7.false))), (c.requires.light, omega (arith, c.requires.early)))
 
 pub returns : goal.returns
 unfolding left_load left_delay left_weight left_slack buffer_at buffer_of driver_of

@@ -15,27 +15,22 @@ fifo c = ⊎_elim (λ e. absurd (c.if-code-eq7.false e)) (λ e. e) (closing-code
 
 pub is_seed-requires : goal.is_seed-requires
 is_seed-requires c =
-    let start = c.before.before in
-    (set-in _ _ start.requires.0.small (omega (arith, start.requires.0.room)), start.requires.0.in_plan)
+    (set-in _ _ c.requires.0.small (omega (arith, c.requires.0.room)), c.requires.0.in_plan)
 
 pub returns-then-code-eq7 : goal.returns-then-code-eq7
 returns-then-code-eq7 c =
-    let start = c.before.before.before in
     c.is_seed.ensures
-    ∙ sym (seed-code start.args.n start.args.exits start.args.scratch.now start.args.at start.args.code _ (rw c.if-code-eq7.true (labels-register start.args.n start.args.exits start.args.scratch.now)))
+    ∙ sym (seed-code c.args.n c.args.exits c.args.scratch.now c.args.at c.args.code _ (rw c.if-code-eq7.true (labels-register c.args.n c.args.exits c.args.scratch.now)))
 
 pub returns-then-exits-eq0 : goal.returns-then-exits-eq0
 returns-then-exits-eq0 c =
-    let start = c.before.before.before in
-    sym (seed-code start.args.n start.args.exits start.args.scratch.now start.args.at start.args.code _ (rw (fifo c.before) (labels-no-fifo start.args.n start.args.exits start.args.scratch.now c.if-exits-eq0.true)) ∙ no-labels-seed start.args.at)
+    sym (seed-code c.args.n c.args.exits c.args.scratch.now c.args.at c.args.code _ (rw (fifo (goal.at.returns-then-exits-eq0 c).Else-code-eq7) (labels-no-fifo c.args.n c.args.exits c.args.scratch.now c.if-exits-eq0.true)) ∙ no-labels-seed c.args.at)
 
 pub is_seed-requires-2 : goal.is_seed-requires-2
 is_seed-requires-2 c =
-    let start = c.before.before.before in
-    (exits-in _ _ start.requires.0.small (start.requires.0.exits_in (omega (arith, c.if-exits-eq0.false))), start.requires.0.in_plan)
+    (exits-in _ _ c.requires.0.small (c.requires.0.exits_in (omega (arith, c.if-exits-eq0.false))), c.requires.0.in_plan)
 
 pub returns : goal.returns
 returns c =
-    let start = c.before.before.before.before in
     c.is_seed-2.ensures
-    ∙ sym (seed-code start.args.n start.args.exits start.args.scratch.now start.args.at start.args.code _ (rw (fifo c.before.before) (labels-fifo start.args.n start.args.exits start.args.scratch.now (omega (arith, c.if-exits-eq0.false)))))
+    ∙ sym (seed-code c.args.n c.args.exits c.args.scratch.now c.args.at c.args.code _ (rw (fifo (goal.at.returns c).Else-code-eq7) (labels-fifo c.args.n c.args.exits c.args.scratch.now (omega (arith, c.if-exits-eq0.false)))))

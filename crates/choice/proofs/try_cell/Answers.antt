@@ -40,46 +40,34 @@ small c = omega (arith, c.first_code-code.ensures.within, c.if-code-eq9.false)
 
 pub returns-then-cell-plan : goal.returns-then-cell-plan
 returns-then-cell-plan c =
-    let start = c.before.before.before in
-    no-neighbour start.args.net start.args.plan.now start.args.exits start.args.scratch.now start.args.from start.args.cell start.args.wire start.requires c.if-cell-plan.true
+    no-neighbour c.args.net c.args.plan.now c.args.exits c.args.scratch.now c.args.from c.args.cell c.args.wire c.requires c.if-cell-plan.true
 
 pub plus-load-requires : goal.plus-load-requires
 unfolding wire_load
 plus-load-requires c =
-    let start = c.before.before.before.before in
-    (start.requires.asks.in_range.light, omega (arith, c.load.ensures, start.requires.wire_fits.load))
+    (c.requires.asks.in_range.light, omega (arith, c.load.ensures, c.requires.wire_fits.load))
 
 pub returns-then-not-at_most : goal.returns-then-not-at_most
 returns-then-not-at_most c =
-    let start = c.before.before.before.before.before.before.before in
-    let from = start.args.from in
-    too-heavy start.args.net start.args.plan.now start.args.exits start.args.scratch.now start.args.from start.args.cell start.args.wire start.requires (inside c.before.before.before.before) _ (from.delay.0 + wire_delay start.args.wire from.load.0) from.slack (loads c.before.before) refl refl (heavy c)
+    let from = c.args.from in
+    too-heavy c.args.net c.args.plan.now c.args.exits c.args.scratch.now c.args.from c.args.cell c.args.wire c.requires (inside (goal.at.returns-then-not-at_most c).Else-cell-plan) _ (from.delay.0 + wire_delay c.args.wire from.load.0) from.slack (loads (goal.at.returns-then-not-at_most c).After-plus-load) refl refl (heavy c)
 
 pub plus-requires : goal.plus-requires
 plus-requires c =
-    let start = c.before.before.before.before.before.before.before.before in
-    omega (arith, c.delay.ensures, start.requires.asks.in_range.early, wire-delay-max start.args.wire start.args.from.load.0 start.requires.wire_fits start.requires.asks.in_range.light)
+    omega (arith, c.delay.ensures, c.requires.asks.in_range.early, wire-delay-max c.args.wire c.args.from.load.0 c.requires.wire_fits c.requires.asks.in_range.light)
 
 pub first_code-code-requires : goal.first_code-code-requires
 first_code-code-requires c =
-    let told = c in
-    let start = told.before.before.before.before.before.before.before.before.before.before.before in
-    at-asks start.args.net start.args.plan.now start.args.exits start.args.scratch.now start.args.from start.args.cell start.args.wire start.requires (inside told.before.before.before.before.before.before.before.before) _ _ _ (loads told.before.before.before.before.before.before) (delays told.before.before) (figure told) (light told.before.before.before.before)
+    at-asks c.args.net c.args.plan.now c.args.exits c.args.scratch.now c.args.from c.args.cell c.args.wire c.requires (inside (goal.at.first_code-code-requires c).Else-cell-plan) _ _ _ (loads (goal.at.first_code-code-requires c).After-plus-load) (delays (goal.at.first_code-code-requires c).After-plus) (figure c) (light (goal.at.first_code-code-requires c).Else-not-at_most)
 
 pub returns-then-code-eq9 : goal.returns-then-code-eq9
 returns-then-code-eq9 c =
-    let told = c.before.before in
-    let start = told.before.before.before.before.before.before.before.before.before.before.before in
-    no_code start.args.net start.args.plan.now start.args.exits start.args.scratch.now start.args.from start.args.cell start.args.wire start.requires (inside told.before.before.before.before.before.before.before.before) _ _ _ (loads told.before.before.before.before.before.before) (delays told.before.before) (figure told) (light told.before.before.before.before) (rw c.if-code-eq9.true at c.first_code-code.ensures)
+    no_code c.args.net c.args.plan.now c.args.exits c.args.scratch.now c.args.from c.args.cell c.args.wire c.requires (inside (goal.at.returns-then-code-eq9 c).Else-cell-plan) _ _ _ (loads (goal.at.returns-then-code-eq9 c).After-plus-load) (delays (goal.at.returns-then-code-eq9 c).After-plus) (figure (goal.at.returns-then-code-eq9 c).After-struct_told-1) (light (goal.at.returns-then-code-eq9 c).Else-not-at_most) (rw c.if-code-eq9.true at c.first_code-code.ensures)
 
 pub leave-requires : goal.leave-requires
 leave-requires c =
-    let told = c.before.before in
-    let start = told.before.before.before.before.before.before.before.before.before.before.before in
-    leave-asks start.args.net start.args.plan.now start.args.exits start.args.scratch.now start.args.from start.args.cell start.args.wire start.requires (inside told.before.before.before.before.before.before.before.before) _ _ _ (loads told.before.before.before.before.before.before) (delays told.before.before) (figure told) (light told.before.before.before.before) _ (small c)
+    leave-asks c.args.net c.args.plan.now c.args.exits c.args.scratch.now c.args.from c.args.cell c.args.wire c.requires (inside (goal.at.leave-requires c).Else-cell-plan) _ _ _ (loads (goal.at.leave-requires c).After-plus-load) (delays (goal.at.leave-requires c).After-plus) (figure (goal.at.leave-requires c).After-struct_told-1) (light (goal.at.leave-requires c).Else-not-at_most) _ (small c)
 
 pub returns : goal.returns
 returns c =
-    let told = c.before.before.before in
-    let start = told.before.before.before.before.before.before.before.before.before.before.before in
-    first-visit start.args.net start.args.plan.now start.args.exits start.args.scratch.now start.args.from start.args.cell start.args.wire start.requires (inside told.before.before.before.before.before.before.before.before) _ _ _ (loads told.before.before.before.before.before.before) (delays told.before.before) (figure told) (light told.before.before.before.before) _ _ c.leave.ensures (small c.before) c.first_code-code.ensures
+    first-visit c.args.net c.args.plan.now c.args.exits c.args.scratch.now c.args.from c.args.cell c.args.wire c.requires (inside (goal.at.returns c).Else-cell-plan) _ _ _ (loads (goal.at.returns c).After-plus-load) (delays (goal.at.returns c).After-plus) (figure (goal.at.returns c).After-struct_told-1) (light (goal.at.returns c).Else-not-at_most) _ _ c.leave.ensures (small (goal.at.returns c).Else-code-eq9) c.first_code-code.ensures

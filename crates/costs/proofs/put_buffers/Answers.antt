@@ -13,10 +13,9 @@ loop-i-init c = (omega arith, buffers-none _ _ c.requires.0)
 pub gate_row-row-requires : goal.gate_row-row-requires
 unfolding buffer_at buffer_of driver_of buffer_driver
 gate_row-row-requires c =
-    let start = c.before.before.before.before in
     let i = c.loop-i.i in
-    let driver : c.driver.result ≡ buffer_driver (buffer_at start.args.t2 i) = c.driver.ensures in
-    rw driver (start.requires.1.buffers i (omega (arith, start.requires.1.count))).driver
+    let driver : c.driver.result ≡ buffer_driver (buffer_at c.args.t2 i) = c.driver.ensures in
+    rw driver (c.requires.1.buffers i (omega (arith, c.requires.1.count))).driver
 
 pub put_row-more-requires : goal.put_row-more-requires
 put_row-more-requires c = (c.loop-i.invariant.1.size, omega arith)
@@ -24,9 +23,8 @@ put_row-more-requires c = (c.loop-i.invariant.1.size, omega arith)
 pub loop-i-preserved : goal.loop-i-preserved
 unfolding buffer_at buffer_of driver_of buffer_driver
 loop-i-preserved c =
-    let start = c.before.before.before.before.before.before in
     let loop = c.loop-i in
-    let driver : c.driver.result ≡ buffer_driver (buffer_at start.args.t2 loop.i) = c.driver.ensures in
+    let driver : c.driver.result ≡ buffer_driver (buffer_at c.args.t2 loop.i) = c.driver.ensures in
     (omega arith, buffers-more loop.invariant.1 (rw driver at c.gate_row-row.ensures) c.put_row-more.ensures)
 
 pub returns : goal.returns

@@ -13,8 +13,7 @@ loop-l-init c = written_none _
 
 pub overflow_cast-delay : goal.overflow_cast-delay
 overflow_cast-delay c =
-    let start = c.before.before.before.before in
-    omega (arith, c.delay.ensures, wire-delay-max start.args.wire c.loop-l.l start.requires (omega arith))
+    omega (arith, c.delay.ensures, wire-delay-max c.args.wire c.loop-l.l c.requires (omega arith))
 
 pub loop-l-preserved : goal.loop-l-preserved
 unfolding step_cost

@@ -5,9 +5,6 @@ use Rattle.crossing_call.proofs.crossing_of.Goals as goal
 
 pub returns : goal.returns
 returns c =
-    let third = c.before.before.before.before.before.before.before.before.before.before.before in
-    let second = third.before in
-    let first = second.before in
-    let a = first.args in
+    let a = c.args in
     c.route_crossing_with.ensures.answer
-    ∙ rw (lent _ first.smaller-n.result a.plan.now first.smaller-n.ensures, lent _ second.smaller-s.result a.scratch-1.now second.smaller-s.ensures, lent _ third.smaller-v.result a.visits-1.now third.smaller-v.ensures)
+    ∙ rw (lent _ c.smaller-n.result a.plan.now c.smaller-n.ensures, lent _ c.smaller-s.result a.scratch-1.now c.smaller-s.ensures, lent _ c.smaller-v.result a.visits-1.now c.smaller-v.ensures)

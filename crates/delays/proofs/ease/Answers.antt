@@ -18,14 +18,12 @@ row c = c.cut_row.ensures
 
 pub join-requires : goal.join-requires
 join-requires c =
-    let cut = c.before.before.before in
-    let pre = cut.requires in (
-      record { small = omega arith; room = omega (arith, (row cut).same) },
-      (cut-queue _ _ _ _ _ _ pre.1.1.0 (omega arith) (omega arith) (omega arith) _ (row cut) pre.1.0, omega arith),
+    let pre = c.requires in (
+      record { small = omega arith; room = omega (arith, (row (goal.at.join-requires c).After-cut_row).same) },
+      (cut-queue _ _ _ _ _ _ pre.1.1.0 (omega arith) (omega arith) (omega arith) _ (row (goal.at.join-requires c).After-cut_row) pre.1.0, omega arith),
     )
 
 pub returns : goal.returns
 returns c =
-    let cut = c.before.before.before.before.before.before in
-    let pre = cut.requires in
-    eased-joined _ _ _ _ _ _ pre.1.1.0 (omega arith) (omega arith) (omega arith) _ (row cut) pre.1.0 (omega arith) c.join.ensures
+    let pre = c.requires in
+    eased-joined _ _ _ _ _ _ pre.1.1.0 (omega arith) (omega arith) (omega arith) _ (row (goal.at.returns c).After-cut_row) pre.1.0 (omega arith) c.join.ensures

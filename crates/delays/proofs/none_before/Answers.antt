@@ -24,25 +24,25 @@ pub offset_bounds-scratch-n : goal.offset_bounds-scratch-n
 offset_bounds-scratch-n c = omega (arith, (slot c).place)
 
 pub bounds-scratch-n : goal.bounds-scratch-n
-bounds-scratch-n c = omega (arith, (slot c.before).place)
+bounds-scratch-n c = omega (arith, (slot (goal.at.bounds-scratch-n c).In-loop-i).place)
 
 pub overflow_cast-state : goal.overflow_cast-state
-overflow_cast-state c = omega (arith, (slot c.before).state)
+overflow_cast-state c = omega (arith, (slot (goal.at.overflow_cast-state c).In-loop-i).state)
 
 pub offset_bounds-scratch-state : goal.offset_bounds-scratch-state
-offset_bounds-scratch-state c = omega (arith, (slot c.before).state)
+offset_bounds-scratch-state c = omega (arith, (slot (goal.at.offset_bounds-scratch-state c).In-loop-i).state)
 
 pub bounds-scratch-state : goal.bounds-scratch-state
-bounds-scratch-state c = omega (arith, (slot c.before.before).state)
+bounds-scratch-state c = omega (arith, (slot (goal.at.bounds-scratch-state c).In-loop-i).state)
 
 pub returns-then-state-eq0 : goal.returns-then-state-eq0
 returns-then-state-eq0 c = λ e. absurd (of-true false e)
 
 pub offset_bounds-scratch-state-then-delay-close : goal.offset_bounds-scratch-state-then-delay-close
-offset_bounds-scratch-state-then-delay-close c = omega (arith, (slot c.before.before.before.before).state)
+offset_bounds-scratch-state-then-delay-close c = omega (arith, (slot (goal.at.offset_bounds-scratch-state-then-delay-close c).In-loop-i).state)
 
 pub bounds-scratch-state-then-delay-close : goal.bounds-scratch-state-then-delay-close
-bounds-scratch-state-then-delay-close c = omega (arith, (slot c.before.before.before.before.before).state)
+bounds-scratch-state-then-delay-close c = omega (arith, (slot (goal.at.bounds-scratch-state-then-delay-close c).In-loop-i).state)
 
 pub returns-then-delay-scratch : goal.returns-then-delay-scratch
 returns-then-delay-scratch c = λ e. absurd (of-true false e)

@@ -9,8 +9,7 @@ returns-then-elements-load c = first-none _ _ refl (λ k h. refl) (λ t h k. too
 
 pub begin-count-requires : goal.begin-count-requires
 begin-count-requires c =
-    let s = c.before.before.before.before.before.before.before.before.before in
-    (s.requires.0, (s.requires.1, omega (arith, c.load.ensures)))
+    (c.requires.0, (c.requires.1, omega (arith, c.load.ensures)))
 
 pub loop-f-init : goal.loop-f-init
 loop-f-init c = (c.begin-count.ensures.passing, (refl, λ k h. refl))
@@ -27,40 +26,32 @@ offset_bounds-scratch-n c =
 
 pub shape_of-scratch-then-left-eq0 : goal.shape_of-scratch-then-left-eq0
 shape_of-scratch-then-left-eq0 c =
-    let loop = c.before.before.before.before.before in
-    loop.loop-f.invariant.1.0 ∙ loop.begin-count.ensures.same
+    c.loop-f.invariant.1.0 ∙ c.begin-count.ensures.same
 
 pub returns-then-left-eq0 : goal.returns-then-left-eq0
 returns-then-left-eq0 c =
-    let loop = c.before.before.before.before.before in
-    let begun = loop.begin-count.ensures in
-    first-unknown _ _ (loop.loop-f.invariant.1.0 ∙ begun.same) (λ k h. loop.loop-f.invariant.1.1 k h ∙ begun.rest k h)
+    let begun = c.begin-count.ensures in
+    first-unknown _ _ (c.loop-f.invariant.1.0 ∙ begun.same) (λ k h. c.loop-f.invariant.1.1 k h ∙ begun.rest k h)
 
 pub take_turn-t-requires : goal.take_turn-t-requires
 take_turn-t-requires c = (c.loop-f.invariant.0, omega arith)
 
 pub shape_of-scratch-in-Ended : goal.shape_of-scratch-in-Ended
 shape_of-scratch-in-Ended c =
-    let turn = c.before.before.before.before in
-    (turn-ended _ _ turn.take_turn-t.ensures c.in-Ended.is).0 ∙ (turn.loop-f.invariant.1.0 ∙ turn.begin-count.ensures.same)
+    (turn-ended _ _ c.take_turn-t.ensures c.in-Ended.is).0 ∙ (c.loop-f.invariant.1.0 ∙ c.begin-count.ensures.same)
 
 pub returns-in-Ended : goal.returns-in-Ended
 returns-in-Ended c =
-    let turn = c.before.before.before.before in
-    let loop = turn.before.before.before.before.before.before.before in
-    let end = turn-ended _ _ turn.take_turn-t.ensures c.in-Ended.is in
-    let begun = loop.begin-count.ensures in
-    first-none _ _ (end.0 ∙ (loop.loop-f.invariant.1.0 ∙ begun.same)) (λ k h. end.1.0 k h ∙ (loop.loop-f.invariant.1.1 k h ∙ begun.rest k h)) end.1.1
+    let end = turn-ended _ _ c.take_turn-t.ensures c.in-Ended.is in
+    let begun = c.begin-count.ensures in
+    first-none _ _ (end.0 ∙ (c.loop-f.invariant.1.0 ∙ begun.same)) (λ k h. end.1.0 k h ∙ (c.loop-f.invariant.1.1 k h ∙ begun.rest k h)) end.1.1
 
 pub loop-f-preserved : goal.loop-f-preserved
 loop-f-preserved c =
-    let turn = c.before.before.before.before.before in
-    let loop = turn.before.before.before.before.before.before.before in
-    let done = turn_on _ _ turn.take_turn-t.ensures _ c.in-On.is in
-    (done.passing, (done.same ∙ loop.loop-f.invariant.1.0, λ k h. done.rest k h ∙ loop.loop-f.invariant.1.1 k h))
+    let done = turn_on _ _ c.take_turn-t.ensures _ c.in-On.is in
+    (done.passing, (done.same ∙ c.loop-f.invariant.1.0, λ k h. done.rest k h ∙ c.loop-f.invariant.1.1 k h))
 
 pub returns : goal.returns
 returns c =
-    let loop = c.before.before.before.before in
-    let begun = loop.begin-count.ensures in
-    first_found _ _ (loop.loop-f.invariant.1.0 ∙ begun.same) (λ k h. loop.loop-f.invariant.1.1 k h ∙ begun.rest k h) loop.loop-f.invariant.0 (omega arith)
+    let begun = c.begin-count.ensures in
+    first_found _ _ (c.loop-f.invariant.1.0 ∙ begun.same) (λ k h. c.loop-f.invariant.1.1 k h ∙ begun.rest k h) c.loop-f.invariant.0 (omega arith)

@@ -19,18 +19,15 @@ use Rattle.choice.specs.Choice.{FirstVisit}
 use Rattle.emission.specs.Emission.{RoomOrNone, Emitting}
 use Rattle.emission.proofs.Visits.{emit-start, emit-next, emit-nothing, emit-done, pass-room, chosen-visit}
 use Rattle.emission.proofs.emit.Goals as goal
-use Rattle.emission.proofs.emit.Goals.{At-loop-at, In-Visit, Start}
+use Rattle.emission.proofs.emit.Goals.{At-loop-at, In-Visit}
 
 -- the entry, and what the loop keeps at its head
 
-abbrev start : At-loop-at → Start
-start a = a.before.before.before.before.before.before.before.before.before.before.before.before
-
 abbrev R : At-loop-at → Rules
-R a = net_rules (start a).args.net (start a).args.plan.now
+R a = net_rules a.args.net a.args.plan.now
 
-head : (a : At-loop-at) → Emitting (R a) (length (start a).args.plan.now) (start a).args.weight (start a).args.steps (start a).args.aside (start a).args.scratch.now a.loop-at.scratch (start a).args.visits.now a.loop-at.visits a.loop-at.at a.loop-at.layers a.loop-at.i a.loop-at.left a.loop-at.tally
-head a = a.loop-at.invariant (start a).args.visits.now a.put_visit.ensures
+head : (a : At-loop-at) → Emitting (R a) (length a.args.plan.now) a.args.weight a.args.steps a.args.aside a.args.scratch.now a.loop-at.scratch a.args.visits.now a.loop-at.visits a.loop-at.at a.loop-at.layers a.loop-at.i a.loop-at.left a.loop-at.tally
+head a = a.loop-at.invariant a.args.visits.now a.put_visit.ensures
 
 -- room for fewer words, or none
 narrower : {m n lent : ℕ} → RoomOrNone m lent → n ≤ m → RoomOrNone n lent
@@ -39,8 +36,7 @@ narrower (inr h) k = inr h
 
 pub put_visit-requires : goal.put_visit-requires
 put_visit-requires c =
-    let s = c.before.before.before.before.before in
-    record { cell_fits = omega (arith, s.requires.ready.ready.sink, few-cells _ _ s.requires.ready.ready); place_fits = omega arith; fits = narrower s.requires.fits (omega arith) }
+    record { cell_fits = omega (arith, c.requires.ready.ready.sink, few-cells _ _ c.requires.ready.ready); place_fits = omega arith; fits = narrower c.requires.fits (omega arith) }
 
 pub start_delay-delay-requires : goal.start_delay-delay-requires
 start_delay-delay-requires c = c.requires.ready.ready.valid.register
@@ -48,121 +44,104 @@ start_delay-delay-requires c = c.requires.ready.ready.valid.register
 pub loop-at-init : goal.loop-at-init
 unfolding net_rules rules_between rules_of register_load setup_delay
 loop-at-init c = λ v q.
-    let s = c.before.before.before.before.before.before.before.before.before.before.before in
-    let x = s.requires.reaching in
-    let w = s.requires.ready.ready.valid.register in
+    let x = c.requires.reaching in
+    let w = c.requires.ready.ready.valid.register in
     rw (q, c.no_layers-layers.ensures)
-    (emit-start _ (ready-lawful _ _ s.requires.ready) _ _ _ _ _ v x.before _ _ refl c.load-load.ensures c.start_delay-delay.ensures refl refl refl refl
+    (emit-start _ (ready-lawful _ _ c.requires.ready) _ _ _ _ _ v x.before _ _ refl c.load-load.ensures c.start_delay-delay.ensures refl refl refl refl
     (record {
-      in_plan = s.requires.ready.ready.sink;
+      in_plan = c.requires.ready.ready.sink;
       light = omega (arith, c.load-load.ensures, w.load-load);
       early = omega (arith, c.start_delay-delay.ensures, w.setup);
     })
-    x s.requires.ahead)
+    x c.requires.ahead)
 
 pub overflow_sub-at : goal.overflow_sub-at
 overflow_sub-at c = omega (arith, c.loop-at-test.true)
 
 pub load_layer-layers-requires : goal.load_layer-layers-requires
 load_layer-layers-requires c =
-    let a = c.before.before.before.before in
     record {
-      ready = (start a).requires.ready;
-      costed = (start a).requires.costed;
-      room = omega (arith, (start a).requires.room, (head a).same);
-      exits_in = λ h. omega (arith, ((head a).ahead h).1.room);
-      held = (head a).held;
-      in_step = label-in-step (ready-lawful _ _ (start a).requires.ready) (head a).labels;
+      ready = c.requires.ready;
+      costed = c.requires.costed;
+      room = omega (arith, c.requires.room, (head (goal.at.load_layer-layers-requires c).At-loop-at).same);
+      exits_in = λ h. omega (arith, ((head (goal.at.load_layer-layers-requires c).At-loop-at).ahead h).1.room);
+      held = (head (goal.at.load_layer-layers-requires c).At-loop-at).held;
+      in_step = label-in-step (ready-lawful _ _ c.requires.ready) (head (goal.at.load_layer-layers-requires c).At-loop-at).labels;
     }
 
 pub choose-choice-requires : goal.choose-choice-requires
 choose-choice-requires c =
-    let a = c.before.before.before.before.before.before.before.before in
     let l = c.load_layer-layers.ensures in
     record {
-      ready = (start a).requires.ready;
-      room = omega (arith, (start a).requires.room, (head a).same, l.same);
-      exits_in = λ h. omega (arith, ((head a).ahead h).1.room, l.same);
-      in_range = (head a).in_range;
+      ready = c.requires.ready;
+      room = omega (arith, c.requires.room, (head (goal.at.choose-choice-requires c).At-loop-at).same, l.same);
+      exits_in = λ h. omega (arith, ((head (goal.at.choose-choice-requires c).At-loop-at).ahead h).1.room, l.same);
+      in_range = (head (goal.at.choose-choice-requires c).At-loop-at).in_range;
       more = omega (arith, c.loop-at-test.true);
-      few = omega (arith, (head a).sides);
+      few = omega (arith, (head (goal.at.choose-choice-requires c).At-loop-at).sides);
     }
 
 -- the visit that was chosen
 abbrev words : In-Visit → List ℕ
 words c = c.load_layer-layers.new.1.0
 
-chosen : (c : In-Visit) → let a = c.before.before.before.before.before.before.before.before.before.before.before.before in FirstVisit (R a) (length (start a).args.plan.now) (labels_for (length (start a).args.plan.now) a.loop-at.left.exits (words c)) (budget_of (length (start a).args.plan.now) (words c)) a.loop-at.at (λ cell. T ((R a).linked a.loop-at.at.cell cell)) c.in-Visit.code c.in-Visit.to
+chosen : (c : In-Visit) → FirstVisit (R (goal.at.In-Visit c).At-loop-at) (length c.args.plan.now) (labels_for (length c.args.plan.now) c.loop-at.left.exits (words c)) (budget_of (length c.args.plan.now) (words c)) c.loop-at.at (λ cell. T ((R (goal.at.In-Visit c).At-loop-at).linked c.loop-at.at.cell cell)) c.in-Visit.code c.in-Visit.to
 chosen c =
     chosen-visit c.choose-choice.ensures c.in-Visit.code c.in-Visit.to c.in-Visit.is
 
 pub put_visit-requires-in-Visit : goal.put_visit-requires-in-Visit
 put_visit-requires-in-Visit c =
-    let a = c.before.before.before.before.before.before.before.before.before.before.before.before.before in
-    let e = head a in
+    let e = head (goal.at.put_visit-requires-in-Visit c).At-loop-at in
     record {
-      cell_fits = omega (arith, (chosen c.before).in_range.in_plan, few-cells _ _ (start a).requires.ready.ready);
-      place_fits = omega (arith, e.placed, e.whole, (start a).ranges.steps.fits);
-      fits = rw e.kept (narrower (start a).requires.fits (omega (arith, e.placed, e.whole, c.loop-at-test.true)));
+      cell_fits = omega (arith, (chosen (goal.at.put_visit-requires-in-Visit c).In-Visit).in_range.in_plan, few-cells _ _ c.requires.ready.ready);
+      place_fits = omega (arith, e.placed, e.whole, c.ranges.steps.fits);
+      fits = rw e.kept (narrower c.requires.fits (omega (arith, e.placed, e.whole, c.loop-at-test.true)));
     }
 
 pub pass-left-requires : goal.pass-left-requires
 pass-left-requires c =
-    let told = c.before.before.before.before.before in
-    let a = told.before.before.before.before.before.before.before.before.before.before.before.before in
     record {
-      few = few-cells _ _ (start a).requires.ready.ready;
-      room = pass-room _ (ready-lawful _ _ (start a).requires.ready) _ _ _ _ _ _ _ _ _ _ _ _ _ (head a) (omega (arith, told.loop-at-test.true)) _ _ told.load_layer-layers.ensures _ _ (chosen told);
+      few = few-cells _ _ c.requires.ready.ready;
+      room = pass-room _ (ready-lawful _ _ c.requires.ready) _ _ _ _ _ _ _ _ _ _ _ _ _ (head (goal.at.pass-left-requires c).At-loop-at) (omega (arith, c.loop-at-test.true)) _ _ c.load_layer-layers.ensures _ _ (chosen (goal.at.pass-left-requires c).In-Visit);
     }
 
 pub tallied-tally-requires : goal.tallied-tally-requires
 tallied-tally-requires c =
-    let told = c.before.before.before.before.before.before.before.before in
-    let a = told.before.before.before.before.before.before.before.before.before.before.before.before in
-    let e = head a in
-    omega (arith, e.counted, e.whole, (start a).ranges.steps.fits, told.loop-at-test.true)
+    let e = head (goal.at.tallied-tally-requires c).At-loop-at in
+    omega (arith, e.counted, e.whole, c.ranges.steps.fits, c.loop-at-test.true)
 
 pub overflow_add-i : goal.overflow_add-i
 overflow_add-i c =
-    let told = c.before.before.before.before.before.before.before.before.before in
-    let a = told.before.before.before.before.before.before.before.before.before.before.before.before in
-    let e = head a in
-    omega (arith, e.placed, e.whole, (start a).ranges.steps.fits, told.loop-at-test.true)
+    let e = head (goal.at.overflow_add-i c).At-loop-at in
+    omega (arith, e.placed, e.whole, c.ranges.steps.fits, c.loop-at-test.true)
 
 pub loop-at-smaller : goal.loop-at-smaller
 loop-at-smaller c =
-    let told = c.before.before.before.before.before.before.before.before.before in
-    omega (arith, (chosen told).steps, told.loop-at-test.true)
+    omega (arith, (chosen (goal.at.loop-at-smaller c).In-Visit).steps, c.loop-at-test.true)
 
 pub loop-at-preserved : goal.loop-at-preserved
 loop-at-preserved c = λ v q.
-    let told = c.before.before.before.before.before.before.before.before.before in
-    let a = told.before.before.before.before.before.before.before.before.before.before.before.before in
     rw (c.put_visit-in-Visit.ensures, c.pass-left.ensures.1, c.tallied-tally.ensures)
-    (emit-next _ (ready-lawful _ _ (start a).requires.ready) _ _ _ _ _ v _ _ _ _ _ _ _ (a.loop-at.invariant v q) (omega (arith, told.loop-at-test.true)) _ _ told.load_layer-layers.ensures _ _ (chosen told) _ c.pass-left.ensures.0)
+    (emit-next _ (ready-lawful _ _ c.requires.ready) _ _ _ _ _ v _ _ _ _ _ _ _ (c.loop-at.invariant v q) (omega (arith, c.loop-at-test.true)) _ _ c.load_layer-layers.ensures _ _ (chosen (goal.at.loop-at-preserved c).In-Visit) _ c.pass-left.ensures.0)
 
 pub shape_of-scratch-in-Nothing : goal.shape_of-scratch-in-Nothing
-shape_of-scratch-in-Nothing c = c.load_layer-layers.ensures.same ∙ (head c.before.before.before.before.before.before.before.before.before.before.before.before).same
+shape_of-scratch-in-Nothing c = c.load_layer-layers.ensures.same ∙ (head (goal.at.shape_of-scratch-in-Nothing c).At-loop-at).same
 
 pub shape_of-visits-in-Nothing : goal.shape_of-visits-in-Nothing
-shape_of-visits-in-Nothing c = (head c.before.before.before.before.before.before.before.before.before.before.before.before).kept
+shape_of-visits-in-Nothing c = (head (goal.at.shape_of-visits-in-Nothing c).At-loop-at).kept
 
 pub returns-in-Nothing : goal.returns-in-Nothing
 returns-in-Nothing c =
-    let told = c.before in
-    let a = c.before.before.before.before.before.before.before.before.before.before.before.before in
     absurd
-    (emit-nothing _ (ready-lawful _ _ (start a).requires.ready) _ _ _ _ _ _ _ _ _ _ _ _ _ (head a) (omega (arith, c.loop-at-test.true)) _ _ c.load_layer-layers.ensures (rw told.in-Nothing.is at c.choose-choice.ensures))
+    (emit-nothing _ (ready-lawful _ _ c.requires.ready) _ _ _ _ _ _ _ _ _ _ _ _ _ (head (goal.at.returns-in-Nothing c).At-loop-at) (omega (arith, c.loop-at-test.true)) _ _ c.load_layer-layers.ensures (rw c.in-Nothing.is at c.choose-choice.ensures))
 
 pub shape_of-scratch : goal.shape_of-scratch
-shape_of-scratch c = (head c.before.before.before).same
+shape_of-scratch c = (head (goal.at.shape_of-scratch c).At-loop-at).same
 
 pub shape_of-visits : goal.shape_of-visits
-shape_of-visits c = (head c.before.before.before).kept
+shape_of-visits c = (head (goal.at.shape_of-visits c).At-loop-at).kept
 
 pub returns : goal.returns
 returns c =
-    let a = c.before.before.before in
-    let s = start a in
-    let figure = to_z-of_z {w = w32} {z = a.loop-at.at.slack} (record { sfits = c.struct_told-2-1.given.1.1.1.1.1.0.1 }) in
-    rw figure (emit-done _ (ready-lawful _ _ s.requires.ready) _ _ _ _ _ _ _ _ _ _ _ _ _ (head a) (omega (arith, c.loop-at-test.false)))
+    let figure = to_z-of_z {w = w32} {z = c.loop-at.at.slack} (record { sfits = c.struct_told-2-1.given.1.1.1.1.1.0.1 }) in
+    rw figure (emit-done _ (ready-lawful _ _ c.requires.ready) _ _ _ _ _ _ _ _ _ _ _ _ _ (head (goal.at.returns c).At-loop-at) (omega (arith, c.loop-at-test.false)))

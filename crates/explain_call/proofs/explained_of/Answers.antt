@@ -5,8 +5,6 @@ use Rattle.explain_call.proofs.explained_of.Goals as goal
 
 pub returns : goal.returns
 returns c =
-    let second = c.before.before.before.before.before.before.before in
-    let first = second.before in
-    let a = first.args in
+    let a = c.args in
     c.explain_with.ensures.answer
-    ∙ rw (lent _ first.smaller-n.result a.plan.now first.smaller-n.ensures, lent _ second.smaller-s.result a.scratch-1.now second.smaller-s.ensures)
+    ∙ rw (lent _ c.smaller-n.result a.plan.now c.smaller-n.ensures, lent _ c.smaller-s.result a.scratch-1.now c.smaller-s.ensures)

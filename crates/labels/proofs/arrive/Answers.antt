@@ -137,8 +137,7 @@ offset_bounds-scratch-set c = omega (arith, c.requires.set_in.small, c.requires.
 
 pub bounds-scratch-set : goal.bounds-scratch-set
 bounds-scratch-set c =
-    let w = c.before in
-    omega (arith, w.requires.set_in.room, few w, w.loop-i.invariant.1.same, w.loop-i-test.true)
+    omega (arith, c.requires.set_in.room, few c.before, c.loop-i.invariant.1.same, c.loop-i-test.true)
 
 pub overflow_cast-cell : goal.overflow_cast-cell
 overflow_cast-cell c = omega (arith, cell_below c.before, c.requires.set_in.small)

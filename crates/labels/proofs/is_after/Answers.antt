@@ -28,14 +28,12 @@ pub returns-then-word-weight : goal.returns-then-word-weight
 returns-then-word-weight c = lighter _ _ _ _ _ _ c.requires.1 (omega (arith, c.weight_word-word.ensures, c.if-word-weight.true))
 
 pub steps_of-requires : goal.steps_of-requires
-steps_of-requires c = let s = c.before.before.before.before in (s.requires.0, known-below _ _ _ _ s.requires.1)
+steps_of-requires c = (c.requires.0, known-below _ _ _ _ c.requires.1)
 
 pub returns-then-word-weight-2 : goal.returns-then-word-weight-2
 returns-then-word-weight-2 c =
-    let e = c.before.before in
-    as-heavy _ _ _ _ _ _ e.requires.1 _ (omega (arith, e.weight_word-word.ensures, c.if-word-weight-2.true)) (ap (ltb _) c.steps_of.ensures)
+    as-heavy _ _ _ _ _ _ c.requires.1 _ (omega (arith, c.weight_word-word.ensures, c.if-word-weight-2.true)) (ap (ltb _) c.steps_of.ensures)
 
 pub returns : goal.returns
 returns c =
-    let e = c.before in
-    heavier _ _ _ _ _ _ e.requires.1 (λ h. omega (arith, e.weight_word-word.ensures, e.if-word-weight.false)) (λ h. c.if-word-weight-2.false (omega (arith, e.weight_word-word.ensures)))
+    heavier _ _ _ _ _ _ c.requires.1 (λ h. omega (arith, c.weight_word-word.ensures, c.if-word-weight.false)) (λ h. c.if-word-weight-2.false (omega (arith, c.weight_word-word.ensures)))

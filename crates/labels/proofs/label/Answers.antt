@@ -79,13 +79,13 @@ module _ (n base cell weight steps count : ℕ) (old mid last : List ℕ) (pre :
       }
 
 pub overflow_add-scratch-2 : goal.overflow_add-scratch-2
-overflow_add-scratch-2 c = omega (arith, room c.before.before.before.before.before.before.before.before.before)
+overflow_add-scratch-2 c = omega (arith, room (goal.at.overflow_add-scratch-2 c).Start)
 
 pub offset_bounds-scratch-set : goal.offset_bounds-scratch-set
-offset_bounds-scratch-set c = omega (arith, room c.before.before.before.before.before.before.before.before.before)
+offset_bounds-scratch-set c = omega (arith, room (goal.at.offset_bounds-scratch-set c).Start)
 
 pub bounds-scratch-set : goal.bounds-scratch-set
-bounds-scratch-set c = omega (arith, room c.before.before.before.before.before.before.before.before.before)
+bounds-scratch-set c = omega (arith, room (goal.at.bounds-scratch-set c).Start)
 
 pub shape_of-scratch : goal.shape_of-scratch
 shape_of-scratch c = simp length-set (omega arith)

@@ -98,9 +98,7 @@ shape_of-scratch-then-marks_seed c = simp length-set
 
 pub returns-then-marks_seed : goal.returns-then-marks_seed
 returns-then-marks_seed c =
-    let m = c.before.before.before in
-    let s = m.before.before.before in
-    unlisted _ _ _ _ _ _ _ (omega arith) (omega arith) m.marked.ensures s.requires.1.0 (of-true _ c.if-idle.true) (of-true _ (sym c.marks_seed.ensures ∙ c.if-marks_seed.true))
+    unlisted _ _ _ _ _ _ _ (omega arith) (omega arith) c.marked.ensures c.requires.1.0 (of-true _ c.if-idle.true) (of-true _ (sym c.marks_seed.ensures ∙ c.if-marks_seed.true))
 
 pub enlist-requires : goal.enlist-requires
 enlist-requires c =

@@ -54,25 +54,25 @@ pub offset_bounds-scratch-n : goal.offset_bounds-scratch-n
 offset_bounds-scratch-n c = omega (arith, fits c)
 
 pub bounds-scratch-n : goal.bounds-scratch-n
-bounds-scratch-n c = omega (arith, fits c.before)
+bounds-scratch-n c = omega (arith, fits (goal.at.bounds-scratch-n c).In-loop-i)
 
 pub overflow_mul-scratch-in-loop-i : goal.overflow_mul-scratch-in-loop-i
-overflow_mul-scratch-in-loop-i c = omega (arith, fits c.before)
+overflow_mul-scratch-in-loop-i c = omega (arith, fits (goal.at.overflow_mul-scratch-in-loop-i c).In-loop-i)
 
 pub overflow_add-scratch-in-loop-i : goal.overflow_add-scratch-in-loop-i
-overflow_add-scratch-in-loop-i c = omega (arith, fits c.before)
+overflow_add-scratch-in-loop-i c = omega (arith, fits (goal.at.overflow_add-scratch-in-loop-i c).In-loop-i)
 
 pub offset_bounds-scratch-n-in-loop-i : goal.offset_bounds-scratch-n-in-loop-i
-offset_bounds-scratch-n-in-loop-i c = omega (arith, fits c.before)
+offset_bounds-scratch-n-in-loop-i c = omega (arith, fits (goal.at.offset_bounds-scratch-n-in-loop-i c).In-loop-i)
 
 pub bounds-scratch-n-in-loop-i : goal.bounds-scratch-n-in-loop-i
-bounds-scratch-n-in-loop-i c = omega (arith, fits c.before)
+bounds-scratch-n-in-loop-i c = omega (arith, fits (goal.at.bounds-scratch-n-in-loop-i c).In-loop-i)
 
 pub overflow_add-i : goal.overflow_add-i
-overflow_add-i c = omega (arith, fits c.before)
+overflow_add-i c = omega (arith, fits (goal.at.overflow_add-i c).In-loop-i)
 
 pub loop-i-preserved : goal.loop-i-preserved
-loop-i-preserved c = (omega arith, copied_more _ _ _ _ c.loop-i.invariant.1 (fits c.before) (omega arith))
+loop-i-preserved c = (omega arith, copied_more _ _ _ _ c.loop-i.invariant.1 (fits (goal.at.loop-i-preserved c).In-loop-i) (omega arith))
 
 pub returns : goal.returns
 returns c =

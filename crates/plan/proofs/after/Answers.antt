@@ -32,7 +32,7 @@ bounds-plan-cell c = omega arith
 
 pub returns-then-cuts_right : goal.returns-then-cuts_right
 unfolding neighbours_of cells column marks_at
-returns-then-cuts_right c = simp (in_row c.before.before.before, sym c.cuts_right.ensures ∙ c.if-cuts_right.true)
+returns-then-cuts_right c = simp (in_row (goal.at.returns-then-cuts_right c).Else-width-cell, sym c.cuts_right.ensures ∙ c.if-cuts_right.true)
 
 pub overflow_add-result : goal.overflow_add-result
 unfolding cells
@@ -40,4 +40,4 @@ overflow_add-result c = omega (arith, cells-most _ c.requires.0)
 
 pub returns : goal.returns
 unfolding neighbours_of cells column marks_at
-returns c = simp (in_row c.before.before.before, sym c.cuts_right.ensures ∙ c.if-cuts_right.false)
+returns c = simp (in_row (goal.at.returns c).Else-width-cell, sym c.cuts_right.ensures ∙ c.if-cuts_right.false)

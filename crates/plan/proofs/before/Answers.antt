@@ -32,13 +32,13 @@ bounds-plan-cell c = let a = c.args in omega (arith, mod-le a.cell a.width)
 
 pub returns-then-cuts_right : goal.returns-then-cuts_right
 unfolding neighbours_of cells column marks_at
-returns-then-cuts_right c = simp (lt-ltb _ _ (in_row c.before.before.before), sym c.cuts_right.ensures ∙ c.if-cuts_right.true)
+returns-then-cuts_right c = simp (lt-ltb _ _ (in_row (goal.at.returns-then-cuts_right c).Else-cell-width-eq0), sym c.cuts_right.ensures ∙ c.if-cuts_right.true)
 
 pub overflow_sub-result : goal.overflow_sub-result
 overflow_sub-result c =
     let a = c.args in
-    omega (arith, in_row c.before.before.before, mod-le a.cell a.width)
+    omega (arith, in_row (goal.at.overflow_sub-result c).Else-cell-width-eq0, mod-le a.cell a.width)
 
 pub returns : goal.returns
 unfolding neighbours_of cells column marks_at
-returns c = simp (lt-ltb _ _ (in_row c.before.before.before), sym c.cuts_right.ensures ∙ c.if-cuts_right.false)
+returns c = simp (lt-ltb _ _ (in_row (goal.at.returns c).Else-cell-width-eq0), sym c.cuts_right.ensures ∙ c.if-cuts_right.false)

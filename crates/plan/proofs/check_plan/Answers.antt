@@ -30,7 +30,7 @@ pub returns-then-plan-width : goal.returns-then-plan-width
 unfolding checked_plan length_fault cells
 returns-then-plan-width c =
     let a = c.args in
-    simp (grid-ok c.before, ne_eqb (length a.plan.now) (a.width * a.height) (λ e. omega arith))
+    simp (grid-ok (goal.at.returns-then-plan-width c).Else-grid_fault, ne_eqb (length a.plan.now) (a.width * a.height) (λ e. omega arith))
 
 length-ok : (c : Else-plan-width) → let a = c.args in length_fault (plan_of a.width a.height a.plan.now) ≡ false
 unfolding length_fault cells
@@ -39,16 +39,16 @@ length-ok c =
     simp (eq-eqb (length a.plan.now) (a.width * a.height) (omega arith))
 
 pub mark_fault-requires : goal.mark_fault-requires
-mark_fault-requires c = sized _ (grid-ok c.before) (length-ok c)
+mark_fault-requires c = sized _ (grid-ok (goal.at.mark_fault-requires c).Else-grid_fault) (length-ok c)
 
 pub returns-then-mark_fault : goal.returns-then-mark_fault
 unfolding checked_plan
 returns-then-mark_fault c =
     simp
-    (grid-ok c.before.before.before, length-ok c.before.before, sym c.mark_fault.ensures ∙ c.if-mark_fault.true)
+    (grid-ok (goal.at.returns-then-mark_fault c).Else-grid_fault, length-ok (goal.at.returns-then-mark_fault c).Else-plan-width, sym c.mark_fault.ensures ∙ c.if-mark_fault.true)
 
 pub returns : goal.returns
 unfolding checked_plan
 returns c =
     simp
-    (grid-ok c.before.before.before, length-ok c.before.before, sym c.mark_fault.ensures ∙ c.if-mark_fault.false)
+    (grid-ok (goal.at.returns c).Else-grid_fault, length-ok (goal.at.returns c).Else-plan-width, sym c.mark_fault.ensures ∙ c.if-mark_fault.false)

@@ -22,8 +22,8 @@ narrow c = le-ltb side_max c.args.width (omega arith)
 
 pub returns-then-height-eq0 : goal.returns-then-height-eq0
 unfolding grid_fault
-returns-then-height-eq0 c = simp (ne_eqb _ _ c.if-width-eq0.false, narrow c.before, eq-eqb _ _ c.if-height-eq0.true)
+returns-then-height-eq0 c = simp (ne_eqb _ _ c.if-width-eq0.false, narrow (goal.at.returns-then-height-eq0 c).Else-width-gt-SIDE_MAX, eq-eqb _ _ c.if-height-eq0.true)
 
 pub returns : goal.returns
 unfolding grid_fault
-returns c = simp (ne_eqb _ _ c.if-width-eq0.false, narrow c.before, ne_eqb _ _ c.if-height-eq0.false)
+returns c = simp (ne_eqb _ _ c.if-width-eq0.false, narrow (goal.at.returns c).Else-width-gt-SIDE_MAX, ne_eqb _ _ c.if-height-eq0.false)

@@ -42,10 +42,10 @@ unfolding invalid_mark
 returns-then-cell-width-2 c =
     let a = c.args in
     simp
-    (le-ltb _ _ c.if-marks-gt15.false, no-right c.before.before, eq-eqb (a.cell / a.width + 1) a.height (omega arith))
+    (le-ltb _ _ c.if-marks-gt15.false, no-right (goal.at.returns-then-cell-width-2 c).Joined-cell-width, eq-eqb (a.cell / a.width + 1) a.height (omega arith))
     c.cuts_below.ensures
 
 pub returns : goal.returns
 unfolding invalid_mark
 returns c =
-    simp (le-ltb _ _ c.if-marks-gt15.false, no-right c.before, ne_eqb _ _ c.if-cell-width-2.false)
+    simp (le-ltb _ _ c.if-marks-gt15.false, no-right (goal.at.returns c).Joined-cell-width, ne_eqb _ _ c.if-cell-width-2.false)

@@ -6,8 +6,7 @@ use Rattle.plan.proofs.neighbours_of.Goals as goal
 pub returns : goal.returns
 unfolding cells
 returns c =
-    let s = c.before.before.before.before.before in
-    neighbours-exact _ s.requires.0 _ s.requires.1 _
+    neighbours-exact _ c.requires.0 _ c.requires.1 _
     (λ i. record {
       up = c.above.ensures i;
       left = c.before-2.ensures i;

@@ -8,8 +8,7 @@ use Rattle.printing.proofs.print_asked.Goals as goal
 
 pub slice_bounds-route_with-end : goal.slice_bounds-route_with-end
 slice_bounds-route_with-end c =
-    let start = c.before.before.before.before.before.before.before.before.before.before in
-    sym (length-take-le (start.args.asked.width * start.args.asked.height) start.args.plan.now (omega (arith, start.requires.0)))
+    sym (length-take-le (c.args.asked.width * c.args.asked.height) c.args.plan.now (omega (arith, c.requires.0)))
 
 pub put_answer-requires : goal.put_answer-requires
 put_answer-requires c = (within-answer _ _ _ _ _ c.route_with-answer.ensures.answer c.route_with-answer.auto.1.1.1.1.1.1.1.1.0, omega (arith, c.route_with-answer.auto.1.1.1.1.1.1.1.1.0, c.requires.1.1.1.1.0, c.requires.1.1.1.1.1))

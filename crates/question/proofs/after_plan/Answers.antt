@@ -17,28 +17,22 @@ asked s t list = question_of s.args.plan.now s.args.width s.args.height t list s
 pub returns-in-At : goal.returns-in-At
 unfolding checked_as
 returns-in-At c = λ t list.
-    let s = c.before.before.before.before.before in
-    let q = asked s t list in
-    c.refused.ensures ∙ checked-fails s.args.fault s.args.elements q _ (fails-element s.args.fault q passes s.requires _ c.in-At.is)
+    let q = asked (goal.at.returns-in-At c).Start t list in
+    c.refused.ensures ∙ checked-fails c.args.fault c.args.elements q _ (fails-element c.args.fault q passes c.requires _ c.in-At.is)
 
 pub overflow_mul-width : goal.overflow_mul-width
 unfolding cells
 overflow_mul-width c =
-    let s = c.before.before.before in
-    omega (arith, cells-most (plan_of s.args.width s.args.height s.args.plan.now) (valid-sized _ s.requires))
+    omega (arith, cells-most (plan_of c.args.width c.args.height c.args.plan.now) (valid-sized _ c.requires))
 
 pub returns-then-ends_fault : goal.returns-then-ends_fault
 unfolding cells_asked
 returns-then-ends_fault c = λ t list.
-    let n = c.before.before.before in
-    let s = n.before.before.before in
-    let q = asked s t list in
-    c.refused-then-ends_fault.ensures ∙ checked-fails s.args.fault s.args.elements q _ (fails-ends s.args.fault q passes s.requires n.in-Nothing.is (sym c.ends_fault.ensures ∙ c.if-ends_fault.true))
+    let q = asked (goal.at.returns-then-ends_fault c).Start t list in
+    c.refused-then-ends_fault.ensures ∙ checked-fails c.args.fault c.args.elements q _ (fails-ends c.args.fault q passes c.requires c.in-Nothing.is (sym c.ends_fault.ensures ∙ c.if-ends_fault.true))
 
 pub returns-in-Nothing : goal.returns-in-Nothing
 unfolding cells_asked checked_as
 returns-in-Nothing c = λ t list.
-    let n = c.before.before in
-    let s = n.before.before.before in
-    let q = asked s t list in
-    checked-passes s.args.fault s.args.elements q (pass-with s.args.fault q passes s.requires n.in-Nothing.is (sym c.ends_fault.ensures ∙ c.if-ends_fault.false))
+    let q = asked (goal.at.returns-in-Nothing c).Start t list in
+    checked-passes c.args.fault c.args.elements q (pass-with c.args.fault q passes c.requires c.in-Nothing.is (sym c.ends_fault.ensures ∙ c.if-ends_fault.false))

@@ -9,6 +9,4 @@ check_tables-checked-requires c = c.requires
 
 pub returns : goal.returns
 returns c =
-    let t = c.before.before in
-    let s = t.before.before in
-    c.check_with.ensures s.args.tables s.args.read.list ∙ tables-checked (question_of s.args.plan.now s.args.width s.args.height s.args.tables s.args.read.list s.args.source s.args.sink) t.check_tables-checked.result t.check_tables-checked.ensures
+    c.check_with.ensures c.args.tables c.args.read.list ∙ tables-checked (question_of c.args.plan.now c.args.width c.args.height c.args.tables c.args.read.list c.args.source c.args.sink) c.check_tables-checked.result c.check_tables-checked.ensures

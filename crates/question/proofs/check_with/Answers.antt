@@ -10,9 +10,6 @@ use Rattle.question.proofs.Checks.{fails-grid, fails-length, fails-mark, checked
 use Rattle.question.proofs.check_with.Goals as goal
 use Rattle.question.proofs.check_with.Goals.{After-check_plan-grid, Start}
 
-abbrev start : After-check_plan-grid → Start
-start c = c.before.before
-
 abbrev asked : Start → Tables → BufferList → Question
 asked s t list = question_of s.args.plan.now s.args.width s.args.height t list s.args.source s.args.sink
 
@@ -21,24 +18,18 @@ plan-is c k e = sym c.check_plan-grid.ensures ∙ e
 
 pub returns-in-Grid : goal.returns-in-Grid
 returns-in-Grid c = λ t list.
-    let n = c.before.before.before in
-    let s = start n in
-    let q = asked s t list in
-    c.refused.ensures ∙ checked-fails s.args.fault s.args.elements q _ (fails-grid s.args.fault q passes (plan-is n _ c.in-Grid.is))
+    let q = asked (goal.at.returns-in-Grid c).Start t list in
+    c.refused.ensures ∙ checked-fails c.args.fault c.args.elements q _ (fails-grid c.args.fault q passes (plan-is c.before.before.before _ c.in-Grid.is))
 
 pub returns-in-Length : goal.returns-in-Length
 returns-in-Length c = λ t list.
-    let n = c.before.before.before in
-    let s = start n in
-    let q = asked s t list in
-    c.refused-in-Length.ensures ∙ checked-fails s.args.fault s.args.elements q _ (fails-length s.args.fault q passes (plan-is n _ c.in-Length.is))
+    let q = asked (goal.at.returns-in-Length c).Start t list in
+    c.refused-in-Length.ensures ∙ checked-fails c.args.fault c.args.elements q _ (fails-length c.args.fault q passes (plan-is c.before.before.before _ c.in-Length.is))
 
 pub returns-in-Mark : goal.returns-in-Mark
 returns-in-Mark c = λ t list.
-    let n = c.before.before.before in
-    let s = start n in
-    let q = asked s t list in
-    c.refused-in-Mark.ensures ∙ checked-fails s.args.fault s.args.elements q _ (fails-mark s.args.fault q passes (plan-is n _ c.in-Mark.is))
+    let q = asked (goal.at.returns-in-Mark c).Start t list in
+    c.refused-in-Mark.ensures ∙ checked-fails c.args.fault c.args.elements q _ (fails-mark c.args.fault q passes (plan-is c.before.before.before _ c.in-Mark.is))
 
 pub after_plan-requires : goal.after_plan-requires
 after_plan-requires c = plan-is c.before.before _ c.in-Valid.is

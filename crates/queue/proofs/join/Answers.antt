@@ -57,16 +57,16 @@ pub bounds-scratch-n-3 : goal.bounds-scratch-n-3
 bounds-scratch-n-3 c = simp length-set (omega (arith, short c))
 
 pub overflow_add-count : goal.overflow_add-count
-overflow_add-count c = omega (arith, short c.before)
+overflow_add-count c = omega (arith, short (goal.at.overflow_add-count c).Joined-place-count)
 
 pub lift-requires-2 : goal.lift-requires-2
-lift-requires-2 c = (space-kept c.requires.0 (joined c.before).aside, ((joined c.before).queue, omega arith))
+lift-requires-2 c = (space-kept c.requires.0 (joined (goal.at.lift-requires-2 c).Joined-place-count).aside, ((joined (goal.at.lift-requires-2 c).Joined-place-count).queue, omega arith))
 
 pub overflow_add-result : goal.overflow_add-result
-overflow_add-result c = omega (arith, short c.before.before.before.before)
+overflow_add-result c = omega (arith, short (goal.at.overflow_add-result c).Joined-place-count)
 
 pub shape_of-scratch : goal.shape_of-scratch
-shape_of-scratch c = omega (arith, (joined c.before.before.before.before).aside.same)
+shape_of-scratch c = omega (arith, (joined (goal.at.shape_of-scratch c).Joined-place-count).aside.same)
 
 pub returns : goal.returns
-returns c = joined-then (omega arith) (joined c.before.before.before.before) c.lift-2.ensures
+returns c = joined-then (omega arith) (joined (goal.at.returns c).Joined-place-count) c.lift-2.ensures

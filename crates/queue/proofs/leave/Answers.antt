@@ -23,7 +23,7 @@ left : (c : After-exchange) → Left c.args.n c.args.count c.args.scratch.now c.
 left c = left-last c.requires.1.0 (omega arith) (ap (λ (k : ℕ). get_or c.args.scratch.now k 0) (omega arith)) c.exchange.ensures
 
 pub sift-requires : goal.sift-requires
-sift-requires c = (space-kept c.requires.0 (left c.before.before.before).aside, (left c.before.before.before).queue)
+sift-requires c = (space-kept c.requires.0 (left (goal.at.sift-requires c).After-exchange).aside, (left (goal.at.sift-requires c).After-exchange).queue)
 
 pub returns : goal.returns
-returns c = left-then (left c.before.before.before.before.before.before) c.sift.ensures
+returns c = left-then (left (goal.at.returns c).After-exchange) c.sift.ensures

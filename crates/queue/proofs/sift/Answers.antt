@@ -22,21 +22,21 @@ between : (c : Joined-below-count) → (c.loop-i.i < c.if-below-count.below) × 
 between c = ⊎_elim (λ p. (omega arith, omega arith)) (⊎_elim (λ p. (omega arith, omega arith)) (λ p. (omega arith, omega arith))) c.if-below-count.branch
 
 pub earlier-requires-in-loop-i : goal.earlier-requires-in-loop-i
-earlier-requires-in-loop-i c = two-slots c.loop-i.invariant.0 _ _ (between c.before).1 (omega (arith, between c.before)) c.requires.0
+earlier-requires-in-loop-i c = two-slots c.loop-i.invariant.0 _ _ (between c).1 (omega (arith, between c)) c.requires.0
 
 pub returns-then-not-earlier : goal.returns-then-not-earlier
 returns-then-not-earlier c = c.loop-i.invariant.0
 
 pub exchange-requires : goal.exchange-requires
-exchange-requires c = two-slots c.loop-i.invariant.0 _ _ (omega (arith, between c.before.before.before.before)) (between c.before.before.before.before).1 c.requires.0
+exchange-requires c = two-slots c.loop-i.invariant.0 _ _ (omega (arith, between (goal.at.exchange-requires c).Joined-below-count)) (between (goal.at.exchange-requires c).Joined-below-count).1 c.requires.0
 
 pub loop-i-smaller : goal.loop-i-smaller
-loop-i-smaller c = omega (arith, between c.before.before.before.before.before.before.before)
+loop-i-smaller c = omega (arith, between (goal.at.loop-i-smaller c).Joined-below-count)
 
 pub loop-i-preserved : goal.loop-i-preserved
 loop-i-preserved c = (
-  requeued-more c.loop-i.invariant.0 _ _ (omega (arith, between c.before.before.before.before.before.before.before)) (between c.before.before.before.before.before.before.before).1 c.exchange.ensures,
-  omega (arith, between c.before.before.before.before.before.before.before),
+  requeued-more c.loop-i.invariant.0 _ _ (omega (arith, between (goal.at.loop-i-preserved c).Joined-below-count)) (between (goal.at.loop-i-preserved c).Joined-below-count).1 c.exchange.ensures,
+  omega (arith, between (goal.at.loop-i-preserved c).Joined-below-count),
 )
 
 pub returns : goal.returns

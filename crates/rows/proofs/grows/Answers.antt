@@ -15,12 +15,11 @@ loop-l-init c = (omega arith, refl)
 pub loop-l-preserved : goal.loop-l-preserved
 unfolding max_below
 loop-l-preserved c =
-    let start = c.before.before.before.before.before.before.before.before.before in
-    let a = start.args in
+    let a = c.args in
     let loop = c.loop-l in
     let l = loop.l in
     let known = c.shared_slice_known-1.given (a.from + (l + a.step)) in
-    let more = growth-is a.scratch.now a.from a.to a.costs.now a.base a.step start.requires.0 l (omega arith) (omega (arith, known)) in
+    let more = growth-is a.scratch.now a.from a.to a.costs.now a.base a.step c.requires.0 l (omega arith) (omega (arith, known)) in
     (omega arith, rw (add-one, max_below) (cc (c.larger-grown.ensures, c.above.ensures, c.above-rest.ensures, loop.invariant.1, more)))
 
 pub returns : goal.returns

@@ -19,9 +19,8 @@ read {from} {to} {l} f (inr h) k = f.high (from + l) (omega arith)
 
 pub loop-l-preserved : goal.loop-l-preserved
 loop-l-preserved c =
-    let w = c.before.before in
-    let f = w.loop-l.invariant.1 in
-    (omega arith, filled_more f _ (omega arith) (read f w.requires.0 (omega arith)))
+    let f = c.loop-l.invariant.1 in
+    (omega arith, filled_more f _ (omega arith) (read f c.requires.0 (omega arith)))
 
 pub returns : goal.returns
 returns c =

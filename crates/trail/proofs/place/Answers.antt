@@ -14,8 +14,7 @@ slot-at-requires c = (c.requires.0, (omega (arith, slots-few c.args.n), omega ar
 -- the slot is in the ring
 below : (c : After-slot-at) → (c.slot-at.result < c.args.trail.room) × (c.args.trail.room ≤ 3072)
 below c =
-    let s = c.before in
-    (omega (arith, c.slot-at.ensures, slot-below s.args.trail s.requires.0 s.args.i s.requires.1.1.1), omega (arith, slots-few s.args.n))
+    (omega (arith, c.slot-at.ensures, slot-below c.args.trail c.requires.0 c.args.i c.requires.1.1.1), omega (arith, slots-few c.args.n))
 
 pub overflow_mul-at : goal.overflow_mul-at
 overflow_mul-at c = omega (arith, below c)
@@ -24,16 +23,14 @@ pub overflow_add-at : goal.overflow_add-at
 overflow_add-at c = omega (arith, below c)
 
 pub overflow_sub-result : goal.overflow_sub-result
-overflow_sub-result c = omega (arith, below c.before.before)
+overflow_sub-result c = omega (arith, below (goal.at.overflow_sub-result c).After-slot-at)
 
 pub overflow_mul-result-else-at-n-2 : goal.overflow_mul-result-else-at-n-2
-overflow_mul-result-else-at-n-2 c = omega (arith, below c.before.before)
+overflow_mul-result-else-at-n-2 c = omega (arith, below (goal.at.overflow_mul-result-else-at-n-2 c).After-slot-at)
 
 pub overflow_sub-result-else-at-n : goal.overflow_sub-result-else-at-n
 overflow_sub-result-else-at-n c =
-    let a = c.before.before in
-    let s = a.before in
-    fits (place_view s.args.n s.args.trail.room s.requires.1.0 a.slot-at.result (below a).0)
+    fits (place_view c.args.n c.args.trail.room c.requires.1.0 c.slot-at.result (below (goal.at.overflow_sub-result-else-at-n c).After-slot-at).0)
   where
     fits : PlaceIn c.args.n c.args.trail.room c.slot-at.result → (c.args.trail.room - c.slot-at.result) * slot_words ≤ c.args.n * labels_at
     fits (PlaceIn.first p e) = absurd (omega (arith, c.if-at-n.false))

@@ -29,18 +29,15 @@ module _ (n : ℕ) (old : List ℕ) (t : Trail) (new : List ℕ) (r : Trail) (as
 -- the entry's place is in the words
 inside : (c : After-place-at) → c.place-at.result + slot_words ≤ c.args.n * cell_words
 inside c =
-    let s = c.before.before.before in
-    omega (arith, c.place-at.ensures, place-in s.requires.0.sound (s.args.trail.count - 1) (omega (arith, s.requires.0.sound.fits)))
+    omega (arith, c.place-at.ensures, place-in c.requires.0.sound (c.args.trail.count - 1) (omega (arith, c.requires.0.sound.fits)))
 
 cell_in : (c : After-place-at) → get_or c.args.scratch.now (c.place-at.result + slot_cell) 0 < c.args.n
 cell_in c =
-    let s = c.before.before.before in
-    rw c.place-at.ensures (s.requires.0.sound.cells (s.args.trail.count - 1) (omega arith))
+    rw c.place-at.ensures (c.requires.0.sound.cells (c.args.trail.count - 1) (omega arith))
 
 pub place-at-requires : goal.place-at-requires
 place-at-requires c =
-    let s = c.before.before in
-    (s.requires.0.sound.start, (s.requires.0.sound.slots, (s.requires.0.few, omega (arith, s.requires.0.sound.fits))))
+    (c.requires.0.sound.start, (c.requires.0.sound.slots, (c.requires.0.few, omega (arith, c.requires.0.sound.fits))))
 
 pub overflow_add-cell : goal.overflow_add-cell
 overflow_add-cell c = omega (arith, inside c, c.requires.0.few)
@@ -49,25 +46,22 @@ pub offset_bounds-scratch-at : goal.offset_bounds-scratch-at
 offset_bounds-scratch-at c = omega (arith, inside c, c.requires.0.few)
 
 pub bounds-scratch-at : goal.bounds-scratch-at
-bounds-scratch-at c = omega (arith, inside c.before, c.requires.0.room)
+bounds-scratch-at c = omega (arith, inside (goal.at.bounds-scratch-at c).After-place-at, c.requires.0.room)
 
 pub overflow_cast-cell : goal.overflow_cast-cell
-overflow_cast-cell c = omega (arith, cell_in c.before, c.requires.0.few)
+overflow_cast-cell c = omega (arith, cell_in (goal.at.overflow_cast-cell c).After-place-at, c.requires.0.few)
 
 pub overflow_mul-cell : goal.overflow_mul-cell
-overflow_mul-cell c = omega (arith, cell_in c.before.before, c.requires.0.few)
+overflow_mul-cell c = omega (arith, cell_in (goal.at.overflow_mul-cell c).After-place-at, c.requires.0.few)
 
 pub copy-requires : goal.copy-requires
 copy-requires c =
-    let p = c.before.before in
-    let s = p.before.before.before in (
-      inr (omega (arith, cell_in p, p.place-at.ensures, place-above s.requires.0.sound (s.args.trail.count - 1) (omega (arith, s.requires.0.sound.fits)))),
-      (omega (arith, inside p, s.requires.0.room), omega (arith, cell_in p, s.requires.0.room)),
+    (
+      inr (omega (arith, cell_in (goal.at.copy-requires c).After-place-at, c.place-at.ensures, place-above c.requires.0.sound (c.args.trail.count - 1) (omega (arith, c.requires.0.sound.fits)))),
+      (omega (arith, inside (goal.at.copy-requires c).After-place-at, c.requires.0.room), omega (arith, cell_in (goal.at.copy-requires c).After-place-at, c.requires.0.room)),
     )
 
 pub returns : goal.returns
 returns c =
-    let p = c.before.before.before.before.before in
-    let s = p.before.before.before in
-    put_back _ _ _ _ _ s.requires.0 _ _ refl refl (omega arith) refl refl p.place-at.ensures
-    (ap (λ (x : ℕ). get_or s.args.scratch.now (x + slot_cell) 0) p.place-at.ensures) c.copy.ensures
+    put_back _ _ _ _ _ c.requires.0 _ _ refl refl (omega arith) refl refl c.place-at.ensures
+    (ap (λ (x : ℕ). get_or c.args.scratch.now (x + slot_cell) 0) c.place-at.ensures) c.copy.ensures

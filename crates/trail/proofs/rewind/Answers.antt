@@ -33,64 +33,52 @@ loop-left-init c =
 
 pub place-at-requires : goal.place-at-requires
 place-at-requires c =
-    let a = c.before.before.before in
-    let x = a.loop-left.invariant in
-    (x.sound.start, (x.sound.slots, (a.requires.few, omega (arith, x.sound.fits))))
+    let x = c.loop-left.invariant in
+    (x.sound.start, (x.sound.slots, (c.requires.few, omega (arith, x.sound.fits))))
 
 pub stamp_of-requires : goal.stamp_of-requires
 stamp_of-requires c =
-    let p = c.before in
-    let a = p.before.before.before.before in
-    let x = a.loop-left.invariant in
-    let s = a.before.before in
-    let inside = place-in x.sound (a.loop-left.left.count - 1) (omega (arith, x.sound.fits)) in
-    (omega (arith, p.place-at.ensures, inside, s.requires.few), omega (arith, p.place-at.ensures, inside, s.requires.room, x.same))
+    let x = c.loop-left.invariant in
+    let inside = place-in x.sound (c.loop-left.left.count - 1) (omega (arith, x.sound.fits)) in
+    (omega (arith, c.place-at.ensures, inside, c.requires.few), omega (arith, c.place-at.ensures, inside, c.requires.room, x.same))
 
 -- the layer of the newest entry
-newest : (c : After-stamp_of) → let a = c.before.before.before.before.before.before in c.stamp_of.result ≡ stamp_at a.args.n a.loop-left.scratch a.loop-left.left (a.loop-left.left.count - 1)
+newest : (c : After-stamp_of) → c.stamp_of.result ≡ stamp_at c.args.n c.loop-left.scratch c.loop-left.left (c.loop-left.left.count - 1)
 newest c =
-    let p = c.before.before in
-    let a = p.before.before.before.before in
-    c.stamp_of.ensures ∙ ap (stamp_of a.loop-left.scratch) p.place-at.ensures
+    c.stamp_of.ensures ∙ ap (stamp_of c.loop-left.scratch) c.place-at.ensures
 
 pub shape_of-scratch-then-stamp_of-layer : goal.shape_of-scratch-then-stamp_of-layer
 shape_of-scratch-then-stamp_of-layer c = c.loop-left.invariant.same
 
 pub returns-then-stamp_of-layer : goal.returns-then-stamp_of-layer
 returns-then-stamp_of-layer c =
-    let a = c.before.before.before.before.before.before.before in
-    let x = a.loop-left.invariant in
-    rewound _ _ _ _ _ _ x (λ i h. omega (arith, newest c.before, c.if-stamp_of-layer.true, x.sound.sorted i (a.loop-left.left.count - 1) (omega arith) (omega arith)))
+    let x = c.loop-left.invariant in
+    rewound _ _ _ _ _ _ x (λ i h. omega (arith, newest (goal.at.returns-then-stamp_of-layer c).After-stamp_of, c.if-stamp_of-layer.true, x.sound.sorted i (c.loop-left.left.count - 1) (omega arith) (omega arith)))
 
 pub restore-left-requires : goal.restore-left-requires
 restore-left-requires c =
-    let a = c.before.before.before.before.before.before.before.before in
-    let x = a.loop-left.invariant in
-    let s = a.before.before in
-    (record { sound = x.sound; few = s.requires.few; room = omega (arith, x.same, s.requires.room) }, omega arith)
+    let x = c.loop-left.invariant in
+    (record { sound = x.sound; few = c.requires.few; room = omega (arith, x.same, c.requires.room) }, omega arith)
 
 pub loop-left-smaller : goal.loop-left-smaller
 loop-left-smaller c = omega (arith, c.restore-left.ensures.fewer)
 
 pub loop-left-preserved : goal.loop-left-preserved
 loop-left-preserved c =
-    let e = c.before.before.before.before in
-    let a = e.before.before.before.before.before.before.before in
-    let x = a.loop-left.invariant in
+    let x = c.loop-left.invariant in
     let y = c.restore-left.ensures in
     record {
       same = y.same ∙ x.same;
       kept = λ k h. y.kept k h ∙ x.kept k h;
       sound = y.sound;
       lowest = y.lowest ∙ x.lowest;
-      history = λ u Z le past. y.history _ Z (top e _ y.fewer) (x.history u Z le past);
+      history = λ u Z le past. y.history _ Z (top c.before.before.before.before _ y.fewer) (x.history u Z le past);
     }
   where
-    top : (e : Else-stamp_of-layer) (k : ℕ) → let a = e.before.before.before.before.before.before.before in a.loop-left.left.count ≡ k + 1 → a.args.layer < stamp_at a.args.n a.loop-left.scratch a.loop-left.left k
-    top e k f =
-        let a = e.before.before.before.before.before.before.before in
-        let z : a.loop-left.left.count - 1 ≡ k = omega arith in
-        omega (arith, newest e.before, e.if-stamp_of-layer.false, ap (stamp_at a.args.n a.loop-left.scratch a.loop-left.left) z)
+    top : (c.before.before.before.before : Else-stamp_of-layer) (k : ℕ) → c.loop-left.left.count ≡ k + 1 → c.args.layer < stamp_at c.args.n c.loop-left.scratch c.loop-left.left k
+    top c.before.before.before.before k f =
+        let z : c.loop-left.left.count - 1 ≡ k = omega arith in
+        omega (arith, newest (goal.at.loop-left-preserved c).After-stamp_of, c.if-stamp_of-layer.false, ap (stamp_at c.args.n c.loop-left.scratch c.loop-left.left) z)
 
 pub shape_of-scratch : goal.shape_of-scratch
 shape_of-scratch c = c.loop-left.invariant.same

@@ -95,14 +95,12 @@ returns-then-trail-eq0 c = save-nothing _ _ _ _ c.if-trail-eq0.true
 
 pub make_room-kept-requires : goal.make_room-kept-requires
 make_room-kept-requires c =
-    let e = c.before in
-    (e.requires.0, omega (arith, e.if-trail-eq0.false))
+    (c.requires.0, omega (arith, c.if-trail-eq0.false))
 
 pub place-at-requires : goal.place-at-requires
 place-at-requires c =
-    let s = c.before.before.before.before.before in
     let made = c.make_room-kept.ensures in
-    (made.sound.start, (made.sound.slots, (s.requires.0.few, made.free)))
+    (made.sound.start, (made.sound.slots, (c.requires.0.few, made.free)))
 
 -- the free slot's words
 room : (c : After-place-at) → c.place-at.result + slot_words ≤ c.args.n * cell_words
@@ -113,17 +111,14 @@ after c = omega (arith, c.place-at.ensures, place-above c.make_room-kept.ensures
 
 pub copy-requires : goal.copy-requires
 copy-requires c =
-    let p = c.before in
-    let s = p.before.before.before.before.before.before in (
-      inl (omega (arith, after p, s.requires.1)),
-      (omega (arith, s.requires.1, s.requires.0.room), omega (arith, room p, s.requires.0.room)),
+    (
+      inl (omega (arith, after (goal.at.copy-requires c).After-place-at, c.requires.1)),
+      (omega (arith, c.requires.1, c.requires.0.room), omega (arith, room (goal.at.copy-requires c).After-place-at, c.requires.0.room)),
     )
 
 bounds : (c : After-slice_known-2-1) → (c.place-at.result + slot_words ≤ 262144) × (c.place-at.result + slot_words ≤ length c.copy.new.0)
 bounds c =
-    let p = c.before.before.before.before in
-    let s = p.before.before.before.before.before.before in
-    (omega (arith, room p, s.requires.0.few), omega (arith, room p, s.requires.0.room, c.copy.ensures.same))
+    (omega (arith, room (goal.at.After-slice_known-2-1 c).After-place-at, c.requires.0.few), omega (arith, room (goal.at.After-slice_known-2-1 c).After-place-at, c.requires.0.room, c.copy.ensures.same))
 
 pub overflow_add-scratch : goal.overflow_add-scratch
 overflow_add-scratch c = omega (arith, bounds c)
@@ -154,6 +149,4 @@ bounds-scratch-at-3 c = simp length-set (omega (arith, bounds c))
 
 pub returns : goal.returns
 returns c =
-    let p = c.before.before.before.before.before in
-    let s = p.before.before.before.before.before.before in
-    save-row _ _ _ _ _ _ s.requires.0 s.requires.1 p.make_room-kept.ensures refl _ p.place-at.ensures _ c.copy.ensures _ refl refl refl refl refl
+    save-row _ _ _ _ _ _ c.requires.0 c.requires.1 c.make_room-kept.ensures refl _ c.place-at.ensures _ c.copy.ensures _ refl refl refl refl refl

@@ -16,10 +16,10 @@ pub overflow_cast-result : goal.overflow_cast-result
 overflow_cast-result c = omega (arith, low c)
 
 pub overflow_cast-result-2 : goal.overflow_cast-result-2
-overflow_cast-result-2 c = omega (arith, high c.before)
+overflow_cast-result-2 c = omega (arith, high (goal.at.overflow_cast-result-2 c).After-shared_slice_known-1)
 
 pub overflow_mul-result : goal.overflow_mul-result
-overflow_mul-result c = omega (arith, high c.before)
+overflow_mul-result c = omega (arith, high (goal.at.overflow_mul-result c).After-shared_slice_known-1)
 
 pub overflow_add-result-3 : goal.overflow_add-result-3
-overflow_add-result-3 c = omega (arith, low c.before, high c.before)
+overflow_add-result-3 c = omega (arith, low (goal.at.overflow_add-result-3 c).After-shared_slice_known-1, high (goal.at.overflow_add-result-3 c).After-shared_slice_known-1)

@@ -9,8 +9,7 @@ use Rattle.answers.proofs.tables.check_tables.Goals as goal
 
 pub returns-then-not-period_in_range : goal.returns-then-not-period_in_range
 returns-then-not-period_in_range c =
-    let p = c.before.before in
-    c.refused.ensures ∙ period-refused _ _ (sym p.period_in_range.ensures ∙ not-true _ c.if-not-period_in_range.true-raw)
+    c.refused.ensures ∙ period-refused _ _ (sym c.period_in_range.ensures ∙ not-true _ c.if-not-period_in_range.true-raw)
 
 pub check_elements-checked-requires : goal.check_elements-checked-requires
 check_elements-checked-requires c = c.requires
@@ -18,6 +17,4 @@ check_elements-checked-requires c = c.requires
 pub returns : goal.returns
 unfolding register_ok register_in_range
 returns c =
-    let e = c.before in
-    let p = e.before.before in
-    rw e.check_elements-checked.ensures (tables-elements _ _ _ (sym p.period_in_range.ensures ∙ not-false _ e.if-not-period_in_range.false-raw) refl)
+    rw c.check_elements-checked.ensures (tables-elements _ _ _ (sym c.period_in_range.ensures ∙ not-false _ c.if-not-period_in_range.false-raw) refl)

@@ -18,23 +18,20 @@ loop-i-init c = (omega arith, rw c.zero-zero.ensures (scanned-none _))
 pub returns-in_default : goal.returns-in_default
 unfolding buffer_ok checked_list places_for list_fault
 returns-in_default c =
-    let a = c.before.before.before.before.before.before in
     let out = buffer-out _ _ _ (sym c.checked.ensures ∙ c.in_default.is) in
-    let l = a.args.t1 in
-    c.no_buffers-in_default.ensures ∙ simp (le-leb _ _ a.if-list-gt-BUFFERS_MAX.false, scanned-bad l a.loop-i.i a.loop-i.buffers a.loop-i.invariant.1 (omega arith) out)
+    let l = c.args.t1 in
+    c.no_buffers-in_default.ensures ∙ simp (le-leb _ _ c.if-list-gt-BUFFERS_MAX.false, scanned-bad l c.loop-i.i c.loop-i.buffers c.loop-i.invariant.1 (omega arith) out)
 
 pub loop-i-preserved : goal.loop-i-preserved
 unfolding buffer_ok buffer_from
 loop-i-preserved c =
-    let a = c.before.before.before.before.before.before in
     let v = buffer-valid _ _ _ _ (sym c.checked.ensures ∙ c.in-Valid.is) in
-    let l = a.args.t1 in
-    (omega arith, rw v.1 (scanned-more l a.loop-i.i a.loop-i.buffers a.loop-i.invariant.1 (omega arith) a.if-list-gt-BUFFERS_MAX.false v.0))
+    let l = c.args.t1 in
+    (omega arith, rw v.1 (scanned-more l c.loop-i.i c.loop-i.buffers c.loop-i.invariant.1 (omega arith) c.if-list-gt-BUFFERS_MAX.false v.0))
 
 pub returns : goal.returns
 unfolding checked_list places_for list_fault
 returns c =
-    let a = c.before in
-    let s = a.loop-i.invariant.1 in
-    let l = a.args.t1 in
-    simp (le-leb _ _ a.if-list-gt-BUFFERS_MAX.false, scanned-clean l a.loop-i.i _ s c.loop-i-test.false, scanned-all l a.loop-i.i _ s (omega arith))
+    let s = c.loop-i.invariant.1 in
+    let l = c.args.t1 in
+    simp (le-leb _ _ c.if-list-gt-BUFFERS_MAX.false, scanned-clean l c.loop-i.i _ s c.loop-i-test.false, scanned-all l c.loop-i.i _ s (omega arith))

@@ -11,9 +11,7 @@ write_crossed-requires c = c.requires.1.1
 pub returns : goal.returns
 unfolding bench_crossing
 returns c =
-    let asked = c.before.before.before.before.before.before.before.before.before in
-    let read = asked.before.before.before in
-    let done = rw (read.tables_of-raw.ensures, read.read_crossing-crossing.ensures, read.read_buffers-list.ensures) at asked.route_crossing_with-answer.ensures in
+    let done = rw (c.tables_of-raw.ensures, c.read_crossing-crossing.ensures, c.read_buffers-list.ensures) at c.route_crossing_with-answer.ensures in
     record {
       number = c.number.ensures ∙ ap crossing_number done.answer;
       scratch_left = done.scratch_left;

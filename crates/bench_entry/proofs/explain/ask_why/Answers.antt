@@ -8,8 +8,7 @@ use Rattle.bench_entry.proofs.explain.ask_why.Goals as goal
 pub returns : goal.returns
 unfolding bench_question
 returns c =
-    let asked = c.before.before.before.before.before.before.before.before in
-    let done = rw (asked.tables_of-raw.ensures, asked.read_buffers-list.ensures) at asked.explain_with-explained.ensures in
+    let done = rw (c.tables_of-raw.ensures, c.read_buffers-list.ensures) at c.explain_with-explained.ensures in
     record {
       number = c.number.ensures ∙ ap explained_number done.answer;
       scratch_left = done.scratch_left;

@@ -8,9 +8,7 @@ ask_why-requires c = right-lengths _ _ _ (sym c.lengths_right.ensures ∙ c.if-l
 
 pub returns-then-lengths_right : goal.returns-then-lengths_right
 returns-then-lengths_right c =
-    let asked = c.before.before.before.before in
-    let tested = asked.before.before.before in
-    rw (sym tested.lengths_right.ensures ∙ tested.if-lengths_right.true) asked.ask_why.ensures
+    rw (sym c.lengths_right.ensures ∙ c.if-lengths_right.true) c.ask_why.ensures
 
 pub returns : goal.returns
 returns c = rw (sym c.lengths_right.ensures ∙ c.if-lengths_right.false) (record { number = refl; scratch_left = refl; told_left = refl })

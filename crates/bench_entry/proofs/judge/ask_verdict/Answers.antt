@@ -8,8 +8,7 @@ use Rattle.bench_entry.proofs.judge.ask_verdict.Goals as goal
 pub returns : goal.returns
 unfolding bench_question
 returns c =
-    let judged = c.before.before.before.before.before.before in
-    let done = rw (judged.tables_of-raw.ensures, judged.read_buffers-read.ensures) at judged.judge_with-verdict.ensures in
+    let done = rw (c.tables_of-raw.ensures, c.read_buffers-read.ensures) at c.judge_with-verdict.ensures in
     record {
       number = c.number.ensures ∙ ap verdict_number done;
       told = c.write_found.ensures ∙ ap found_words (c.found_of.ensures ∙ ap found_of done);

@@ -19,8 +19,5 @@ bounds-figures-5 c = simp length-set (omega (arith, c.requires))
 
 pub returns : goal.returns
 returns c =
-    let told = c.before in
-    let figures = told.before.before in
-    let start = figures.before.before in
-    let own = to_z-of_z {w = w32} {z = figures.figures-f.result.slack} (record { sfits = told.struct_told-1.given.1.1.1.1.0.1 }) in
-    crossed-stored _ start.args.figures.now figures.figures-f.result _ _ figures.figures-f.ensures told.crossing_fault.ensures (c.slack_magnitude.ensures ∙ ap magnitude own) start.requires
+    let own = to_z-of_z {w = w32} {z = c.figures-f.result.slack} (record { sfits = c.struct_told-1.given.1.1.1.1.0.1 }) in
+    crossed-stored _ c.args.figures.now c.figures-f.result _ _ c.figures-f.ensures c.crossing_fault.ensures (c.slack_magnitude.ensures ∙ ap magnitude own) c.requires

@@ -7,17 +7,13 @@ use Rattle.question.specs.Question.{Question, question_of, passes, question_chec
 use Rattle.question.proofs.Checks.{told-fails, told-passes, passed-ready, rules-asked}
 use Rattle.comparison.proofs.Calls.{refused-five, refused-list, compared}
 use Rattle.comparison.proofs.compare.compare_read.Goals as goal
-use Rattle.comparison.proofs.compare.compare_read.Goals.{After-check_question-checked, In-Passes, Start}
-
--- the entry, seen from the checks
-abbrev start : After-check_question-checked → Start
-start c = c.before.before.before.before
+use Rattle.comparison.proofs.compare.compare_read.Goals.{In-Passes, Start}
 
 abbrev asked : Start → Question
 asked s = question_of s.args.plan.now s.args.width s.args.height s.args.tables s.args.read.list s.args.source s.args.sink
 
 -- checks 1 to 5 have passed, and the problem is the question's
-passed : (c : In-Passes) → (question_checks (asked (start c.before.before)) passes ≡ passes) × (c.check_question-checked.result.problem ≡ problem_asked (asked (start c.before.before)))
+passed : (c : In-Passes) → (question_checks (asked (goal.at.In-Passes c).Start) passes ≡ passes) × (c.check_question-checked.result.problem ≡ problem_asked (asked (goal.at.In-Passes c).Start))
 passed c = told-passes _ _ c.check_question-checked.ensures c.in-Passes.is
 
 pub check_question-checked-requires : goal.check_question-checked-requires
@@ -25,34 +21,26 @@ check_question-checked-requires c = c.requires
 
 pub returns-in-Fails : goal.returns-in-Fails
 returns-in-Fails c =
-    let k = c.before.before.before in
-    let q = asked (start k) in
-    sym (refused-five q _ _ _ (told-fails q _ _ k.check_question-checked.ensures c.in-Fails.is))
+    let q = asked (goal.at.returns-in-Fails c).Start in
+    sym (refused-five q _ _ _ (told-fails q _ _ c.check_question-checked.ensures c.in-Fails.is))
 
 pub returns-then-bad_list : goal.returns-then-bad_list
 returns-then-bad_list c =
-    let n = c.before in
-    let s = start n.before.before.before in
     sym
-    (refused-list (asked s) s.args.a.now s.args.b.now (passed n.before).0
+    (refused-list (asked (goal.at.returns-then-bad_list c).Start) c.args.a.now c.args.b.now (passed (goal.at.returns-then-bad_list c).In-Passes).0
     (⊎_elim
-    (λ w. rw (sym n.bad_list.ensures ∙ w.taken))
+    (λ w. rw (sym c.bad_list.ensures ∙ w.taken))
     (λ w. simp (sym w.1.ensures ∙ w.2.taken, or-true))
     c.if-bad_list.branch))
 
 pub compare_ready-requires : goal.compare_ready-requires
 compare_ready-requires c =
-    let m = c.before.before in
-    let n = m.before.before in
-    let f = passed n.before in
-    (rw f.1 (passed-ready (asked (start n.before.before.before)) passes f.0), (sym n.bad_list.ensures ∙ m.if-bad_list.false, sym m.bad_list-else-bad_list.ensures ∙ c.if-bad_list-2.false))
+    let f = passed (goal.at.compare_ready-requires c).In-Passes in
+    (rw f.1 (passed-ready (asked (goal.at.compare_ready-requires c).Start) passes f.0), (sym c.bad_list.ensures ∙ c.if-bad_list.false, sym c.bad_list-else-bad_list.ensures ∙ c.if-bad_list-2.false))
 
 pub returns-in-Passes : goal.returns-in-Passes
 returns-in-Passes c =
-    let e = c.before.before in
-    let m = e.before in
-    let n = m.before.before in
-    let f = passed n.before in
-    let q = asked (start n.before.before.before) in
+    let f = passed (goal.at.returns-in-Passes c).In-Passes in
+    let q = asked (goal.at.returns-in-Passes c).Start in
     rw (f.1, rules-asked q) at c.compare_ready.ensures
-    ∙ sym (compared q _ _ f.0 (sym n.bad_list.ensures ∙ m.if-bad_list.false) (sym m.bad_list-else-bad_list.ensures ∙ e.if-bad_list-2.false))
+    ∙ sym (compared q _ _ f.0 (sym c.bad_list.ensures ∙ c.if-bad_list.false) (sym c.bad_list-else-bad_list.ensures ∙ c.if-bad_list-2.false))

@@ -7,28 +7,20 @@ use Rattle.comparison.proofs.compare.compare_ready.Goals as goal
 
 pub returns-then-ranks_before : goal.returns-then-ranks_before
 returns-then-ranks_before c =
-    let n = c.before.before.before in
-    let k = n.before in
-    known _ _ _ true true true (sym k.legal_ready-first.ensures ∙ n.if-first.true) (sym k.legal_ready-second.ensures ∙ c.if-second.true) (sym c.ranks_before.ensures ∙ c.if-ranks_before.true)
+    known _ _ _ true true true (sym c.legal_ready-first.ensures ∙ c.if-first.true) (sym c.legal_ready-second.ensures ∙ c.if-second.true) (sym c.ranks_before.ensures ∙ c.if-ranks_before.true)
 
 pub returns-then-first : goal.returns-then-first
 returns-then-first c =
-    let n = c.before in
-    let k = n.before in
-    let first = sym k.legal_ready-first.ensures ∙ n.if-first.true in
+    let first = sym c.legal_ready-first.ensures ∙ c.if-first.true in
     ⊎_elim
-    (λ w. known _ _ _ true true false first (sym k.legal_ready-second.ensures ∙ w.0.taken) (sym w.1.ensures ∙ w.2.left))
-    (λ w. known _ _ _ true false _ first (sym k.legal_ready-second.ensures ∙ w.left) refl)
+    (λ w. known _ _ _ true true false first (sym c.legal_ready-second.ensures ∙ w.0.taken) (sym w.1.ensures ∙ w.2.left))
+    (λ w. known _ _ _ true false _ first (sym c.legal_ready-second.ensures ∙ w.left) refl)
     c.if-second.branch
 
 pub returns-then-second-2 : goal.returns-then-second-2
 returns-then-second-2 c =
-    let n = c.before in
-    let k = n.before in
-    known _ _ _ false true _ (sym k.legal_ready-first.ensures ∙ n.if-first.false) (sym k.legal_ready-second.ensures ∙ c.if-second-2.true) refl
+    known _ _ _ false true _ (sym c.legal_ready-first.ensures ∙ c.if-first.false) (sym c.legal_ready-second.ensures ∙ c.if-second-2.true) refl
 
 pub returns : goal.returns
 returns c =
-    let n = c.before in
-    let k = n.before in
-    known _ _ _ false false _ (sym k.legal_ready-first.ensures ∙ n.if-first.false) (sym k.legal_ready-second.ensures ∙ c.if-second-2.false) refl
+    known _ _ _ false false _ (sym c.legal_ready-first.ensures ∙ c.if-first.false) (sym c.legal_ready-second.ensures ∙ c.if-second-2.false) refl

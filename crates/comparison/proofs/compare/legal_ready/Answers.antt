@@ -20,9 +20,6 @@ use Rattle.verdict.proofs.Routes.{good-visits}
 use Rattle.comparison.proofs.compare.legal_ready.Goals as goal
 use Rattle.comparison.proofs.compare.legal_ready.Goals.{After-judge_ready-verdict, Start}
 
-abbrev start : After-judge_ready-verdict → Start
-start c = c.before.before.before
-
 abbrev rules : Start → Rules
 rules s = rules_for s.args.p s.args.plan.now
 

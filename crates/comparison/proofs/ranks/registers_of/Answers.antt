@@ -13,8 +13,7 @@ loop-i-init c = (omega arith, counted_none _)
 
 pub loop-i-preserved : goal.loop-i-preserved
 loop-i-preserved c =
-    let k = c.before.before.before in
-    let so = k.loop-i.invariant.1 in (
+    let so = c.loop-i.invariant.1 in (
       omega arith,
       ⊎_elim
           (λ w. rw w.1 (counted-register _ _ _ so (omega arith) w.0.taken))
@@ -28,8 +27,8 @@ all c = counted-all _ _ _ c.loop-i.invariant.1 (omega arith)
 
 pub returns-then-count-lt2 : goal.returns-then-count-lt2
 unfolding registers
-returns-then-count-lt2 c = omega (arith, all c.before)
+returns-then-count-lt2 c = omega (arith, all (goal.at.returns-then-count-lt2 c).After-loop-i)
 
 pub returns : goal.returns
 unfolding registers
-returns c = omega (arith, all c.before)
+returns c = omega (arith, all (goal.at.returns c).After-loop-i)

@@ -9,17 +9,12 @@ loop-i-init c = (omega arith, refl)
 
 pub returns-then-x-y : goal.returns-then-x-y
 returns-then-x-y c =
-    let k = c.before.before.before.before in
-    let s = k.before in
-    sym (k.loop-i.invariant.1 ∙ precedes-differ s.args.b.now s.args.a.now _ (omega arith) (omega arith) c.if-x-y.true)
+    sym (c.loop-i.invariant.1 ∙ precedes-differ c.args.b.now c.args.a.now _ (omega arith) (omega arith) c.if-x-y.true)
 
 pub loop-i-preserved : goal.loop-i-preserved
 loop-i-preserved c =
-    let k = c.before.before.before.before in
-    let s = k.before in
-    (omega arith, k.loop-i.invariant.1 ∙ precedes-equal s.args.b.now s.args.a.now _ (omega arith) (omega arith) c.if-x-y.false)
+    (omega arith, c.loop-i.invariant.1 ∙ precedes-equal c.args.b.now c.args.a.now _ (omega arith) (omega arith) c.if-x-y.false)
 
 pub returns : goal.returns
 returns c =
-    let s = c.before.before in
-    sym (c.loop-i.invariant.1 ∙ precedes-end s.args.b.now s.args.a.now c.loop-i.i (omega arith) (omega arith))
+    sym (c.loop-i.invariant.1 ∙ precedes-end c.args.b.now c.args.a.now c.loop-i.i (omega arith) (omega arith))

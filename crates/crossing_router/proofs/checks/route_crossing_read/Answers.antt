@@ -13,34 +13,31 @@ abbrev asked : Start → CrossingQuestion
 asked s = crossing_of s.args.plan.now s.args.width s.args.height s.args.tables s.args.crossing s.args.read.list s.args.source s.args.sink
 
 -- what the checks handed on, once they have passed
-hands : (c : After-check_with-checked) → c.check_with-checked.result.outcome ≡ Checked.Passes → Handed (asked c.before.before.before.before.before.before.before) c.check_with-checked.result c.check_crossing-made.result
-hands c h = handed (asked c.before.before.before.before.before.before.before) _ c.check_crossing-made.ensures _ (c.check_with-checked.ensures _ _) h
+hands : (c : After-check_with-checked) → c.check_with-checked.result.outcome ≡ Checked.Passes → Handed (asked (goal.at.After-check_with-checked c).Start) c.check_with-checked.result c.check_crossing-made.result
+hands c h = handed (asked (goal.at.After-check_with-checked c).Start) _ c.check_crossing-made.ensures _ (c.check_with-checked.ensures _ _) h
 
 pub check_crossing-made-requires : goal.check_crossing-made-requires
 check_crossing-made-requires c = c.requires
 
 pub returns-in-Fails : goal.returns-in-Fails
 returns-in-Fails c =
-    let k = c.before.before.before in
-    let q = asked k.before.before.before.before.before.before.before in
-    refused q _ _ _ (refused-five q k.args.scratch.now k.args.visits.now _ (handed-fails q _ k.check_crossing-made.ensures _ (k.check_with-checked.ensures _ _) _ c.in-Fails.is))
+    let q = asked (goal.at.returns-in-Fails c).Start in
+    refused q _ _ _ (refused-five q c.args.scratch.now c.args.visits.now _ (handed-fails q _ c.check_crossing-made.ensures _ (c.check_with-checked.ensures _ _) _ c.in-Fails.is))
 
 pub overflow_mul-plan : goal.overflow_mul-plan
 overflow_mul-plan c =
-    let k = c.before.before in
-    omega (arith, few-cells _ _ (crossing-ready (asked k.before.before.before.before.before.before.before) passes (hands k c.in-Passes.is).five))
+    omega (arith, few-cells _ _ (crossing-ready (asked (goal.at.overflow_mul-plan c).Start) passes (hands (goal.at.overflow_mul-plan c).After-check_with-checked c.in-Passes.is).five))
 
 pub returns-then-scratch-plan : goal.returns-then-scratch-plan
 returns-then-scratch-plan c =
-    let k = c.before.before.before in
-    let q = asked k.before.before.before.before.before.before.before in
-    refused q _ _ _ (refused-scratch q k.args.scratch.now k.args.visits.now (hands k c.in-Passes.is).five c.if-scratch-plan.true)
+    let q = asked (goal.at.returns-then-scratch-plan c).Start in
+    refused q _ _ _ (refused-scratch q c.args.scratch.now c.args.visits.now (hands (goal.at.returns-then-scratch-plan c).After-check_with-checked c.in-Passes.is).five c.if-scratch-plan.true)
 
 pub costs_of-costs-requires : goal.costs_of-costs-requires
-costs_of-costs-requires c = handed-valid (hands c.before.before.before.before c.in-Passes.is)
+costs_of-costs-requires c = handed-valid (hands (goal.at.costs_of-costs-requires c).After-check_with-checked c.in-Passes.is)
 
 pub crossing_ready-requires : goal.crossing_ready-requires
-crossing_ready-requires c = two-asks (hands c.before.before.before.before.before.before.before.before c.in-Passes.is) _ _ c.if-scratch-plan.false c.costs_of-costs.ensures
+crossing_ready-requires c = two-asks (hands (goal.at.crossing_ready-requires c).After-check_with-checked c.in-Passes.is) _ _ c.if-scratch-plan.false c.costs_of-costs.ensures
 
 pub shape_of-scratch-in-Passes : goal.shape_of-scratch-in-Passes
 shape_of-scratch-in-Passes c = c.crossing_ready.auto.1.0
@@ -50,5 +47,4 @@ shape_of-visits-in-Passes c = c.crossing_ready.auto.1.1.1.1.0
 
 pub returns-in-Passes : goal.returns-in-Passes
 returns-in-Passes c =
-    let e = c.before.before.before.before.before.before.before.before.before.before in
-    handed-routed (hands c.before.before.before.before.before.before.before.before.before.before.before.before.before c.in-Passes.is) _ _ e.if-scratch-plan.false _ _ _ c.crossing_ready.ensures
+    handed-routed (hands (goal.at.returns-in-Passes c).After-check_with-checked c.in-Passes.is) _ _ c.if-scratch-plan.false _ _ _ c.crossing_ready.ensures

@@ -18,26 +18,23 @@ use Rattle.crossing_router.proofs.sides.crossing_ready.Goals.{After-search_anew-
 same : (c : After-search_anew-reached) → length c.search_anew-reached.new.1.0 ≡ length c.args.scratch.now
 same c = c.search_anew-reached.ensures.same ∙ c.search_far-far.ensures.same
 
-kept : (c : After-search_anew-reached) → let s = c.before.before.before.before.before.before.before.before.before in KeptFrom (length s.args.plan.now * crossing_words) s.args.scratch.now c.search_anew-reached.new.1.0
+kept : (c : After-search_anew-reached) → KeptFrom (length c.args.plan.now * crossing_words) c.args.scratch.now c.search_anew-reached.new.1.0
 kept c i h = c.search_anew-reached.ensures.beyond.rest i (omega arith) ∙ c.search_far-far.ensures.rest i h
 
 pub search_anew-reached-requires : goal.search_anew-reached-requires
 search_anew-reached-requires c =
-    let s = c.before.before.before.before.before.before.before.before in
     let far = c.search_far-far.ensures in
-    (s.requires.ready, (omega (arith, s.requires.room, far.same), (far.asks, s.requires.costed)))
+    (c.requires.ready, (omega (arith, c.requires.room, far.same), (far.asks, c.requires.costed)))
 
 pub write_crossing-requires : goal.write_crossing-requires
 write_crossing-requires c =
-    let after = c.before.before.before.before.before.before.before in
-    let s = c.before.before.before.before.before.before.before.before.before.before.before.before.before.before.before.before in
-    let found = after.search_anew-reached.ensures in (
-      record { ready = s.requires.ready; two = s.requires.two; room = omega (arith, s.requires.room, same after); costed = s.requires.costed },
+    let found = c.search_anew-reached.ensures in (
+      record { ready = c.requires.ready; two = c.requires.two; room = omega (arith, c.requires.room, same (goal.at.write_crossing-requires c).After-search_anew-reached); costed = c.requires.costed },
       (reached-sink found.done _ _ _ c.in-Sink.is, aside-kept c.search_far-far.ensures.aside found.same found.beyond.rest),
     )
 
 pub shape_of-scratch-in-Sink : goal.shape_of-scratch-in-Sink
-shape_of-scratch-in-Sink c = c.write_crossing.auto.1.0 ∙ same c.before.before.before.before.before.before.before.before.before.before.before.before
+shape_of-scratch-in-Sink c = c.write_crossing.auto.1.0 ∙ same (goal.at.shape_of-scratch-in-Sink c).After-search_anew-reached
 
 pub shape_of-visits-in-Sink : goal.shape_of-visits-in-Sink
 shape_of-visits-in-Sink c = c.write_crossing.auto.1.1.1.1.0
@@ -45,12 +42,10 @@ shape_of-visits-in-Sink c = c.write_crossing.auto.1.1.1.1.0
 pub returns-in-Sink : goal.returns-in-Sink
 returns-in-Sink c =
     let w = c.write_crossing.ensures in
-    let after = c.before.before.before.before.before.before.before.before.before.before.before.before in
-    let s = after.before.before.before.before.before.before.before.before.before in
-    let n = length s.args.plan.now in
+    let n = length c.args.plan.now in
     record {
       answer = w.answer;
-      zero-words = w.zero-words ∙ zeroed-kept (n * crossing_words) (n * crossing_words) s.args.scratch.now _ (omega arith) (same after) (kept after);
+      zero-words = w.zero-words ∙ zeroed-kept (n * crossing_words) (n * crossing_words) c.args.scratch.now _ (omega arith) (same (goal.at.returns-in-Sink c).After-search_anew-reached) (kept (goal.at.returns-in-Sink c).After-search_anew-reached);
       filled = w.filled;
     }
 
@@ -58,16 +53,14 @@ pub overflow_mul-n : goal.overflow_mul-n
 overflow_mul-n c = omega (arith, few-cells _ _ c.requires.ready.ready)
 
 pub clear-requires : goal.clear-requires
-clear-requires c = (omega arith, omega (arith, c.requires.room, same c.before.before.before.before.before))
+clear-requires c = (omega arith, omega (arith, c.requires.room, same (goal.at.clear-requires c).After-search_anew-reached))
 
 pub shape_of-scratch-in-Nothing : goal.shape_of-scratch-in-Nothing
-shape_of-scratch-in-Nothing c = c.clear.ensures.same ∙ same c.before.before.before.before.before.before.before.before
+shape_of-scratch-in-Nothing c = c.clear.ensures.same ∙ same (goal.at.shape_of-scratch-in-Nothing c).After-search_anew-reached
 
 pub returns-in-Nothing : goal.returns-in-Nothing
 returns-in-Nothing c =
-    let after = c.before.before.before.before.before.before.before.before in
-    let s = after.before.before.before.before.before.before.before.before.before in
-    let n = length s.args.plan.now in
+    let n = length c.args.plan.now in
     done_none _ _ _ _ _
-    (zeroed-is (n * crossing_words) (n * crossing_words) s.args.scratch.now _ _ (omega arith) s.requires.room (same after) (kept after) c.clear.ensures)
-    (best-is-none _ _ s.requires.ready s.requires.two ((reached-nothing after.search_anew-reached.ensures.done _ _ c.in-Nothing.is).none refl))
+    (zeroed-is (n * crossing_words) (n * crossing_words) c.args.scratch.now _ _ (omega arith) c.requires.room (same (goal.at.returns-in-Nothing c).After-search_anew-reached) (kept (goal.at.returns-in-Nothing c).After-search_anew-reached) c.clear.ensures)
+    (best-is-none _ _ c.requires.ready c.requires.two ((reached-nothing c.search_anew-reached.ensures.done _ _ c.in-Nothing.is).none refl))

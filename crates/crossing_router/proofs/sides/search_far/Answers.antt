@@ -19,19 +19,18 @@ one-fifo : (s : Start) → (net_rules s.args.net s.args.plan.now).fifos ≡ 1
 one-fifo s = net-fifos _ _ ∙ s.requires.two
 
 pub overflow_mul-n : goal.overflow_mul-n
-overflow_mul-n c = omega (arith, few c.before.before.before)
+overflow_mul-n c = omega (arith, few (goal.at.overflow_mul-n c).Start)
 
 pub overflow_mul-n-2 : goal.overflow_mul-n-2
-overflow_mul-n-2 c = omega (arith, few c.before.before.before)
+overflow_mul-n-2 c = omega (arith, few (goal.at.overflow_mul-n-2 c).Start)
 
 pub clear-requires : goal.clear-requires
 clear-requires c = (omega arith, omega (arith, c.requires.room))
 
 pub search_anew-reached-requires : goal.search_anew-reached-requires
 search_anew-reached-requires c =
-    let s = c.before.before.before.before.before.before.before in
     let cleared = c.clear.ensures in
-    (s.requires.ready, (omega (arith, s.requires.room, cleared.same), (far-asks (one-fifo s) s.requires.room cleared, s.requires.costed)))
+    (c.requires.ready, (omega (arith, c.requires.room, cleared.same), (far-asks (one-fifo (goal.at.search_anew-reached-requires c).Start) c.requires.room cleared, c.requires.costed)))
 
 pub shape_of-scratch-in-Sink : goal.shape_of-scratch-in-Sink
 shape_of-scratch-in-Sink c = c.search_anew-reached.ensures.same ∙ c.clear.ensures.same
@@ -40,18 +39,17 @@ pub returns-in-Sink : goal.returns-in-Sink
 returns-in-Sink c = absurd (no-sink c.search_anew-reached.ensures.done _ _ _ c.in-Sink.is)
 
 pub overflow_mul-n-in-Nothing : goal.overflow_mul-n-in-Nothing
-overflow_mul-n-in-Nothing c = omega (arith, few c.before.before.before.before.before.before.before.before.before.before.before.before.before.before)
+overflow_mul-n-in-Nothing c = omega (arith, few (goal.at.overflow_mul-n-in-Nothing c).Start)
 
 pub overflow_mul-n-in-Nothing-2 : goal.overflow_mul-n-in-Nothing-2
-overflow_mul-n-in-Nothing-2 c = omega (arith, few c.before.before.before.before.before.before.before.before.before.before.before.before.before.before)
+overflow_mul-n-in-Nothing-2 c = omega (arith, few (goal.at.overflow_mul-n-in-Nothing-2 c).Start)
 
 pub copy_set-requires : goal.copy_set-requires
 copy_set-requires c =
-    let s = c.before.before.before.before.before.before.before.before.before.before.before.before.before.before in
-    let long : length c.search_anew-reached.new.1.0 ≡ length s.args.scratch.now = c.search_anew-reached.ensures.same ∙ c.clear.ensures.same in
+    let long : length c.search_anew-reached.new.1.0 ≡ length c.args.scratch.now = c.search_anew-reached.ensures.same ∙ c.clear.ensures.same in
     record {
-      source = record { small = few s; low = omega (arith, few s); room = omega (arith, s.requires.room, long) };
-      target = record { small = few s; low = omega (arith, few s); room = omega (arith, s.requires.room, long) };
+      source = record { small = few (goal.at.copy_set-requires c).Start; low = omega (arith, few (goal.at.copy_set-requires c).Start); room = omega (arith, c.requires.room, long) };
+      target = record { small = few (goal.at.copy_set-requires c).Start; low = omega (arith, few (goal.at.copy_set-requires c).Start); room = omega (arith, c.requires.room, long) };
       apart = inl (omega arith);
     }
 
@@ -61,6 +59,5 @@ shape_of-scratch-in-Nothing c =
 
 pub returns-in-Nothing : goal.returns-in-Nothing
 returns-in-Nothing c =
-    let s = c.before.before.before.before.before.before.before.before.before.before.before.before.before.before.before.before.before in
     let found = c.search_anew-reached.ensures in
-    far-done (one-fifo s) _ _ s.requires.room c.clear.ensures found.same found.beyond (reached-nothing found.done _ _ c.in-Nothing.is) c.copy_set.ensures
+    far-done (one-fifo (goal.at.returns-in-Nothing c).Start) _ _ c.requires.room c.clear.ensures found.same found.beyond (reached-nothing found.done _ _ c.in-Nothing.is) c.copy_set.ensures

@@ -15,8 +15,8 @@ use Rattle.crossing_router.proofs.sides.write_crossing.Goals as goal
 use Rattle.crossing_router.proofs.sides.write_crossing.Goals.{After-struct_told-1, After-weight}
 
 -- the first span's weight
-latency : (c : After-weight) → let s = c.before.before.before.before in c.weight.result ≡ (net_rules s.args.net s.args.plan.now).weight 0
-latency c = let s = c.before.before.before.before in c.weight.ensures ∙ sym (net-weight s.args.net s.args.plan.now 0)
+latency : (c : After-weight) → c.weight.result ≡ (net_rules c.args.net c.args.plan.now).weight 0
+latency c = c.weight.ensures ∙ sym (net-weight c.args.net c.args.plan.now 0)
 
 -- the figure as it was returned
 figure : (c : After-struct_told-1) → let r = c.write_out-written.result in to_z w32 (of_z w32 r.slack) ≡ r.slack
@@ -24,38 +24,32 @@ figure c = to_z-of_z {w = w32} (record { sfits = c.struct_told-1.given.0.1 })
 
 pub overflow_add-latency : goal.overflow_add-latency
 overflow_add-latency c =
-    let s = c.before.before.before.before in
-    omega (arith, latency c, (ready-short _ _ s.requires.0.ready 0 (omega arith) _ s.requires.1.0.least).1)
+    omega (arith, latency c, (ready-short _ _ c.requires.0.ready 0 (omega arith) _ c.requires.1.0.least).1)
 
 pub overflow_mul-n : goal.overflow_mul-n
 overflow_mul-n c = omega (arith, few-cells _ _ c.requires.0.ready.ready)
 
 pub write_out-written-requires : goal.write_out-written-requires
 write_out-written-requires c =
-    let s = c.before.before.before.before.before.before in
     record {
-      ready = s.requires.0.ready;
-      costed = s.requires.0.costed;
-      reaching = s.requires.1.0;
-      ahead = λ h. s.requires.1.1;
+      ready = c.requires.0.ready;
+      costed = c.requires.0.costed;
+      reaching = c.requires.1.0;
+      ahead = λ h. c.requires.1.1;
       own = omega arith;
-      within = s.requires.0.room;
+      within = c.requires.0.room;
     }
 
 pub returns-then-written : goal.returns-then-written
 returns-then-written c =
-    let out = c.before.before.before.before.before.before.before in
-    let s = out.before.before.before.before.before.before.before in
-    let b = best-at _ _ s.requires.0.ready s.requires.0.two _ _ s.requires.1.0.least in
-    let w = out.write_out-written.ensures in
-    rw (figure c.before, c.without_end-source.ensures, latency out.before.before.before)
-    (done-found _ _ _ _ _ _ _ _ b _ w (made-best w.is_first s.requires.1.0.least (sink-in _ _ s.requires.0.ready s.requires.0.two) _ 0 (cost _ _ s.requires.0.ready s.requires.0.two) b.route b.is_best) c.if-written.true)
+    let b = best-at _ _ c.requires.0.ready c.requires.0.two _ _ c.requires.1.0.least in
+    let w = c.write_out-written.ensures in
+    rw (figure (goal.at.returns-then-written c).After-struct_told-1, c.without_end-source.ensures, latency (goal.at.returns-then-written c).After-weight)
+    (done-found _ _ _ _ _ _ _ _ b _ w (made-best w.is_first c.requires.1.0.least (sink-in _ _ c.requires.0.ready c.requires.0.two) _ 0 (cost _ _ c.requires.0.ready c.requires.0.two) b.route b.is_best) c.if-written.true)
 
 pub returns : goal.returns
 returns c =
-    let out = c.before.before.before.before.before.before.before in
-    let s = out.before.before.before.before.before.before.before in
-    let b = best-at _ _ s.requires.0.ready s.requires.0.two _ _ s.requires.1.0.least in
-    let w = out.write_out-written.ensures in
-    rw (figure c.before, c.without_end-source.ensures, latency out.before.before.before)
-    (done-no-room _ _ _ _ _ _ _ _ b _ w (made-best w.is_first s.requires.1.0.least (sink-in _ _ s.requires.0.ready s.requires.0.two) _ 0 (cost _ _ s.requires.0.ready s.requires.0.two) b.route b.is_best) c.if-written.false)
+    let b = best-at _ _ c.requires.0.ready c.requires.0.two _ _ c.requires.1.0.least in
+    let w = c.write_out-written.ensures in
+    rw (figure (goal.at.returns c).After-struct_told-1, c.without_end-source.ensures, latency (goal.at.returns c).After-weight)
+    (done-no-room _ _ _ _ _ _ _ _ b _ w (made-best w.is_first c.requires.1.0.least (sink-in _ _ c.requires.0.ready c.requires.0.two) _ 0 (cost _ _ c.requires.0.ready c.requires.0.two) b.route b.is_best) c.if-written.false)

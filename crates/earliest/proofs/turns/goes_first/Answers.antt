@@ -10,7 +10,7 @@ pub returns-then-count-eq0 : goal.returns-then-count-eq0
 returns-then-count-eq0 c = ((λ e. absurd (of-true false e)), λ e i h. absurd (omega arith))
 
 pub none_before-requires : goal.none_before-requires
-none_before-requires c = let s = c.before.before in (lines-space s.requires.0, s.requires.1)
+none_before-requires c = (lines-space c.requires.0, c.requires.1)
 
 pub returns-then-none_before : goal.returns-then-none_before
 returns-then-none_before c = ((λ e. absurd (of-true false e)), λ e. c.none_before.ensures c.if-none_before.true)

@@ -10,10 +10,10 @@ pub returns-then-count-eq0 : goal.returns-then-count-eq0
 returns-then-count-eq0 c e = absurd (of-true false e)
 
 pub delay_at-requires : goal.delay_at-requires
-delay_at-requires c = let s = c.before.before in (lines-space s.requires.0, queue-slot s.requires.1 0 (omega arith))
+delay_at-requires c = (lines-space c.requires.0, queue-slot c.requires.1 0 (omega arith))
 
 pub bounds-scratch-n : goal.bounds-scratch-n
-bounds-scratch-n c = let s = c.before.before.before.before in omega (arith, s.requires.0.room, s.requires.1.states 0 (omega arith))
+bounds-scratch-n c = omega (arith, c.requires.0.room, c.requires.1.states 0 (omega arith))
 
 pub returns : goal.returns
 returns c e = omega arith

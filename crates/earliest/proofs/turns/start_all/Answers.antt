@@ -7,13 +7,11 @@ pub loop-c-init : goal.loop-c-init
 loop-c-init c = starting-none _ _ _ _ _ c.requires
 
 pub start_at-waiting-requires : goal.start_at-waiting-requires
-start_at-waiting-requires c = let l = c.before.before in (starting-asks _ _ _ _ _ l.requires l.loop-c.invariant, omega arith)
+start_at-waiting-requires c = (starting-asks _ _ _ _ _ c.requires c.loop-c.invariant, omega arith)
 
 pub loop-c-preserved : goal.loop-c-preserved
 loop-c-preserved c =
-    let r = c.before.before in
-    let l = r.before.before.before in
-    starting-more _ _ _ _ _ l.requires l.loop-c.invariant (omega arith) r.start_at-waiting.ensures
+    starting-more _ _ _ _ _ c.requires c.loop-c.invariant (omega arith) c.start_at-waiting.ensures
 
 pub returns : goal.returns
-returns c = let l = c.before in starting-end _ _ _ _ _ l.requires l.loop-c.invariant (omega (arith, l.loop-c.invariant.few))
+returns c = starting-end _ _ _ _ _ c.requires c.loop-c.invariant (omega (arith, c.loop-c.invariant.few))

@@ -26,10 +26,10 @@ pub overflow_mul-n-2 : goal.overflow_mul-n-2
 overflow_mul-n-2 c = omega (arith, c.requires.few)
 
 pub arrive-far-requires : goal.arrive-far-requires
-arrive-far-requires c = far-asks _ c.args.idle _ _ _ _ _ _ _ _ _ _ _ c.requires c.arrive-near.ensures (waits c.before)
+arrive-far-requires c = far-asks _ c.args.idle _ _ _ _ _ _ _ _ _ _ _ c.requires c.arrive-near.ensures (waits (goal.at.arrive-far-requires c).Else-exit-exits)
 
 pub shape_of-scratch : goal.shape_of-scratch
 shape_of-scratch c = c.arrive-far.ensures.arrived.same ∙ c.arrive-near.ensures.arrived.same
 
 pub returns : goal.returns
-returns c = both-far _ _ _ _ _ _ _ _ _ _ _ _ _ c.requires c.arrive-near.ensures (waits c.before.before.before.before) _ _ _ c.arrive-far.ensures
+returns c = both-far _ _ _ _ _ _ _ _ _ _ _ _ _ c.requires c.arrive-near.ensures (waits (goal.at.returns c).Else-exit-exits) _ _ _ c.arrive-far.ensures

@@ -50,9 +50,8 @@ loop-i-smaller c = omega (arith, c.loop-i-test.true)
 
 pub loop-i-preserved : goal.loop-i-preserved
 loop-i-preserved c =
-    let s = c.before.before.before in
     let f = c.loop-i.invariant.1 in
-    (omega (arith, c.loop-i-test.true), filled_more f _ (omega (arith, s.requires.target.room, c.loop-i-test.true)) (source_stays s.args.n s.args.from s.args.to c.loop-i.i s.args.scratch.now c.loop-i.scratch (omega (arith, c.loop-i-test.true)) s.requires f))
+    (omega (arith, c.loop-i-test.true), filled_more f _ (omega (arith, c.requires.target.room, c.loop-i-test.true)) (source_stays c.args.n c.args.from c.args.to c.loop-i.i c.args.scratch.now c.loop-i.scratch (omega (arith, c.loop-i-test.true)) c.requires f))
 
 pub shape_of-scratch : goal.shape_of-scratch
 shape_of-scratch c = c.loop-i.invariant.1.same

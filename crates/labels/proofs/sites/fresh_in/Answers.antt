@@ -34,5 +34,4 @@ view-requires c =
 
 pub returns : goal.returns
 returns c =
-    let s = c.before.before.before.before.before.before in
-    rw c.view.ensures (fresh-word s.args.gate s.requires.0 _ s.args.cell _ _ c.start_delay-start.ensures c.load-load.ensures)
+    rw c.view.ensures (fresh-word c.args.gate c.requires.0 _ c.args.cell _ _ c.start_delay-start.ensures c.load-load.ensures)

@@ -61,10 +61,10 @@ module _ (net : Net) (marks : List ℕ) (code set active weight steps count : �
 
 -- the sizes, in a turn
 few-in : (c : In-loop-i) → length c.args.plan.now ≤ 1024
-few-in c = let s = c.before.before.before.before in few _ _ _ _ _ _ _ _ _ s.requires.0 s.requires.1
+few-in c = few _ _ _ _ _ _ _ _ _ c.requires.0 c.requires.1
 
 short-in : (c : In-loop-i) → c.args.active ≤ length c.args.plan.now
-short-in c = let s = c.before.before.before.before in short _ _ _ _ _ _ _ _ _ s.requires.0 s.requires.1
+short-in c = short _ _ _ _ _ _ _ _ _ c.requires.0 c.requires.1
 
 pub loop-i-init : goal.loop-i-init
 loop-i-init c = (omega arith, tried-none _ _ _ _ _ _ _ _ _ c.requires.0 c.requires.1)
@@ -80,34 +80,27 @@ offset_bounds-scratch-n c = omega (arith, few-in c, short-in c, c.loop-i.invaria
 
 pub bounds-scratch-n : goal.bounds-scratch-n
 bounds-scratch-n c =
-    let s = c.before.before.before.before.before in
-    omega (arith, s.requires.0.room, short-in c.before, c.loop-i.invariant.1.same, c.loop-i-test.true)
+    omega (arith, c.requires.0.room, short-in (goal.at.bounds-scratch-n c).In-loop-i, c.loop-i.invariant.1.same, c.loop-i-test.true)
 
 pub overflow_cast-cell : goal.overflow_cast-cell
 overflow_cast-cell c =
-    let s = c.before.before.before.before.before in
-    omega (arith, few-in c.before, cell_below _ _ _ _ _ _ _ _ _ s.requires.0 s.requires.1 _ _ _ c.loop-i.invariant.1 c.loop-i-test.true)
+    omega (arith, few-in (goal.at.overflow_cast-cell c).In-loop-i, cell_below _ _ _ _ _ _ _ _ _ c.requires.0 c.requires.1 _ _ _ c.loop-i.invariant.1 c.loop-i-test.true)
 
 pub label_cell-known-requires : goal.label_cell-known-requires
 label_cell-known-requires c =
-    let s = c.before.before.before.before.before.before in
-    next-asks _ _ _ _ _ _ _ _ _ s.requires.0 s.requires.1 _ _ _ c.loop-i.invariant.1 c.loop-i-test.true
+    next-asks _ _ _ _ _ _ _ _ _ c.requires.0 c.requires.1 _ _ _ c.loop-i.invariant.1 c.loop-i-test.true
 
 pub overflow_add-i : goal.overflow_add-i
 overflow_add-i c =
-    let w = c.before.before.before.before.before in
-    omega (arith, few-in w, short-in w, w.loop-i-test.true)
+    omega (arith, few-in (goal.at.overflow_add-i c).In-loop-i, short-in (goal.at.overflow_add-i c).In-loop-i, c.loop-i-test.true)
 
 pub loop-i-preserved : goal.loop-i-preserved
 loop-i-preserved c =
-    let w = c.before.before.before.before.before in
-    let s = w.before.before.before.before in
-    (omega arith, labels-more s.requires.0.apart.past (list-stays _ _ _ _ _ _ _ _ _ s.requires.0 s.requires.1 _ _ _ w.loop-i.invariant.1 w.loop-i-test.true) w.loop-i.invariant.1 refl c.label_cell-known.ensures)
+    (omega arith, labels-more c.requires.0.apart.past (list-stays _ _ _ _ _ _ _ _ _ c.requires.0 c.requires.1 _ _ _ c.loop-i.invariant.1 c.loop-i-test.true) c.loop-i.invariant.1 refl c.label_cell-known.ensures)
 
 pub shape_of-scratch : goal.shape_of-scratch
 shape_of-scratch c = c.loop-i.invariant.1.same
 
 pub returns : goal.returns
 returns c =
-    let s = c.before.before.before.before in
-    tried-all _ _ _ _ _ _ _ _ _ s.requires.0 s.requires.1 _ _ _ c.loop-i.invariant.1 (omega arith)
+    tried-all _ _ _ _ _ _ _ _ _ c.requires.0 c.requires.1 _ _ _ c.loop-i.invariant.1 (omega arith)

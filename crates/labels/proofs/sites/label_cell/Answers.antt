@@ -88,30 +88,26 @@ module _ (net : Net) (marks : List ℕ) (code set weight steps count : ℕ) (wor
   few-labels = omega (arith, ordered-count asks.ordered, few-cells net.problem marks asks.ready.ready)
 
 pub weight_word-requires : goal.weight_word-requires
-weight_word-requires c = let s = c.before.before.before in (s.requires.0.set_in, s.requires.1)
+weight_word-requires c = (c.requires.0.set_in, c.requires.1)
 
 pub returns-then-weight_word-gt0 : goal.returns-then-weight_word-gt0
 returns-then-weight_word-gt0 c =
-    let s = c.before.before.before.before.before in
-    labelled _ _ _ _ _ _ _ _ _ s.requires.0 s.requires.1 (omega (arith, c.weight_word.ensures, c.if-weight_word-gt0.true))
+    labelled _ _ _ _ _ _ _ _ _ c.requires.0 c.requires.1 (omega (arith, c.weight_word.ensures, c.if-weight_word-gt0.true))
 
 pub fresh_in-requires : goal.fresh_in-requires
 fresh_in-requires c =
-    let s = c.before.before.before.before.before.before.before in
-    (rw c.gate.ensures (net-gate-in _ _ s.requires.0.ready s.args.code), omega (arith, s.requires.1, s.requires.0.room))
+    (rw c.gate.ensures (net-gate-in _ _ c.requires.0.ready c.args.code), omega (arith, c.requires.1, c.requires.0.room))
 
 pub returns-then-not-fresh_in : goal.returns-then-not-fresh_in
 returns-then-not-fresh_in c =
-    let s = c.before.before.before.before.before.before.before.before.before in
-    not-fresh _ _ _ _ _ _ _ _ _ s.requires.0 s.requires.1 _ (rw c.gate.ensures at c.before.Fresh-in.ensures) c.if-not-fresh_in.true-raw
+    not-fresh _ _ _ _ _ _ _ _ _ c.requires.0 c.requires.1 _ (rw c.gate.ensures at c.before.Fresh-in.ensures) c.if-not-fresh_in.true-raw
 
 pub may_register-requires : goal.may_register-requires
-may_register-requires c = let s = c.before.before.before.before.before.before.before.before.before in (s.requires.0.ready.ready, s.requires.1)
+may_register-requires c = (c.requires.0.ready.ready, c.requires.1)
 
 pub returns-then-not-may_register : goal.returns-then-not-may_register
 returns-then-not-may_register c =
-    let s = c.before.before.before.before.before.before.before.before.before.before.before in
-    no-site _ _ _ _ _ _ _ _ _ s.requires.0 s.requires.1 _ c.may_register.ensures c.if-not-may_register.true-raw
+    no-site _ _ _ _ _ _ _ _ _ c.requires.0 c.requires.1 _ c.may_register.ensures c.if-not-may_register.true-raw
 
 -- the cell has no label
 unlabelled-word : (e : Else-weight_word-gt0) → weight_word (length e.args.plan.now) e.args.set e.args.scratch.now e.args.cell ≡ 0
@@ -119,18 +115,12 @@ unlabelled-word e = omega (arith, e.weight_word.ensures, e.if-weight_word-gt0.fa
 
 pub label-requires : goal.label-requires
 label-requires c =
-    let e = c.before.before.before.before.before.before.before in
-    let s = e.before.before.before.before.before in
-    may-label _ _ _ _ _ _ _ _ _ s.requires.0 s.requires.1 (unlabelled-word e)
+    may-label _ _ _ _ _ _ _ _ _ c.requires.0 c.requires.1 (unlabelled-word (goal.at.label-requires c).Else-weight_word-gt0)
 
 pub overflow_add-result : goal.overflow_add-result
 overflow_add-result c =
-    let s = c.before.before.before.before.before.before.before.before.before.before.before.before.before.before.before in
-    omega (arith, few-labels _ _ _ _ _ _ _ _ _ s.requires.0 s.requires.1)
+    omega (arith, few-labels _ _ _ _ _ _ _ _ _ c.requires.0 c.requires.1)
 
 pub returns : goal.returns
 returns c =
-    let q = c.before.before.before.before.before in
-    let e = c.before.before.before.before.before.before.before.before.before.before in
-    let s = e.before.before.before.before.before in
-    one_more _ _ _ _ _ _ _ _ _ s.requires.0 s.requires.1 (unlabelled-word e) _ _ (rw c.gate.ensures at c.before.before.before.before.before.before.before.Fresh-in.ensures) c.if-not-fresh_in.false-raw q.may_register.ensures c.if-not-may_register.false-raw _ c.label.ensures
+    one_more _ _ _ _ _ _ _ _ _ c.requires.0 c.requires.1 (unlabelled-word (goal.at.returns c).Else-weight_word-gt0) _ _ (rw c.gate.ensures at c.before.before.before.before.before.before.before.Fresh-in.ensures) c.if-not-fresh_in.false-raw c.may_register.ensures c.if-not-may_register.false-raw _ c.label.ensures

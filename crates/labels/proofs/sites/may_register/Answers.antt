@@ -27,12 +27,11 @@ module _ (p : Problem) (marks : List ℕ) (ready : Ready p marks) (cell : ℕ) w
       simp (ne_eqb cell p.source f, ne_eqb cell p.sink g, site-register (plan_for p marks) p.elements cell ready.valid.count)
 
 pub returns-then-cell-p : goal.returns-then-cell-p
-returns-then-cell-p c = let s = c.before.before.before in sym (refused s.args.p _ s.requires.0 s.args.cell (λ r. r.not_source c.if-cell-p.true))
+returns-then-cell-p c = sym (refused c.args.p _ c.requires.0 c.args.cell (λ r. r.not_source c.if-cell-p.true))
 
 pub returns-then-cell-p-2 : goal.returns-then-cell-p-2
-returns-then-cell-p-2 c = let s = c.before.before.before.before.before in sym (refused s.args.p _ s.requires.0 s.args.cell (λ r. r.not_sink c.if-cell-p-2.true))
+returns-then-cell-p-2 c = sym (refused c.args.p _ c.requires.0 c.args.cell (λ r. r.not_sink c.if-cell-p-2.true))
 
 pub returns : goal.returns
 returns c =
-    let s = c.before.before.before.before.before.before.before in
-    c.takes_register.ensures ∙ sym (between_ends s.args.p _ s.requires.0 s.args.cell c.if-cell-p.false c.if-cell-p-2.false)
+    c.takes_register.ensures ∙ sym (between_ends c.args.p _ c.requires.0 c.args.cell c.if-cell-p.false c.if-cell-p-2.false)

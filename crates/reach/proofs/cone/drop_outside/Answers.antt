@@ -59,11 +59,8 @@ module _ (n active : ℕ) (P : ℕ → Bool) (old : List ℕ) (a : Listed n old 
 
 pub list_inside-count-requires : goal.list_inside-count-requires
 list_inside-count-requires c =
-    let s = c.before.before.before.before.before.before.before.before.before in
-    asks _ _ _ _ _ s.requires c.clear_flags.ensures
+    asks _ _ _ _ _ c.requires c.clear_flags.ensures
 
 pub returns : goal.returns
 returns c =
-    let inside = c.before.before.before.before.before.before in
-    let s = inside.before.before.before.before.before.before.before.before.before.before in
-    dropped _ _ _ _ s.requires.listed _ inside.clear_flags.ensures _ _ inside.list_inside-count.ensures _ c.take_list.ensures
+    dropped _ _ _ _ c.requires.listed _ c.clear_flags.ensures _ _ c.list_inside-count.ensures _ c.take_list.ensures

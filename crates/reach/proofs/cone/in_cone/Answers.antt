@@ -30,5 +30,4 @@ returns-then-most-u-2 c =
 pub returns : goal.returns
 unfolding in_cone apart_by
 returns c =
-    let s = c.before.before.before.before in
-    leb-moved _ _ _ _ c.if-most-u.false c.if-most-u-2.false ∙ ap (λ (x : ℕ). leb (x + s.args.u) s.args.most) (omega (arith, c.difference-rows.ensures, c.difference-columns.ensures))
+    leb-moved _ _ _ _ c.if-most-u.false c.if-most-u-2.false ∙ ap (λ (x : ℕ). leb (x + c.args.u) c.args.most) (omega (arith, c.difference-rows.ensures, c.difference-columns.ensures))

@@ -67,33 +67,29 @@ module _ (n : ℕ) (P : ℕ → Bool) (old : List ℕ) where
         go j h t (inr e) = enlisted-stays p _ (cells j (omega arith)) (f.inside j (omega arith) t)
 
 -- the cell of the turn
-cell_same : (c : In-loop-i) → let s = c.before.before.before in get_or c.loop-i.scratch (s.args.n * active_at + c.loop-i.i) 0 ≡ get_or s.args.scratch.now (s.args.n * active_at + c.loop-i.i) 0
+cell_same : (c : In-loop-i) → get_or c.loop-i.scratch (c.args.n * active_at + c.loop-i.i) 0 ≡ get_or c.args.scratch.now (c.args.n * active_at + c.loop-i.i) 0
 cell_same c = c.loop-i.invariant.1.low _ (omega arith)
 
-cell_below : (c : In-loop-i) → let s = c.before.before.before in get_or c.loop-i.scratch (s.args.n * active_at + c.loop-i.i) 0 < s.args.n
+cell_below : (c : In-loop-i) → get_or c.loop-i.scratch (c.args.n * active_at + c.loop-i.i) 0 < c.args.n
 cell_below c = omega (arith, cell_same c, c.requires.cells c.loop-i.i (omega arith))
 
 pub loop-i-init : goal.loop-i-init
 loop-i-init c = (omega arith, none_yet _ _ _ c.requires)
 
 pub overflow_cast-cell : goal.overflow_cast-cell
-overflow_cast-cell c = omega (arith, cell_below c.before)
+overflow_cast-cell c = omega (arith, cell_below (goal.at.overflow_cast-cell c).In-loop-i)
 
 pub enlist-count-requires : goal.enlist-count-requires
 enlist-count-requires c =
-    let w = c.before.before.before.before in
-    (w.loop-i.invariant.1.listed, (cell_below w, (omega arith, (omega arith, omega arith))))
+    (c.loop-i.invariant.1.listed, (cell_below (goal.at.enlist-count-requires c).In-loop-i, (omega arith, (omega arith, omega arith))))
 
 pub loop-i-preserved : goal.loop-i-preserved
 loop-i-preserved c =
-    let w = c.before.before.before in
-    let a = w.before in
-    let s = a.before.before in
-    let f = a.loop-i.invariant.1 in (
+    let f = c.loop-i.invariant.1 in (
       omega arith,
       ⊎_elim
-          (λ x. rw (x.5, x.6) (now-inside _ _ _ _ _ _ f _ _ _ (cell_same w) (λ j h. s.requires.cells j (omega arith)) x.2.ensures))
-          (λ x. rw (x.1, x.2) (not-inside _ _ _ _ _ _ f (λ t. unknown-not (sym c.in_cone.ensures ∙ x.0.left) (rw (cell_same w) t))))
+          (λ x. rw (x.5, x.6) (now-inside _ _ _ _ _ _ f _ _ _ (cell_same (goal.at.loop-i-preserved c).In-loop-i) (λ j h. c.requires.cells j (omega arith)) x.2.ensures))
+          (λ x. rw (x.1, x.2) (not-inside _ _ _ _ _ _ f (λ t. unknown-not (sym c.in_cone.ensures ∙ x.0.left) (rw (cell_same (goal.at.loop-i-preserved c).In-loop-i) t))))
           c.if-in_cone.branch,
     )
 

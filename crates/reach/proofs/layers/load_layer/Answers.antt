@@ -10,18 +10,15 @@ held_by-requires c = c.requires.held.wide
 
 pub rewind-trail-requires : goal.rewind-trail-requires
 rewind-trail-requires c =
-    let s = c.before.before.before.before.before in
-    record { sound = s.requires.held.past.sound; few = few-cells _ _ s.requires.ready.ready; room = s.requires.room }
+    record { sound = c.requires.held.past.sound; few = few-cells _ _ c.requires.ready.ready; room = c.requires.room }
 
 pub shape_of-scratch-then-held_by : goal.shape_of-scratch-then-held_by
 shape_of-scratch-then-held_by c = c.rewind-trail.ensures.same
 
 pub returns-then-held_by : goal.returns-then-held_by
 returns-then-held_by c =
-    let t = c.before.before.before.before in
-    let s = t.before.before.before.before in
-    let held = held-parts s.args.layers s.args.side s.args.cell s.args.weight s.args.steps (of-true _ (sym t.held_by.ensures ∙ t.if-held_by.true)) in
-    back-loaded _ _ _ _ _ _ _ _ s.requires.held held.low held.high _ _ c.rewind-trail.ensures held.own _ _ held.span held.near
+    let held = held-parts c.args.layers c.args.side c.args.cell c.args.weight c.args.steps (of-true _ (sym c.held_by.ensures ∙ c.if-held_by.true)) in
+    back-loaded _ _ _ _ _ _ _ _ c.requires.held held.low held.high _ _ c.rewind-trail.ensures held.own _ _ held.span held.near
 
 pub run_span-requires : goal.run_span-requires
 run_span-requires c = c.requires

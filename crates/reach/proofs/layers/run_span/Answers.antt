@@ -14,34 +14,33 @@ use Rattle.reach.specs.Reach.{Running, Trailing}
 use Rattle.labels.proofs.Ready.{rules-apart, ready-lawful, ready-cells, ready-top}
 use Rattle.reach.proofs.Turns.{layer-turn, leap-forth, leap-turn, leap-tables, arrive-turn, drop-turn, both-in, both-ask}
 use Rattle.reach.proofs.Trailing.{trail-start, trail-layer, trail-leap, trail-arrive, trail-drop, trail-sound, span-loaded}
-use Rattle.reach.proofs.layers.run_span.Invariants.{Turning, --, start, cells, cone}
+use Rattle.reach.proofs.layers.run_span.Invariants.{Turning, --, cells, cone}
 use Rattle.reach.proofs.layers.run_span.Goals as goal
 use Rattle.reach.proofs.layers.run_span.Goals.{After-arrive_both-next, After-period, At-loop-u, Joined-active-eq0}
 
 abbrev R : At-loop-u → Rules
-R a = net_rules (start a).args.net (start a).args.plan.now
+R a = net_rules a.args.net a.args.plan.now
 
 narrows : (a : At-loop-u) → Shrinking (R a) (cone a)
-narrows a = cone-shrinks (R a) _ _ (rules-apart (start a).args.net (start a).args.plan.now (start a).args.cell)
+narrows a = cone-shrinks (R a) _ _ (rules-apart a.args.net a.args.plan.now a.args.cell)
 
 few : (a : At-loop-u) → cells a ≤ 1024
-few a = few-cells _ _ (start a).requires.ready.ready
+few a = few-cells _ _ a.requires.ready.ready
 
 -- what a closing delay stays below
-top-is : (a : At-loop-u) → 2 * a.period.result + 1 ≡ (R a).bound 0 (start a).args.side
+top-is : (a : At-loop-u) → 2 * a.period.result + 1 ≡ (R a).bound 0 a.args.side
 top-is a =
-    omega (arith, a.period.ensures, net-bound (start a).args.net (start a).args.plan.now 0 (start a).args.side)
+    omega (arith, a.period.ensures, net-bound a.args.net a.args.plan.now 0 a.args.side)
 
 -- at the loop's head
-head : (a : At-loop-u) → let s = (start a).args in Turning s.net s.plan.now s.side s.count s.exits s.cell s.weight s.steps s.scratch-1.now a.loop-u.scratch a.loop-u.u a.loop-u.active a.loop-u.at a.loop-u.exit a.loop-u.trail
-head a = a.loop-u.invariant.1 (start a).args.scratch.now a.start_span-span.ensures
+head : (a : At-loop-u) → let s = a.args in Turning s.net s.plan.now s.side s.count s.exits s.cell s.weight s.steps s.scratch-1.now a.loop-u.scratch a.loop-u.u a.loop-u.active a.loop-u.at a.loop-u.exit a.loop-u.trail
+head a = a.loop-u.invariant.1 a.args.scratch.now a.start_span-span.ensures
 
 -- u has grown
-forth : (j : Joined-active-eq0) → (j.loop-u.u < j.if-active-eq0.u) × (j.if-active-eq0.u ≤ (start j.before.before).args.steps)
+forth : (j : Joined-active-eq0) → (j.loop-u.u < j.if-active-eq0.u) × (j.if-active-eq0.u ≤ j.args.steps)
 forth j =
-    let a = j.before.before in
     ⊎_elim
-    (λ w. omega (arith, w.4, w.2.ensures.within, leap-forth (R a) _ _ _ _ _ _ _ _ _ _ _ _ (head a).0 (ready-lawful _ _ (start a).requires.ready) (ready-cells _ _ (start a).requires.ready) (narrows a) w.0.taken (start a).args.steps _ (omega (arith, j.loop-u-test.true)) w.2.ensures))
+    (λ w. omega (arith, w.4, w.2.ensures.within, leap-forth (R (goal.at.Joined-active-eq0 j).At-loop-u) _ _ _ _ _ _ _ _ _ _ _ _ (head (goal.at.Joined-active-eq0 j).At-loop-u).0 (ready-lawful _ _ j.requires.ready) (ready-cells _ _ j.requires.ready) (narrows (goal.at.Joined-active-eq0 j).At-loop-u) w.0.taken j.args.steps _ (omega (arith, j.loop-u-test.true)) w.2.ensures))
     (λ w. omega (arith, w.8))
     j.if-active-eq0.branch
 
@@ -68,8 +67,7 @@ middle j old g =
 -- the period is at most 30,000
 small : (c : After-period) → 2 * c.period.result + 1 ≤ 60001
 small c =
-    let s = c.before.before.before.before in
-    omega (arith, c.period.ensures, ready-top s.args.net s.args.plan.now s.requires.ready s.args.side)
+    omega (arith, c.period.ensures, ready-top c.args.net c.args.plan.now c.requires.ready c.args.side)
 
 pub overflow_mul-top : goal.overflow_mul-top
 overflow_mul-top c = omega (arith, small c)
@@ -92,8 +90,7 @@ start_span-span-requires c =
 
 pub new_trail-trail-requires : goal.new_trail-trail-requires
 new_trail-trail-requires c =
-    let s = c.before.before.before.before.before.before.before.before in
-    (omega (arith, s.requires.ready.ready.source), few-cells _ _ s.requires.ready.ready)
+    (omega (arith, c.requires.ready.ready.source), few-cells _ _ c.requires.ready.ready)
 
 pub loop-u-init : goal.loop-u-init
 loop-u-init c =
@@ -101,26 +98,22 @@ loop-u-init c =
 
 pub next_both-u-requires : goal.next_both-u-requires
 next_both-u-requires c =
-    let a = c.before.before.before in
-    let f = (head a).0.reaching in
-    both-in (R a) _ _ _ _ _ _ _ _ _ _ _ _ f (few a) (omega (arith, f.same, (start a).requires.room)) (λ h. omega (arith, f.same, (start a).requires.exits_in h))
+    let f = (head (goal.at.next_both-u-requires c).At-loop-u).0.reaching in
+    both-in (R (goal.at.next_both-u-requires c).At-loop-u) _ _ _ _ _ _ _ _ _ _ _ _ f (few (goal.at.next_both-u-requires c).At-loop-u) (omega (arith, f.same, c.requires.room)) (λ h. omega (arith, f.same, c.requires.exits_in h))
 
 pub next_layer-grown-requires : goal.next_layer-grown-requires
 next_layer-grown-requires c =
-    let a = c.before.before.before.before in
-    let f = (head a).0.reaching in
-    ((start a).requires.ready, (omega (arith, f.same, (start a).requires.room), (f.list.listed, (rw c.stamped.ensures (trail-sound (R a) _ _ _ _ _ _ _ _ _ (head a).1), (coloured-unlinked (problem-colouring (start a).args.net (start a).args.plan.now) f.coloured, (start a).requires.costed)))))
+    let f = (head (goal.at.next_layer-grown-requires c).At-loop-u).0.reaching in
+    (c.requires.ready, (omega (arith, f.same, c.requires.room), (f.list.listed, (rw c.stamped.ensures (trail-sound (R (goal.at.next_layer-grown-requires c).At-loop-u) _ _ _ _ _ _ _ _ _ (head (goal.at.next_layer-grown-requires c).At-loop-u).1), (coloured-unlinked (problem-colouring c.args.net c.args.plan.now) f.coloured, c.requires.costed)))))
 
 pub overflow_add-u-else-active-eq0 : goal.overflow_add-u-else-active-eq0
 overflow_add-u-else-active-eq0 c =
-    let i = c.before.before.before.before.before.before.before in
-    omega (arith, i.loop-u-test.true, (start i.before).fits.steps)
+    omega (arith, c.loop-u-test.true, c.before.before.before.before.before.before.before.before.fits.steps)
 
 pub arrive_both-next-requires : goal.arrive_both-next-requires
 arrive_both-next-requires c =
-    let a = c.before.before.before.before in
-    let f = (middle c.before.before (start a).args.scratch.now (head a)).0 in
-    both-ask (R a) _ _ _ _ _ _ _ _ _ _ _ _ f (few a) (omega (arith, f.same, (start a).requires.room)) (λ h. omega (arith, f.same, (start a).requires.exits_in h))
+    let f = (middle c.before.before c.args.scratch.now (head (goal.at.arrive_both-next-requires c).At-loop-u)).0 in
+    both-ask (R (goal.at.arrive_both-next-requires c).At-loop-u) _ _ _ _ _ _ _ _ _ _ _ _ f (few (goal.at.arrive_both-next-requires c).At-loop-u) (omega (arith, f.same, c.requires.room)) (λ h. omega (arith, f.same, c.requires.exits_in h))
 
 -- after them
 later : (b : After-arrive_both-next) (old : List ℕ) → let a = b.before.before.before.before.before in let s = (start a).args in Turning s.net s.plan.now s.side s.count s.exits s.cell s.weight s.steps old a.loop-u.scratch a.loop-u.u a.loop-u.active a.loop-u.at a.loop-u.exit a.loop-u.trail → Turning s.net s.plan.now s.side s.count s.exits s.cell s.weight s.steps old b.arrive_both-next.new.0 b.if-active-eq0.u b.arrive_both-next.result.active b.arrive_both-next.result.at b.arrive_both-next.result.exit b.if-active-eq0.trail
@@ -133,40 +126,33 @@ later b old g =
 pub drop_outside-active-requires : goal.drop_outside-active-requires
 unfolding plan_for
 drop_outside-active-requires c =
-    let b = c.before.before.before in
-    let a = b.before.before.before.before.before in
-    let ready = (start a).requires.ready.ready in
-    let f = (later b (start a).args.scratch.now (head a)).0.reaching in
+    let ready = c.requires.ready.ready in
+    let f = (later c.before.before.before c.args.scratch.now (head (goal.at.drop_outside-active-requires c).At-loop-u)).0.reaching in
     record {
       listed = f.list.listed;
       wide = ready.sized.wide;
       narrow = ready.sized.narrow;
       low = ready.sized.low;
-      few = few a;
-      room = omega (arith, f.same, (start a).requires.room);
+      few = few (goal.at.drop_outside-active-requires c).At-loop-u;
+      room = omega (arith, f.same, c.requires.room);
     }
 
 pub loop-u-smaller : goal.loop-u-smaller
-loop-u-smaller c = omega (arith, forth c.before.before.before.before.before.before.before.before.before)
+loop-u-smaller c = omega (arith, forth (goal.at.loop-u-smaller c).Joined-active-eq0)
 
 pub loop-u-preserved : goal.loop-u-preserved
 loop-u-preserved c =
-    let b = c.before.before.before.before.before.before in
-    let j = b.before.before.before in
-    let a = j.before.before in
     let dropped = c.drop_outside-active.ensures in (
-      omega (arith, forth j),
+      omega (arith, forth (goal.at.loop-u-preserved c).Joined-active-eq0),
       λ old f.
-          let m = later b old (a.loop-u.invariant.1 old f) in
-          (drop-turn (R a) _ _ _ _ _ _ _ _ _ _ _ _ m.0 _ _ dropped, trail-drop (R a) _ _ _ _ _ _ _ _ _ m.1 _ dropped),
+          let m = later c.before.before.before.before.before.before old (c.loop-u.invariant.1 old f) in
+          (drop-turn (R (goal.at.loop-u-preserved c).At-loop-u) _ _ _ _ _ _ _ _ _ _ _ _ m.0 _ _ dropped, trail-drop (R (goal.at.loop-u-preserved c).At-loop-u) _ _ _ _ _ _ _ _ _ m.1 _ dropped),
     )
 
 pub shape_of-scratch : goal.shape_of-scratch
-shape_of-scratch c = (head c.before).0.reaching.same
+shape_of-scratch c = (head (goal.at.shape_of-scratch c).At-loop-u).0.reaching.same
 
 pub returns : goal.returns
 unfolding plan_for
 returns c =
-    let a = c.before in
-    let s = start a in
-    span-loaded (R a) _ _ _ _ _ s.args.net.problem.width s.args.cell s.requires.ready.ready.sized.wide (rules-apart s.args.net s.args.plan.now s.args.cell) _ _ _ _ _ _ _ _ (head a).0 (head a).1 (omega arith)
+    span-loaded (R (goal.at.returns c).At-loop-u) _ _ _ _ _ c.args.net.problem.width c.args.cell c.requires.ready.ready.sized.wide (rules-apart c.args.net c.args.plan.now c.args.cell) _ _ _ _ _ _ _ _ (head (goal.at.returns c).At-loop-u).0 (head (goal.at.returns c).At-loop-u).1 (omega arith)

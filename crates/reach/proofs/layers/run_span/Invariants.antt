@@ -24,14 +24,11 @@ Turning net marks f count exits cell weight steps old words u active at exit tra
 
 -- the entry, the net's rules and cells
 
-abbrev pub start : At-loop-u → Start
-start a = a.before.before.before.before.before.before.before.before.before.before
-
 abbrev pub cells : At-loop-u → ℕ
-cells a = length (start a).args.plan.now
+cells a = length a.args.plan.now
 
 abbrev pub cone : At-loop-u → ℕ → ℕ → Bool
-cone a = inside (start a).args.net (start a).args.cell (start a).args.steps
+cone a = inside a.args.net a.args.cell a.args.steps
 
 abbrev pub invariant-loop-u : goal.invariant-loop-u
 invariant-loop-u l =

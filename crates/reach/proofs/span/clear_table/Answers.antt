@@ -19,20 +19,17 @@ by-words n rows old new f e =
 
 pub rewind-requires : goal.rewind-requires
 rewind-requires c =
-    let s = c.before.before.before.before.before in
-    record { sound = s.requires.0.sound; few = s.requires.1.0; room = s.requires.1.1 }
+    record { sound = c.requires.0.sound; few = c.requires.1.0; room = c.requires.1.1 }
 
 pub shape_of-scratch-then-trail-eq0 : goal.shape_of-scratch-then-trail-eq0
 shape_of-scratch-then-trail-eq0 c = c.rewind.ensures.same
 
 pub returns-then-trail-eq0 : goal.returns-then-trail-eq0
 returns-then-trail-eq0 c =
-    let t = c.before.before.before.before in
-    let s = t.before.before.before.before in
     let back = c.rewind.ensures in
     record {
       same = back.same;
-      rows = back-empty _ _ s.args.layers s.requires.0 t.if-trail-eq0.true _ _ back;
+      rows = back-empty _ _ c.args.layers c.requires.0 c.if-trail-eq0.true _ _ back;
       rest = back.kept;
     }
 

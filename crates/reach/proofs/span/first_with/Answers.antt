@@ -6,7 +6,7 @@ use Rattle.labels.specs.Labels.{weight_word, order_of, LabelBy, Ordered}
 use Rattle.labels.proofs.Labels.{known-word, ordered-count}
 use Rattle.reach.specs.Reach.{weight_at, steps_at}
 use Rattle.reach.proofs.span.first_with.Goals as goal
-use Rattle.reach.proofs.span.first_with.Goals.{In-loop-low, Start}
+use Rattle.reach.proofs.span.first_with.Goals.{In-loop-low}
 
 -- the order ascends by weight
 heavier : {n set : ℕ} {words : List ℕ} {count : ℕ} → Ordered n set words count → (i j : ℕ) → i ≤ j → j < count → weight_at n set words i ≤ weight_at n set words j
@@ -18,23 +18,20 @@ heavier {n} {set} {words} o i j h k = go (o.ascending i j h k)
 
 -- the entry; the place in the middle, its cell and its label's word
 
-abbrev start : In-loop-low → Start
-start c = c.before.before.before
-
 abbrev mid : In-loop-low → ℕ
 mid c = (c.loop-low.low + c.loop-low.high) / 2
 
-middle : (c : In-loop-low) → mid c < (start c).args.count
+middle : (c : In-loop-low) → mid c < c.args.count
 middle c = omega (arith, c.loop-low.invariant.ordered, c.loop-low.invariant.within, c.loop-low-test.true)
 
-small : (c : In-loop-low) → (start c).args.count ≤ (start c).args.n
-small c = ordered-count (start c).requires.0
+small : (c : In-loop-low) → c.args.count ≤ c.args.n
+small c = ordered-count c.requires.0
 
-cell_in : (c : In-loop-low) → let s = start c in order_of s.args.n s.args.set s.args.scratch.now (mid c) < s.args.n
-cell_in c = (start c).requires.0.cells (mid c) (middle c)
+cell_in : (c : In-loop-low) → order_of c.args.n c.args.set c.args.scratch.now (mid c) < c.args.n
+cell_in c = c.requires.0.cells (mid c) (middle c)
 
-word_some : (c : In-loop-low) → let s = start c in 0 < weight_word s.args.n s.args.set s.args.scratch.now (order_of s.args.n s.args.set s.args.scratch.now (mid c))
-word_some c = known-word _ _ _ _ ((start c).requires.0.known (mid c) (middle c))
+word_some : (c : In-loop-low) → 0 < weight_word c.args.n c.args.set c.args.scratch.now (order_of c.args.n c.args.set c.args.scratch.now (mid c))
+word_some c = known-word _ _ _ _ (c.requires.0.known (mid c) (middle c))
 
 pub loop-low-init : goal.loop-low-init
 loop-low-init c =
@@ -46,57 +43,55 @@ loop-low-init c =
     }
 
 pub overflow_add-mid : goal.overflow_add-mid
-overflow_add-mid c = omega (arith, c.loop-low.invariant.ordered, c.loop-low.invariant.within, small c, (start c).requires.1.small)
+overflow_add-mid c = omega (arith, c.loop-low.invariant.ordered, c.loop-low.invariant.within, small c, c.requires.1.small)
 
 pub overflow_mul-cell : goal.overflow_mul-cell
-overflow_mul-cell c = omega (arith, (start c).requires.1.small)
+overflow_mul-cell c = omega (arith, c.requires.1.small)
 
 pub overflow_add-cell : goal.overflow_add-cell
-overflow_add-cell c = omega (arith, (start c).requires.1.small, (start c).requires.1.low)
+overflow_add-cell c = omega (arith, c.requires.1.small, c.requires.1.low)
 
 pub overflow_add-cell-in-loop-low : goal.overflow_add-cell-in-loop-low
-overflow_add-cell-in-loop-low c = omega (arith, middle c, small c, (start c).requires.1.small, (start c).requires.1.low)
+overflow_add-cell-in-loop-low c = omega (arith, middle c, small c, c.requires.1.small, c.requires.1.low)
 
 pub offset_bounds-scratch-set : goal.offset_bounds-scratch-set
-offset_bounds-scratch-set c = omega (arith, middle c, small c, (start c).requires.1.small, (start c).requires.1.low)
+offset_bounds-scratch-set c = omega (arith, middle c, small c, c.requires.1.small, c.requires.1.low)
 
 pub bounds-scratch-set : goal.bounds-scratch-set
-bounds-scratch-set c = omega (arith, middle c.before, small c.before, (start c.before).requires.1.room)
+bounds-scratch-set c = omega (arith, middle (goal.at.bounds-scratch-set c).In-loop-low, small (goal.at.bounds-scratch-set c).In-loop-low, c.requires.1.room)
 
 pub overflow_cast-cell : goal.overflow_cast-cell
-overflow_cast-cell c = omega (arith, cell_in c.before, (start c.before).requires.1.small)
+overflow_cast-cell c = omega (arith, cell_in (goal.at.overflow_cast-cell c).In-loop-low, c.requires.1.small)
 
 pub weight_word-requires : goal.weight_word-requires
-weight_word-requires c = ((start c.before).requires.1, cell_in c.before)
+weight_word-requires c = (c.requires.1, cell_in (goal.at.weight_word-requires c).In-loop-low)
 
 pub loop-low-smaller-then-weight-weight_word : goal.loop-low-smaller-then-weight-weight_word
 loop-low-smaller-then-weight-weight_word c = omega (arith, c.loop-low-test.true)
 
 pub loop-low-preserved-then-weight-weight_word : goal.loop-low-preserved-then-weight-weight_word
 loop-low-preserved-then-weight-weight_word c =
-    let w = c.before.before.before in
-    let inv = w.loop-low.invariant in
+    let inv = c.loop-low.invariant in
     record {
-      ordered = omega (arith, w.loop-low-test.true);
-      within = omega (arith, middle w);
+      ordered = omega (arith, c.loop-low-test.true);
+      within = omega (arith, middle (goal.at.loop-low-preserved-then-weight-weight_word c).In-loop-low);
       lighter = inv.lighter;
-      enough = λ i lo hi. omega (arith, c.if-weight-weight_word.true, c.weight_word.ensures, heavier (start w).requires.0 _ i lo hi);
+      enough = λ i lo hi. omega (arith, c.if-weight-weight_word.true, c.weight_word.ensures, heavier c.requires.0 _ i lo hi);
     }
 
 pub overflow_add-low : goal.overflow_add-low
-overflow_add-low c = omega (arith, middle c.before.before.before, small c.before.before.before, (start c.before.before.before).requires.1.small)
+overflow_add-low c = omega (arith, middle (goal.at.overflow_add-low c).In-loop-low, small (goal.at.overflow_add-low c).In-loop-low, c.requires.1.small)
 
 pub loop-low-smaller : goal.loop-low-smaller
 loop-low-smaller c = omega (arith, c.loop-low-test.true)
 
 pub loop-low-preserved : goal.loop-low-preserved
 loop-low-preserved c =
-    let w = c.before.before.before in
-    let inv = w.loop-low.invariant in
+    let inv = c.loop-low.invariant in
     record {
-      ordered = omega (arith, w.loop-low-test.true);
+      ordered = omega (arith, c.loop-low-test.true);
       within = inv.within;
-      lighter = λ i h. omega (arith, c.if-weight-weight_word.false, c.weight_word.ensures, word_some w, heavier (start w).requires.0 i _ (omega arith) (middle w));
+      lighter = λ i h. omega (arith, c.if-weight-weight_word.false, c.weight_word.ensures, word_some (goal.at.loop-low-preserved c).In-loop-low, heavier c.requires.0 i _ (omega arith) (middle (goal.at.loop-low-preserved c).In-loop-low));
       enough = inv.enough;
     }
 

@@ -18,14 +18,11 @@ loop-low-init c =
 
 pub exists_with-requires : goal.exists_with-requires
 exists_with-requires c =
-    let loop = c.before.before.before in
-    let s = loop.before.before.before.before in
-    (s.requires.0, (omega (arith, loop.loop-low.invariant.1.1.0, s.requires.1.0), rw c.at_period.ensures (period-valid _ _ s.requires.0.valid (omega arith) (omega arith))))
+    (c.requires.0, (omega (arith, c.loop-low.invariant.1.1.0, c.requires.1.0), rw c.at_period.ensures (period-valid _ _ c.requires.0.valid (omega arith) (omega arith))))
 
 -- what the search at the middle told, and what it left
-at-middle : (c : After-exists_with) → let loop = c.before.before.before.before in let s = loop.before.before.before.before in
-    (c.exists_with.result ≡ routed_for s.args.p s.args.plan.now (loop.loop-low.low + (loop.loop-low.high - loop.loop-low.low) / 2))
-    × ((length c.exists_with.new.1.0 ≡ length s.args.scratch.now) × KeptFrom (length s.args.plan.now * cell_words) s.args.scratch.now c.exists_with.new.1.0)
+at-middle : (c : After-exists_with) → (c.exists_with.result ≡ routed_for c.args.p c.args.plan.now (c.loop-low.low + (c.loop-low.high - c.loop-low.low) / 2))
+    × ((length c.exists_with.new.1.0 ≡ length c.args.scratch.now) × KeptFrom (length c.args.plan.now * cell_words) c.args.scratch.now c.exists_with.new.1.0)
 unfolding routed_for routed_at
 at-middle c =
     let inv = c.loop-low.invariant in
@@ -35,13 +32,13 @@ at-middle c =
 pub loop-low-preserved-then-exists_with : goal.loop-low-preserved-then-exists_with
 loop-low-preserved-then-exists_with c =
     let inv = c.loop-low.invariant in
-    let middle = at-middle c.before.before.before in
+    let middle = at-middle (goal.at.loop-low-preserved-then-exists_with c).After-exists_with in
     (omega arith, ((inv.1.0.0, sym middle.0 ∙ c.if-exists_with.true), middle.1))
 
 pub loop-low-preserved : goal.loop-low-preserved
 loop-low-preserved c =
     let inv = c.loop-low.invariant in
-    let middle = at-middle c.before.before.before in
+    let middle = at-middle (goal.at.loop-low-preserved c).After-exists_with in
     (omega arith, ((sym middle.0 ∙ c.if-exists_with.false, inv.1.0.1), middle.1))
 
 pub shape_of-scratch : goal.shape_of-scratch
@@ -50,11 +47,9 @@ shape_of-scratch c = c.loop-low.invariant.1.1.0
 pub returns : goal.returns
 unfolding routed_for smallest_for
 returns c =
-    let loop = c.before in
-    let s = loop.before.before.before.before in
-    let inv = loop.loop-low.invariant in
+    let inv = c.loop-low.invariant in
     record {
-      told = smallest-is _ _ _ _ s.requires.0.valid loop.loop-low.low loop.loop-low.high inv.0.0 (omega arith) inv.0.1.1 inv.1.0.0 inv.1.0.1;
+      told = smallest-is _ _ _ _ c.requires.0.valid c.loop-low.low c.loop-low.high inv.0.0 (omega arith) inv.0.1.1 inv.1.0.0 inv.1.0.1;
       same = inv.1.1.0;
       rest = inv.1.1.1;
     }

@@ -9,9 +9,7 @@ costs_of-costs-requires c = let valid = c.requires.1.1 in (valid, valid.register
 
 pub least_ready-least-requires : goal.least_ready-least-requires
 least_ready-least-requires c =
-    let costs = c.before.before in
-    let s = costs.before.before.before in
-    (ready_with _ _ _ s.requires.0 s.requires.1.1, (s.requires.1.0, costs.costs_of-costs.ensures))
+    (ready_with _ _ _ c.requires.0 c.requires.1.1, (c.requires.1.0, c.costs_of-costs.ensures))
 
 pub shape_of-scratch-in-Of : goal.shape_of-scratch-in-Of
 shape_of-scratch-in-Of c = c.least_ready-least.ensures.same

@@ -9,43 +9,33 @@ first_period-first-requires c = c.requires
 
 pub searched-requires : goal.searched-requires
 searched-requires c =
-    let pass = c.before.before.before.before.before in
-    let s = pass.before.before.before.before.before in
-    (s.requires.0, omega (arith, s.requires.1, pass.first_period-first.ensures.same))
+    (c.requires.0, omega (arith, c.requires.1, c.first_period-first.ensures.same))
 
 pub shape_of-scratch-in-Unknown : goal.shape_of-scratch-in-Unknown
 shape_of-scratch-in-Unknown c =
-    let later = c.before.before in
-    later.searched.ensures.same ∙ later.first_period-first.ensures.same
+    c.searched.ensures.same ∙ c.first_period-first.ensures.same
 
 pub returns-in-Unknown : goal.returns-in-Unknown
 returns-in-Unknown c =
-    let later = c.before.before in
-    let was = later.first_period-first.ensures in
-    let done = later.searched.ensures in
+    let was = c.first_period-first.ensures in
+    let done = c.searched.ensures in
     record { told = done.told; same = done.same ∙ was.same; rest = λ k h. done.rest k h ∙ was.rest k h }
 
 pub why_never-requires : goal.why_never-requires
 why_never-requires c =
-    let pass = c.before.before.before.before.before in
-    let s = pass.before.before.before.before.before in
-    let done = pass.first_period-first.ensures in
-    (s.requires.0, (omega (arith, s.requires.1, done.same), none-smallest _ _ s.requires.0.valid (tells-never done.tells c.in-Never.is)))
+    let done = c.first_period-first.ensures in
+    (c.requires.0, (omega (arith, c.requires.1, done.same), none-smallest _ _ c.requires.0.valid (tells-never done.tells c.in-Never.is)))
 
 pub shape_of-scratch-in-Never : goal.shape_of-scratch-in-Never
 shape_of-scratch-in-Never c =
-    let why = c.before.before in
-    why.why_never.ensures.same ∙ why.first_period-first.ensures.same
+    c.why_never.ensures.same ∙ c.first_period-first.ensures.same
 
 pub returns-in-Never : goal.returns-in-Never
 returns-in-Never c =
-    let why = c.before.before in
-    let pass = why.before.before.before.before.before.before in
-    let s = pass.before.before.before.before.before in
-    let was = pass.first_period-first.ensures in
-    let done = why.why_never.ensures in
+    let was = c.first_period-first.ensures in
+    let done = c.why_never.ensures in
     record {
-      told = none-because _ _ s.requires.0.valid (tells-never was.tells why.in-Never.is) done.told;
+      told = none-because _ _ c.requires.0.valid (tells-never was.tells c.in-Never.is) done.told;
       same = done.same ∙ was.same;
       rest = λ k h. done.rest k h ∙ was.rest k h;
     }
@@ -55,17 +45,13 @@ shape_of-scratch-then-period-elements c = c.first_period-first.ensures.same
 
 pub returns-then-period-elements : goal.returns-then-period-elements
 returns-then-period-elements c =
-    let pass = c.before.before.before.before.before.before.before in
-    let s = pass.before.before.before.before.before in
-    let done = pass.first_period-first.ensures in
-    record { told = first-exists _ _ s.requires.0.valid (tells_at done.tells _ c.in-At.is) (omega arith); same = done.same; rest = done.rest }
+    let done = c.first_period-first.ensures in
+    record { told = first-exists _ _ c.requires.0.valid (tells_at done.tells _ c.in-At.is) (omega arith); same = done.same; rest = done.rest }
 
 pub shape_of-scratch-in-At : goal.shape_of-scratch-in-At
 shape_of-scratch-in-At c = c.first_period-first.ensures.same
 
 pub returns-in-At : goal.returns-in-At
 returns-in-At c =
-    let pass = c.before.before.before.before.before.before.before in
-    let s = pass.before.before.before.before.before in
-    let done = pass.first_period-first.ensures in
-    record { told = first-because _ _ s.requires.0.valid (tells_at done.tells _ c.in-At.is) (λ h. omega arith); same = done.same; rest = done.rest }
+    let done = c.first_period-first.ensures in
+    record { told = first-because _ _ c.requires.0.valid (tells_at done.tells _ c.in-At.is) (λ h. omega arith); same = done.same; rest = done.rest }

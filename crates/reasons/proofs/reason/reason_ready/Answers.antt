@@ -13,17 +13,15 @@ overflow_mul-n c = omega (arith, few-cells _ _ c.requires.0)
 
 pub clear-requires : goal.clear-requires
 clear-requires c =
-    let told = c.before.before.before in
-    (omega arith, omega (arith, told.requires.1, told.explained-answer.ensures.same))
+    (omega arith, omega (arith, c.requires.1, c.explained-answer.ensures.same))
 
 pub shape_of-scratch : goal.shape_of-scratch
 shape_of-scratch c = c.clear.ensures.same ∙ c.explained-answer.ensures.same
 
 pub returns : goal.returns
 returns c =
-    let told = c.before.before.before.before.before.before in
-    let done = told.explained-answer.ensures in
+    let done = c.explained-answer.ensures in
     record {
       answer = done.told;
-      zero-words = zeroed-is _ _ _ _ _ (omega arith) told.requires.1 done.same done.rest c.clear.ensures;
+      zero-words = zeroed-is _ _ _ _ _ (omega arith) c.requires.1 done.same done.rest c.clear.ensures;
     }

@@ -8,7 +8,7 @@ use Rattle.reasons.proofs.Values.{explained-exists, explained-because}
 use Rattle.reasons.proofs.reason.searched.Goals as goal
 
 pub exists_with-requires : goal.exists_with-requires
-exists_with-requires c = let s = c.before.before.before.before in (s.requires.0, (s.requires.1, s.requires.0.valid))
+exists_with-requires c = (c.requires.0, (c.requires.1, c.requires.0.valid))
 
 pub shape_of-scratch-then-exists_with : goal.shape_of-scratch-then-exists_with
 shape_of-scratch-then-exists_with c = c.exists_with.ensures.same
@@ -22,25 +22,20 @@ returns-then-exists_with c =
 pub why_none-requires : goal.why_none-requires
 unfolding routed_for routed_at
 why_none-requires c =
-    let probe = c.before.before.before.before in
-    let s = probe.before.before.before.before.before in
-    let done = probe.exists_with.ensures in
-    (s.requires.0, (omega (arith, done.same, s.requires.1), rw (own-period s.args.p.elements) (sym done.told ∙ c.if-exists_with.false)))
+    let done = c.exists_with.ensures in
+    (c.requires.0, (omega (arith, done.same, c.requires.1), rw (own-period c.args.p.elements) (sym done.told ∙ c.if-exists_with.false)))
 
 pub shape_of-scratch : goal.shape_of-scratch
 shape_of-scratch c =
-    let why = c.before.before in
-    why.why_none.ensures.same ∙ why.exists_with.ensures.same
+    c.why_none.ensures.same ∙ c.exists_with.ensures.same
 
 pub returns : goal.returns
 unfolding explained_by reason_of
 returns c =
-    let why = c.before.before in
-    let probe = why.before.before.before.before.before in
-    let was = probe.exists_with.ensures in
-    let done = why.why_none.ensures in
+    let was = c.exists_with.ensures in
+    let done = c.why_none.ensures in
     record {
-      told = sym (explained-because _ _ _ _ (sym was.told ∙ why.if-exists_with.false) (sym done.told));
+      told = sym (explained-because _ _ _ _ (sym was.told ∙ c.if-exists_with.false) (sym done.told));
       same = done.same ∙ was.same;
       rest = λ k h. done.rest k h ∙ was.rest k h;
     }

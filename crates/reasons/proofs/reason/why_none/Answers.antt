@@ -13,11 +13,8 @@ use Rattle.reasons.proofs.Values.{reason-period}
 use Rattle.reasons.proofs.reason.why_none.Goals as goal
 use Rattle.reasons.proofs.reason.why_none.Goals.{After-exists_with, Start, Then-exists_with}
 
-abbrev start : After-exists_with → Start
-start c = c.before.before.before.before.before.before
-
 -- what the search told, and what it left
-at-longest : (c : After-exists_with) → let s = start c in Told (routed_for s.args.p s.args.plan.now period_max) (length s.args.plan.now) s.args.scratch.now c.exists_with.new.1.0 c.exists_with.result
+at-longest : (c : After-exists_with) → Told (routed_for c.args.p c.args.plan.now period_max) (length c.args.plan.now) c.args.scratch.now c.exists_with.new.1.0 c.exists_with.result
 unfolding routed_for routed_at
 at-longest c =
     let done = c.exists_with.ensures in
@@ -25,8 +22,7 @@ at-longest c =
 
 pub exists_with-requires : goal.exists_with-requires
 exists_with-requires c =
-    let s = c.before.before.before.before.before in
-    (s.requires.0, (s.requires.1.0, rw c.at_period.ensures (period-valid _ _ s.requires.0.valid (omega arith) (omega arith))))
+    (c.requires.0, (c.requires.1.0, rw c.at_period.ensures (period-valid _ _ c.requires.0.valid (omega arith) (omega arith))))
 
 -- a route at the longest period
 module _ (c : Then-exists_with) where
@@ -54,14 +50,12 @@ shape_of-scratch-then-exists_with c = c.smallest_period-period.ensures.same ∙ 
 pub returns-then-exists_with : goal.returns-then-exists_with
 unfolding reason_of smallest_for routed_for
 returns-then-exists_with c =
-    let period = c.before.before in
-    let found = period.before.before in
-    let valid = (s found).requires.0.valid in
-    let was = at-longest (told found) in
-    let done = period.smallest_period-period.ensures in
-    let light = timed-routed _ _ _ _ valid period_max (omega arith) (omega arith) (longest found) in
+    let valid = (s c.before.before.before.before).requires.0.valid in
+    let was = at-longest (told c.before.before.before.before) in
+    let done = c.smallest_period-period.ensures in
+    let light = timed-routed _ _ _ _ valid period_max (omega arith) (omega arith) (longest c.before.before.before.before) in
     record {
-      told = sym (reason-period _ _ _ _ (light-routed _ _ _ _ valid light) light _ done.told (omega (arith, done.told, smallest-most _ _ _ _ valid (longest found))));
+      told = sym (reason-period _ _ _ _ (light-routed _ _ _ _ valid light) light _ done.told (omega (arith, done.told, smallest-most _ _ _ _ valid (longest c.before.before.before.before))));
       same = done.same ∙ was.same;
       rest = λ k h. done.rest k h ∙ was.rest k h;
     }
@@ -69,18 +63,14 @@ returns-then-exists_with c =
 pub why_never-requires : goal.why_never-requires
 unfolding routed_for smallest_for
 why_never-requires c =
-    let probe = c.before.before.before.before in
-    let at = start probe in
-    (at.requires.0, (omega (arith, (at-longest probe).same, at.requires.1.0), no-smallest _ _ _ _ at.requires.0.valid (sym (at-longest probe).told ∙ c.if-exists_with.false)))
+    (c.requires.0, (omega (arith, (at-longest (goal.at.why_never-requires c).After-exists_with).same, c.requires.1.0), no-smallest _ _ _ _ c.requires.0.valid (sym (at-longest (goal.at.why_never-requires c).After-exists_with).told ∙ c.if-exists_with.false)))
 
 pub shape_of-scratch : goal.shape_of-scratch
 shape_of-scratch c =
-    let why = c.before.before in
-    why.why_never.ensures.same ∙ (at-longest why.before.before.before.before.before).same
+    c.why_never.ensures.same ∙ (at-longest (goal.at.shape_of-scratch c).After-exists_with).same
 
 pub returns : goal.returns
 returns c =
-    let why = c.before.before in
-    let was = at-longest why.before.before.before.before.before in
-    let done = why.why_never.ensures in
+    let was = at-longest (goal.at.returns c).After-exists_with in
+    let done = c.why_never.ensures in
     record { told = done.told; same = done.same ∙ was.same; rest = λ k h. done.rest k h ∙ was.rest k h }

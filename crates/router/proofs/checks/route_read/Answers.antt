@@ -5,11 +5,7 @@ use Rattle.question.proofs.Checks.{told-fails, told-passes, passed-ready}
 use Rattle.router.specs.Route.{Question, question_of, passes}
 use Rattle.router.proofs.Refusals.{refused, refused-five, refused-scratch, routed}
 use Rattle.router.proofs.checks.route_read.Goals as goal
-use Rattle.router.proofs.checks.route_read.Goals.{After-check_question-checked, Start}
-
--- the entry, seen from the checks
-abbrev start : After-check_question-checked → Start
-start c = c.before.before.before.before
+use Rattle.router.proofs.checks.route_read.Goals.{Start}
 
 abbrev asked : Start → Question
 asked s = question_of s.args.plan.now s.args.width s.args.height s.args.tables s.args.read.list s.args.source s.args.sink
@@ -19,33 +15,28 @@ check_question-checked-requires c = c.requires
 
 pub returns-in-Fails : goal.returns-in-Fails
 returns-in-Fails c =
-    let k = c.before.before.before in
-    let q = asked (start k) in
-    refused q _ _ _ (refused-five q (start k).args.scratch.now (start k).args.visits.now _ (told-fails q _ _ k.check_question-checked.ensures c.in-Fails.is))
+    let q = asked (goal.at.returns-in-Fails c).Start in
+    refused q _ _ _ (refused-five q c.args.scratch.now c.args.visits.now _ (told-fails q _ _ c.check_question-checked.ensures c.in-Fails.is))
 
 pub overflow_mul-plan : goal.overflow_mul-plan
 overflow_mul-plan c =
-    let k = c.before.before in
-    omega (arith, few-cells _ _ (passed-ready (asked (start k)) passes (told-passes (asked (start k)) _ k.check_question-checked.ensures c.in-Passes.is).0))
+    omega (arith, few-cells _ _ (passed-ready (asked (goal.at.overflow_mul-plan c).Start) passes (told-passes (asked (goal.at.overflow_mul-plan c).Start) _ c.check_question-checked.ensures c.in-Passes.is).0))
 
 pub returns-then-scratch-plan : goal.returns-then-scratch-plan
 returns-then-scratch-plan c =
-    let k = c.before.before.before in
-    let q = asked (start k) in
-    refused q _ _ _ (refused-scratch q (start k).args.scratch.now (start k).args.visits.now (told-passes q _ k.check_question-checked.ensures c.in-Passes.is).0 c.if-scratch-plan.true)
+    let q = asked (goal.at.returns-then-scratch-plan c).Start in
+    refused q _ _ _ (refused-scratch q c.args.scratch.now c.args.visits.now (told-passes q _ c.check_question-checked.ensures c.in-Passes.is).0 c.if-scratch-plan.true)
 
 pub costs_of-costs-requires : goal.costs_of-costs-requires
 costs_of-costs-requires c =
-    let k = c.before.before.before.before.before in
-    let f = told-passes (asked (start k)) _ k.check_question-checked.ensures c.in-Passes.is in
-    let valid = (passed-ready (asked (start k)) passes f.0).valid in
+    let f = told-passes (asked (goal.at.costs_of-costs-requires c).Start) _ c.check_question-checked.ensures c.in-Passes.is in
+    let valid = (passed-ready (asked (goal.at.costs_of-costs-requires c).Start) passes f.0).valid in
     rw f.1 (valid, valid.register)
 
 pub route_ready-requires : goal.route_ready-requires
 route_ready-requires c =
-    let k = c.before.before.before.before.before.before.before.before.before in
-    let f = told-passes (asked (start k)) _ k.check_question-checked.ensures c.in-Passes.is in
-    (rw f.1 (passed-ready (asked (start k)) passes f.0), (c.if-scratch-plan.false, c.costs_of-costs.ensures))
+    let f = told-passes (asked (goal.at.route_ready-requires c).Start) _ c.check_question-checked.ensures c.in-Passes.is in
+    (rw f.1 (passed-ready (asked (goal.at.route_ready-requires c).Start) passes f.0), (c.if-scratch-plan.false, c.costs_of-costs.ensures))
 
 pub shape_of-scratch-in-Passes : goal.shape_of-scratch-in-Passes
 shape_of-scratch-in-Passes c = c.route_ready.auto.1.0
@@ -55,9 +46,6 @@ shape_of-visits-in-Passes c = c.route_ready.auto.1.1.1.1.0
 
 pub returns-in-Passes : goal.returns-in-Passes
 returns-in-Passes c =
-    let n = c.before.before.before.before in
-    let e = n.before.before.before.before.before.before.before in
-    let k = e.before.before.before in
-    let f = told-passes (asked (start k)) _ k.check_question-checked.ensures e.in-Passes.is in
-    let q = asked (start k) in
-    routed q _ _ f.0 e.if-scratch-plan.false _ _ _ (rw f.1 at n.route_ready.ensures)
+    let f = told-passes (asked (goal.at.returns-in-Passes c).Start) _ c.check_question-checked.ensures c.in-Passes.is in
+    let q = asked (goal.at.returns-in-Passes c).Start in
+    routed q _ _ f.0 c.if-scratch-plan.false _ _ _ (rw f.1 at c.route_ready.ensures)

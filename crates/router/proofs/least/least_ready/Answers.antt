@@ -23,28 +23,25 @@ least-none R e = rw e
 
 pub search_anew-reached-requires : goal.search_anew-reached-requires
 search_anew-reached-requires c =
-    let s = c.before.before.before.before in
     let one = c.one_clock-net.ensures in
-    (net-ready _ _ one _ s.requires.0, (s.requires.1.0, (one_side _ _ one _ _, net-costed _ _ one _ s.requires.1.1)))
+    (net-ready _ _ one _ c.requires.0, (c.requires.1.0, (one_side _ _ one _ _, net-costed _ _ one _ c.requires.1.1)))
 
 -- the figures, where the sink was reached
-figures : (c : In-Sink-2) → let after = c.before.before.before.before in BestIs (rules_for after.args.p after.args.plan.now) after.args.p.elements.period c.in-Sink.weight c.in-Sink.steps
+figures : (c : In-Sink-2) → BestIs (rules_for c.args.p c.args.plan.now) c.args.p.elements.period c.in-Sink.weight c.in-Sink.steps
 figures c =
-    let after = c.before.before.before.before in
-    best-is _ _ after.requires.0 _ _ _ _ _ _ (reached-sink (one-searched _ _ after.one_clock-net.ensures _ after.search_anew-reached.ensures).done _ _ _ c.in-Sink.is)
+    best-is _ _ c.requires.0 _ _ _ _ _ _ (reached-sink (one-searched _ _ c.one_clock-net.ensures _ c.search_anew-reached.ensures).done _ _ _ c.in-Sink.is)
 
 pub overflow_cast-result : goal.overflow_cast-result
-overflow_cast-result c = omega (arith, (figures c.before).registers_fit)
+overflow_cast-result c = omega (arith, (figures (goal.at.overflow_cast-result c).In-Sink-2).registers_fit)
 
 pub shape_of-scratch-in-Sink : goal.shape_of-scratch-in-Sink
 shape_of-scratch-in-Sink c = c.search_anew-reached.ensures.same
 
 pub returns-in-Sink : goal.returns-in-Sink
 returns-in-Sink c =
-    let after = c.before.before.before.before.before in
-    let found = after.search_anew-reached.ensures in
+    let found = c.search_anew-reached.ensures in
     record {
-      least = least-is (figures c.before);
+      least = least-is (figures (goal.at.returns-in-Sink c).In-Sink-2);
       same = found.same;
       rest = one-rest found.beyond;
     }
@@ -54,10 +51,9 @@ shape_of-scratch-in-Nothing c = c.search_anew-reached.ensures.same
 
 pub returns-in-Nothing : goal.returns-in-Nothing
 returns-in-Nothing c =
-    let after = c.before.before.before.before in
-    let found = after.search_anew-reached.ensures in
+    let found = c.search_anew-reached.ensures in
     record {
-      least = least-none _ (best-is-none _ _ after.requires.0 ((reached-nothing (one-searched _ _ after.one_clock-net.ensures _ found).done _ _ c.in-Nothing.is).none refl));
+      least = least-none _ (best-is-none _ _ c.requires.0 ((reached-nothing (one-searched _ _ c.one_clock-net.ensures _ found).done _ _ c.in-Nothing.is).none refl));
       same = found.same;
       rest = one-rest found.beyond;
     }

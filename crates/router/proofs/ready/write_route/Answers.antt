@@ -23,42 +23,37 @@ figure : (c : After-struct_told-1) → let r = c.write_out-written.result in to_
 figure c = to_z-of_z {w = w32} (record { sfits = c.struct_told-1.given.0.1 })
 
 pub overflow_add-latency : goal.overflow_add-latency
-overflow_add-latency c = omega (arith, (best-at c.before.before.before.before.before).registers_fit)
+overflow_add-latency c = omega (arith, (best-at (goal.at.overflow_add-latency c).Start).registers_fit)
 
 pub overflow_mul-latency : goal.overflow_mul-latency
-overflow_mul-latency c = omega (arith, (best-at c.before.before.before.before.before).latency_fits)
+overflow_mul-latency c = omega (arith, (best-at (goal.at.overflow_mul-latency c).Start).latency_fits)
 
 pub overflow_mul-n : goal.overflow_mul-n
 overflow_mul-n c = omega (arith, few-cells _ _ c.requires.0)
 
 pub write_out-written-requires : goal.write_out-written-requires
 write_out-written-requires c =
-    let s = c.before.before.before.before.before.before.before.before in
     let one = c.one_clock-net.ensures in
     record {
-      ready = net-ready _ _ one _ s.requires.0;
-      costed = net-costed _ _ one _ s.requires.1.1.1;
-      reaching = one-reaching _ _ one _ s.requires.1.1.0;
+      ready = net-ready _ _ one _ c.requires.0;
+      costed = net-costed _ _ one _ c.requires.1.1.1;
+      reaching = one-reaching _ _ one _ c.requires.1.1.0;
       ahead = λ h. absurd (omega arith);
       own = omega arith;
-      within = s.requires.1.0;
+      within = c.requires.1.0;
     }
 
 pub overflow_cast-figures : goal.overflow_cast-figures
-overflow_cast-figures c = omega (arith, (best-at c.before.before.before.before.before.before.before.before.before.before.before.before.before).registers_fit)
+overflow_cast-figures c = omega (arith, (best-at (goal.at.overflow_cast-figures c).Start).registers_fit)
 
 pub returns-then-written : goal.returns-then-written
 returns-then-written c =
-    let out = c.before.before.before.before.before.before in
-    let s = out.before.before.before.before.before.before.before.before.before in
-    let b = best-at s in
-    let w = one_written _ _ out.one_clock-net.ensures _ out.write_out-written.ensures in
-    rw (figure c.before) (done-found _ _ _ _ _ _ _ _ b _ w (made-best w.is_first s.requires.1.1.0.least (sink-in _ _ s.requires.0) registers 1 (cost _ _ s.requires.0) b.route b.is_best) c.if-written.true)
+    let b = best-at (goal.at.returns-then-written c).Start in
+    let w = one_written _ _ c.one_clock-net.ensures _ c.write_out-written.ensures in
+    rw (figure (goal.at.returns-then-written c).After-struct_told-1) (done-found _ _ _ _ _ _ _ _ b _ w (made-best w.is_first c.requires.1.1.0.least (sink-in _ _ c.requires.0) registers 1 (cost _ _ c.requires.0) b.route b.is_best) c.if-written.true)
 
 pub returns : goal.returns
 returns c =
-    let out = c.before.before.before.before.before.before in
-    let s = out.before.before.before.before.before.before.before.before.before in
-    let b = best-at s in
-    let w = one_written _ _ out.one_clock-net.ensures _ out.write_out-written.ensures in
-    rw (figure c.before) (done-no-room _ _ _ _ _ _ _ _ b _ w (made-best w.is_first s.requires.1.1.0.least (sink-in _ _ s.requires.0) registers 1 (cost _ _ s.requires.0) b.route b.is_best) c.if-written.false)
+    let b = best-at (goal.at.returns c).Start in
+    let w = one_written _ _ c.one_clock-net.ensures _ c.write_out-written.ensures in
+    rw (figure (goal.at.returns c).After-struct_told-1) (done-no-room _ _ _ _ _ _ _ _ b _ w (made-best w.is_first c.requires.1.1.0.least (sink-in _ _ c.requires.0) registers 1 (cost _ _ c.requires.0) b.route b.is_best) c.if-written.false)

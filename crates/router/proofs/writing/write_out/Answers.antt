@@ -20,27 +20,26 @@ use Rattle.router.proofs.writing.write_out.Goals.{After-emit-arg-2-1, After-emit
 few : (s : Start) → s.args.steps ≤ 134348800
 few s = (ready-short _ _ s.requires.ready 0 (omega arith) _ s.requires.reaching.least).0
 
-room : (c : After-words_for-room) → let s = c.before.before.before.before in Lends (2 * (s.args.steps + 1)) (length s.args.visits.now) c.words_for-room.result
+room : (c : After-words_for-room) → Lends (2 * (c.args.steps + 1)) (length c.args.visits.now) c.words_for-room.result
 room c = lends _ _ _ c.words_for-room.ensures
 
 -- the part lent has these words
 taken : (c : After-emit-arg-2-1) → length (take c.words_for-room.result c.args.visits.now) ≡ c.words_for-room.result
 taken c =
-    let words = c.before.before in
-    omega (arith, length-take words.words_for-room.result words.args.visits.now, room_most (room words))
+    omega (arith, length-take c.words_for-room.result c.args.visits.now, room_most (room (goal.at.After-emit-arg-2-1 c).After-words_for-room))
 
 -- and after emission as many
 left : (c : After-emit-told) → length c.emit-told.new.1.1.1.1.1.1.1.1.0 ≡ c.words_for-room.result
-left c = c.emit-told.ensures.kept ∙ taken c.before
+left c = c.emit-told.ensures.kept ∙ taken (goal.at.After-emit-told c).After-emit-arg-2-1
 
 pub overflow_add-steps : goal.overflow_add-steps
-overflow_add-steps c = omega (arith, few c.before.before.before)
+overflow_add-steps c = omega (arith, few (goal.at.overflow_add-steps c).Start)
 
 pub overflow_mul-steps : goal.overflow_mul-steps
-overflow_mul-steps c = omega (arith, few c.before.before.before)
+overflow_mul-steps c = omega (arith, few (goal.at.overflow_mul-steps c).Start)
 
 pub slice_bounds-emit-end : goal.slice_bounds-emit-end
-slice_bounds-emit-end c = room_most (room c.before)
+slice_bounds-emit-end c = room_most (room (goal.at.slice_bounds-emit-end c).After-words_for-room)
 
 pub slice_bounds-emit-end-2 : goal.slice_bounds-emit-end-2
 slice_bounds-emit-end-2 c = sym (taken c)
@@ -54,38 +53,32 @@ emit-told-requires c =
       room = omega (arith, asks.own, asks.within);
       reaching = asks.reaching;
       ahead = asks.ahead;
-      fits = room_fits (taken c) (room c.before.before);
+      fits = room_fits (taken c) (room (goal.at.emit-told-requires c).After-words_for-room);
     }
 
 pub clear-requires : goal.clear-requires
 clear-requires c =
-    let emit = c.before.before.before.before.before in
-    (omega arith, omega (arith, emit.requires.within, emit.emit-told.ensures.same))
+    (omega arith, omega (arith, c.requires.within, c.emit-told.ensures.same))
 
 pub shape_of-scratch : goal.shape_of-scratch
 shape_of-scratch c = c.clear.ensures.same ∙ c.emit-told.ensures.same
 
 pub shape_of-visits : goal.shape_of-visits
 shape_of-visits c =
-    let emit = c.before.before.before.before.before.before.before.before.before in
-    let words = emit.before.before.before in
-    kept-length words.args.visits.now emit.emit-told.new.1.1.1.1.1.1.1.1.0 words.words_for-room.result (left emit) (room_most (room words))
+    kept-length c.args.visits.now c.emit-told.new.1.1.1.1.1.1.1.1.0 c.words_for-room.result (left (goal.at.shape_of-visits c).After-emit-told) (room_most (room (goal.at.shape_of-visits c).After-words_for-room))
 
 pub returns : goal.returns
 returns c =
-    let emit = c.before.before.before.before.before.before.before.before.before in
-    let words = emit.before.before.before in
-    let s = words.before.before.before.before in
-    let m = emit.emit-told.ensures in
-    let route = from_sink (net_rules s.args.net s.args.plan.now) m.made in
-    let figure : to_z w32 (of_z w32 emit.emit-told.result.slack) ≡ emit.emit-told.result.slack = to_z-of_z {w = w32} (record { sfits = c.struct_told-1.given.0.1 }) in
+    let m = c.emit-told.ensures in
+    let route = from_sink (net_rules c.args.net c.args.plan.now) m.made in
+    let figure : to_z w32 (of_z w32 c.emit-told.result.slack) ≡ c.emit-told.result.slack = to_z-of_z {w = w32} (record { sfits = c.struct_told-1.given.0.1 }) in
     record {
       made = m.made;
       is_first = m.is_first;
       slack = rw figure m.slack;
       sink = m.sink;
       source = m.source;
-      zero-words = zeroed-is _ _ _ _ _ s.requires.own s.requires.within m.same m.rest c.clear.ensures;
-      fits = room-some (room words) (omega arith);
-      filled = visits-left s.args.visits.now _ _ (left emit) (written route) _ (room words) (omega (arith, written-length route, m.is_first.steps)) (λ h. m.filled (omega (arith, taken emit.before)));
+      zero-words = zeroed-is _ _ _ _ _ c.requires.own c.requires.within m.same m.rest c.clear.ensures;
+      fits = room-some (room (goal.at.returns c).After-words_for-room) (omega arith);
+      filled = visits-left c.args.visits.now _ _ (left (goal.at.returns c).After-emit-told) (written route) _ (room (goal.at.returns c).After-words_for-room) (omega (arith, written-length route, m.is_first.steps)) (λ h. m.filled (omega (arith, taken (goal.at.returns c).After-emit-arg-2-1)));
     }

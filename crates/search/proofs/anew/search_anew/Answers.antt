@@ -23,20 +23,18 @@ clear-requires-2 c = (omega arith, omega (arith, c.requires.1.0, c.clear.ensures
 
 pub search-requires : goal.search-requires
 search-requires c =
-    let second = c.before.before.before in
-    let first = second.before.before.before.before in
-    let s = first.before.before.before.before in (
-      s.requires.0,
+    (
+      c.requires.0,
       (
-        omega (arith, s.requires.1.0, second.clear-2.ensures.same, first.clear.ensures.same),
+        omega (arith, c.requires.1.0, c.clear-2.ensures.same, c.clear.ensures.same),
         (
           record {
-            table = λ i h. second.clear-2.ensures.low i (omega arith) ∙ filled_at first.clear.ensures i (omega arith) (omega arith);
-            labels = λ i lo hi. filled_at second.clear-2.ensures i (omega arith) (omega arith);
+            table = λ i h. c.clear-2.ensures.low i (omega arith) ∙ filled_at c.clear.ensures i (omega arith) (omega arith);
+            labels = λ i lo hi. filled_at c.clear-2.ensures i (omega arith) (omega arith);
           },
           (
-            asks-kept s.requires.1.1.0 _ (second.clear-2.ensures.same ∙ first.clear.ensures.same) (λ i h. second.clear-2.ensures.high i (omega arith) ∙ first.clear.ensures.high i (omega arith)),
-            s.requires.1.1.1,
+            asks-kept c.requires.1.1.0 _ (c.clear-2.ensures.same ∙ c.clear.ensures.same) (λ i h. c.clear-2.ensures.high i (omega arith) ∙ c.clear.ensures.high i (omega arith)),
+            c.requires.1.1.1,
           ),
         ),
       ),
@@ -44,17 +42,13 @@ search-requires c =
 
 pub shape_of-scratch : goal.shape_of-scratch
 shape_of-scratch c =
-    let second = c.before.before.before.before.before.before in
-    let first = second.before.before.before.before in
-    c.search.ensures.same ∙ (second.clear-2.ensures.same ∙ first.clear.ensures.same)
+    c.search.ensures.same ∙ (c.clear-2.ensures.same ∙ c.clear.ensures.same)
 
 pub returns : goal.returns
 returns c =
     let found = c.search.ensures in
-    let second = c.before.before.before.before.before.before in
-    let first = second.before.before.before.before in
     record {
-      same = found.same ∙ (second.clear-2.ensures.same ∙ first.clear.ensures.same);
-      beyond = beyond-then (beyond-kept (λ i h. second.clear-2.ensures.high i (omega arith) ∙ first.clear.ensures.high i (omega arith))) found.beyond;
+      same = found.same ∙ (c.clear-2.ensures.same ∙ c.clear.ensures.same);
+      beyond = beyond-then (beyond-kept (λ i h. c.clear-2.ensures.high i (omega arith) ∙ c.clear.ensures.high i (omega arith))) found.beyond;
       done = found.done;
     }

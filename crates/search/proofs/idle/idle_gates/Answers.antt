@@ -9,13 +9,9 @@ use Rattle.search.specs.Idle.{IdleFrom}
 use Rattle.search.proofs.IdleRows.{idle-right}
 use Rattle.labels.proofs.Idle.{none-idle}
 use Rattle.search.proofs.idle.idle_gates.Goals as goal
-use Rattle.search.proofs.idle.idle_gates.Goals.{After-struct_known-2-1, Start}
 
 from-same : (costs : List ℕ) (a b : ℕ) (r : Idle) → a ≡ b → IdleFrom costs a r → IdleFrom costs b r
 from-same costs a b r e f = rw (← e) f
-
-abbrev start : After-struct_known-2-1 → Start
-start c = c.before.before.before.before.before
 
 pub returns-then-exits-eq0 : goal.returns-then-exits-eq0
 returns-then-exits-eq0 c =
@@ -26,16 +22,14 @@ returns-then-exits-eq0 c =
 
 pub returns-then-vertical-horizontal : goal.returns-then-vertical-horizontal
 returns-then-vertical-horizontal c =
-    let s = start c.before.before in
     record {
-      right = λ marks. idle-right s.args.net s.requires.0 marks _ s.requires.1 _ (omega arith) (omega arith) _ c.idle_from.ensures;
+      right = λ marks. idle-right c.args.net c.requires.0 marks _ c.requires.1 _ (omega arith) (omega arith) _ c.idle_from.ensures;
       told = λ h. from-same _ _ _ _ (omega arith) c.idle_from.ensures;
     }
 
 pub returns : goal.returns
 returns c =
-    let s = start c.before.before in
     record {
-      right = λ marks. idle-right s.args.net s.requires.0 marks _ s.requires.1 _ (omega arith) (omega arith) _ c.idle_from-2.ensures;
+      right = λ marks. idle-right c.args.net c.requires.0 marks _ c.requires.1 _ (omega arith) (omega arith) _ c.idle_from-2.ensures;
       told = λ h. from-same _ _ _ _ (omega arith) c.idle_from-2.ensures;
     }

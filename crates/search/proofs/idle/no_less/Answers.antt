@@ -18,15 +18,12 @@ returns-then-costs-a c =
       no = λ e. record { load = w.loop-l.l; above = w.loop-l.invariant.0; within = omega arith; less = omega arith };
     }
 
-abbrev in-loop : Else-costs-a → In-loop-l
-in-loop c = c.before.before.before
-
 still : (c : Else-costs-a) (k : ℕ) → let w = in-loop c in w.args.from ≤ k → k < w.loop-l.l + 1 → (k ≡ w.loop-l.l) ⊎ (k ≡ w.loop-l.l → ⊥) → get_or w.args.costs.now (w.args.b + k) 0 ≤ get_or w.args.costs.now (w.args.a + k) 0
 still c k lo hi (inl e) = rw e (omega (arith, c.if-costs-a.false))
 still c k lo hi (inr f) = (in-loop c).loop-l.invariant.1 k lo (omega arith)
 
 pub loop-l-preserved : goal.loop-l-preserved
-loop-l-preserved c = (omega (arith, (in-loop c).loop-l.invariant.0), λ k lo hi. still c k lo hi (equal k (in-loop c).loop-l.l))
+loop-l-preserved c = (omega (arith, c.loop-l.invariant.0), λ k lo hi. still c k lo hi (equal k c.loop-l.l))
 
 pub returns : goal.returns
 returns c =

@@ -47,15 +47,14 @@ pub label-requires : goal.label-requires
 label-requires c = let p = c.requires in start-labelable _ _ p.0 p.1.0 p.1.1.0 _ p.1.1.1
 
 pub returns-then-side-fifos : goal.returns-then-side-fifos
-returns-then-side-fifos c = let s = c.before.before.before.before.before.before in sourced _ _ _ _ _ _ s.requires.0 c.if-side-fifos.true c.label.ensures
+returns-then-side-fifos c = sourced _ _ _ _ _ _ c.requires.0 c.if-side-fifos.true c.label.ensures
 
 pub returns : goal.returns
 returns c =
-    let s = c.before.before in
     record {
       same = refl;
-      ordered = ordered-none _ _ _ (no_label _ _ s.requires.0);
-      only = λ i t. absurd (unlabelled _ _ s.requires.0 i t);
+      ordered = ordered-none _ _ _ (no_label _ _ c.requires.0);
+      only = λ i t. absurd (unlabelled _ _ c.requires.0 i t);
       has = λ e. absurd (c.if-side-fifos.false e);
       low = λ k h. refl;
       high = λ k h. refl;

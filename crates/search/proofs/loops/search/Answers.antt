@@ -27,49 +27,44 @@ few-exits exits h = go (split 1 exits)
 
 pub label_source-count-requires : goal.label_source-count-requires
 label_source-count-requires c =
-    let s = c.before.before.before in
-    (s.requires.1.1.0, (few-cells _ _ s.requires.0.ready, (omega (arith, s.requires.1.0), s.requires.0.ready.source)))
+    (c.requires.1.1.0, (few-cells _ _ c.requires.0.ready, (omega (arith, c.requires.1.0), c.requires.0.ready.source)))
 
 -- the start of the search
-starts : (c : After-label_source-count) → let s = c.before.before.before.before in Waiting (net_rules s.args.net s.args.plan.now) (length s.args.plan.now) s.args.side s.args.exits c.label_source-count.new.0 0 0 0 0 c.label_source-count.result 0 0
+starts : (c : After-label_source-count) → Waiting (net_rules c.args.net c.args.plan.now) (length c.args.plan.now) c.args.side c.args.exits c.label_source-count.new.0 0 0 0 0 c.label_source-count.result 0 0
 starts c =
-    let s = c.before.before.before.before in
-    let a : Sourced (length s.args.plan.now) s.args.side (net_rules s.args.net s.args.plan.now).fifos (net_rules s.args.net s.args.plan.now).source s.args.scratch.now c.label_source-count.new.0 c.label_source-count.result = rw (net-fifos s.args.net s.args.plan.now, net-source s.args.net s.args.plan.now) c.label_source-count.ensures in
-    start-front (ready-lawful _ _ s.requires.0) s.requires.1.1.0 s.requires.1.1.1.0 a
+    let a : Sourced (length c.args.plan.now) c.args.side (net_rules c.args.net c.args.plan.now).fifos (net_rules c.args.net c.args.plan.now).source c.args.scratch.now c.label_source-count.new.0 c.label_source-count.result = rw (net-fifos c.args.net c.args.plan.now, net-source c.args.net c.args.plan.now) c.label_source-count.ensures in
+    start-front (ready-lawful _ _ c.requires.0) c.requires.1.1.0 c.requires.1.1.1.0 a
 
 pub idle_gates-idle-requires : goal.idle_gates-idle-requires
-idle_gates-idle-requires c = let s = c.before.before.before.before.before.before in (s.requires.0.ready.valid, s.requires.1.1.1.1)
+idle_gates-idle-requires c = (c.requires.0.ready.valid, c.requires.1.1.1.1)
 
 pub arrive_both-a-requires : goal.arrive_both-a-requires
 arrive_both-a-requires c =
-    let s = c.before.before.before.before.before.before.before.before in
     let a = c.label_source-count.ensures in
-    waiting-asks (starts c.before.before.before.before) (few-cells _ _ s.requires.0.ready) (omega (arith, s.requires.1.0, a.same)) (λ h. omega (arith, s.requires.1.1.1.0.exits_in h, a.same))
+    waiting-asks (starts (goal.at.arrive_both-a-requires c).After-label_source-count) (few-cells _ _ c.requires.0.ready) (omega (arith, c.requires.1.0, a.same)) (λ h. omega (arith, c.requires.1.1.1.0.exits_in h, a.same))
 
 pub loop-weight-init : goal.loop-weight-init
 loop-weight-init c =
-    let s = c.before.before.before.before.before.before.before.before.before.before.before in
-    (arrive-front (ready-lawful _ _ s.requires.0) (starts c.before.before.before.before.before.before.before) (c.idle_gates-idle.ensures.right _) c.arrive_both-a.ensures, (refl, beyond-kept (λ i h. refl)))
+    (arrive-front (ready-lawful _ _ c.requires.0) (starts (goal.at.loop-weight-init c).After-label_source-count) (c.idle_gates-idle.ensures.right _) c.arrive_both-a.ensures, (refl, beyond-kept (λ i h. refl)))
 
 pub take_turn-t-requires : goal.take_turn-t-requires
 take_turn-t-requires c =
-    let s = c.before.before.before.before.before.before.before.before.before.before.before.before.before in
     let a = c.label_source-count.ensures in
     let b = c.arrive_both-a.ensures in
     let same = c.loop-weight.invariant.1.0 in
-    let asks = s.requires.1.1.1.0 in
+    let asks = c.requires.1.1.1.0 in
     record {
-      ready = s.requires.0;
-      room = omega (arith, s.requires.1.0, a.same, b.same, same);
-      costed = s.requires.1.1.1.1;
-      side_in = omega (arith, asks.within, net-fifos s.args.net s.args.plan.now);
+      ready = c.requires.0;
+      room = omega (arith, c.requires.1.0, a.same, b.same, same);
+      costed = c.requires.1.1.1.1;
+      side_in = omega (arith, asks.within, net-fifos c.args.net c.args.plan.now);
       exits_in = λ h. omega (arith, asks.exits_in h, a.same, b.same, same);
       watch_in = λ h. omega (arith, asks.watch_in h, a.same, b.same, same);
       front = c.loop-weight.invariant.0;
     }
 
 -- the words since the start
-since : (c : After-take_turn-t) → let s = c.before.before.before.before.before.before.before.before.before.before.before.before.before.before in (length c.take_turn-t.new.1.0 ≡ length s.args.scratch.now) × Beyond (length s.args.plan.now) s.args.side s.args.scratch.now c.take_turn-t.new.1.0
+since : (c : After-take_turn-t) → (length c.take_turn-t.new.1.0 ≡ length c.args.scratch.now) × Beyond (length c.args.plan.now) c.args.side c.args.scratch.now c.take_turn-t.new.1.0
 since c =
     let turn = c.take_turn-t.ensures in
     let loop = c.loop-weight.invariant in
@@ -78,38 +73,36 @@ since c =
     (turn.same ∙ (loop.1.0 ∙ (come.same ∙ source.same)), beyond-then (beyond-kept (λ i h. come.high i h ∙ source.high i (omega arith))) (beyond-then loop.1.1 turn.beyond))
 
 pub shape_of-scratch-in-Sink : goal.shape_of-scratch-in-Sink
-shape_of-scratch-in-Sink c = (since c.before.before.before.before.before).0
+shape_of-scratch-in-Sink c = (since (goal.at.shape_of-scratch-in-Sink c).After-take_turn-t).0
 
 pub returns-in-Sink : goal.returns-in-Sink
 returns-in-Sink c =
-    let b = since c.before.before.before.before.before in
+    let b = since (goal.at.returns-in-Sink c).After-take_turn-t in
     let e = ends-sink c.take_turn-t.ensures.done _ _ _ c.in-Sink.is in
     record { same = b.0; beyond = b.1; done = SearchDone.sink _ _ _ e.0 e.1 }
 
 pub shape_of-scratch-in-Nothing : goal.shape_of-scratch-in-Nothing
-shape_of-scratch-in-Nothing c = (since c.before.before.before.before.before).0
+shape_of-scratch-in-Nothing c = (since (goal.at.shape_of-scratch-in-Nothing c).After-take_turn-t).0
 
 pub returns-in-Nothing : goal.returns-in-Nothing
 returns-in-Nothing c =
-    let b = since c.before.before.before.before.before in
+    let b = since (goal.at.returns-in-Nothing c).After-take_turn-t in
     record { same = b.0; beyond = b.1; done = SearchDone.nothing _ _ (ends-nothing c.take_turn-t.ensures.done _ _ c.in-Nothing.is) }
 
 pub arrive_both-b-requires : goal.arrive_both-b-requires
 arrive_both-b-requires c =
-    let s = c.before.before.before.before.before.before.before.before.before.before.before.before.before.before.before.before.before.before.before.before in
-    let same = (since c.before.before.before.before.before.before).0 in
-    waiting-asks (goes_on c.take_turn-t.ensures.done c.in-On.g c.in-On.is).0 (few-cells _ _ s.requires.0.ready) (omega (arith, s.requires.1.0, same)) (λ h. omega (arith, s.requires.1.1.1.0.exits_in h, same))
+    let same = (since (goal.at.arrive_both-b-requires c).After-take_turn-t).0 in
+    waiting-asks (goes_on c.take_turn-t.ensures.done c.in-On.g c.in-On.is).0 (few-cells _ _ c.requires.0.ready) (omega (arith, c.requires.1.0, same)) (λ h. omega (arith, c.requires.1.1.1.0.exits_in h, same))
 
 pub loop-weight-smaller : goal.loop-weight-smaller
 loop-weight-smaller c =
-    let s = c.before.before.before.before.before.before.before.before.before.before.before.before.before.before.before.before.before.before.before.before.before.before.before in
     let g = goes_on c.take_turn-t.ensures.done c.in-On.g c.in-On.is in
     let a = c.arrive_both-b.ensures in
-    let few = few-cells _ _ s.requires.0.ready in
+    let few = few-cells _ _ c.requires.0.ready in
     omega (
       arith,
       advances g.1 a,
-      total-fits (length s.args.plan.now) c.arrive_both-b.new.0 few (λ i. (c.slice_known-in-On-1.given i).fits),
+      total-fits (length c.args.plan.now) c.arrive_both-b.new.0 few (λ i. (c.slice_known-in-On-1.given i).fits),
       a.near.within,
       ordered-count g.0.standing.near.ordered,
       a.far.within,
@@ -122,9 +115,8 @@ loop-weight-smaller c =
 
 pub loop-weight-preserved : goal.loop-weight-preserved
 loop-weight-preserved c =
-    let s = c.before.before.before.before.before.before.before.before.before.before.before.before.before.before.before.before.before.before.before.before.before.before.before in
     let turn = c.take_turn-t.ensures in
     let loop = c.loop-weight.invariant in
     let g = goes_on turn.done c.in-On.g c.in-On.is in
     let a = c.arrive_both-b.ensures in
-    (arrive-front (ready-lawful _ _ s.requires.0) g.0 (c.idle_gates-idle.ensures.right _) a, (a.same ∙ (turn.same ∙ loop.1.0), beyond-then loop.1.1 (beyond-then turn.beyond (beyond-kept a.high))))
+    (arrive-front (ready-lawful _ _ c.requires.0) g.0 (c.idle_gates-idle.ensures.right _) a, (a.same ∙ (turn.same ∙ loop.1.0), beyond-then loop.1.1 (beyond-then turn.beyond (beyond-kept a.high))))

@@ -30,7 +30,7 @@ move_to-g-requires c =
     place _ _ _ _ _ (set-in _ _ p.few p.room) p.near (waits c)
 
 pub returns-then-exit-exits : goal.returns-then-exit-exits
-returns-then-exit-exits c = rw c.move_to-g.ensures (Quieted.register (waits c.before) (λ h. absurd (omega (arith, c.if-exit-exits.true))))
+returns-then-exit-exits c = rw c.move_to-g.ensures (Quieted.register (waits (goal.at.returns-then-exit-exits c).Else-at-f) (λ h. absurd (omega (arith, c.if-exit-exits.true))))
 
 -- a FIFO's label waits
 exits-wait : (c : Else-exit-exits) → c.args.f.exit < c.args.exits
@@ -46,7 +46,7 @@ move_to-g-requires-2 c =
     place _ _ _ _ _ (exits-in _ _ p.few (p.exits_in (omega arith))) (p.far (omega arith)) h
 
 pub returns-then-at-f-2 : goal.returns-then-at-f-2
-returns-then-at-f-2 c = rw c.move_to-g-2.ensures (Quieted.fifo (exits-wait c.before.before.before) (λ h. absurd (omega (arith, c.if-at-f-2.true))))
+returns-then-at-f-2 c = rw c.move_to-g-2.ensures (Quieted.fifo (exits-wait (goal.at.returns-then-at-f-2 c).Else-exit-exits) (λ h. absurd (omega (arith, c.if-at-f-2.true))))
 
 -- both wait
 near-waits : (c : Else-at-f-2) → c.args.f.at < c.args.f.count
@@ -71,10 +71,10 @@ pub offset_bounds-scratch-n : goal.offset_bounds-scratch-n
 offset_bounds-scratch-n c = omega (arith, c.requires.few, near-in c)
 
 pub bounds-scratch-n : goal.bounds-scratch-n
-bounds-scratch-n c = omega (arith, c.requires.room, near-in c.before)
+bounds-scratch-n c = omega (arith, c.requires.room, near-in (goal.at.bounds-scratch-n c).Else-at-f-2)
 
 pub overflow_cast-first : goal.overflow_cast-first
-overflow_cast-first c = let p = c.requires in omega (arith, p.near.cells _ (near-waits c.before), p.few)
+overflow_cast-first c = let p = c.requires in omega (arith, p.near.cells _ (near-waits (goal.at.overflow_cast-first c).Else-at-f-2), p.few)
 
 pub overflow_mul-n-3 : goal.overflow_mul-n-3
 overflow_mul-n-3 c = omega (arith, c.requires.few)
@@ -82,12 +82,12 @@ overflow_mul-n-3 c = omega (arith, c.requires.few)
 pub is_after-requires : goal.is_after-requires
 is_after-requires c =
     let p = c.requires in
-    (set-in _ _ p.few p.room, p.near.known _ (near-waits c.before))
+    (set-in _ _ p.few p.room, p.near.known _ (near-waits (goal.at.is_after-requires c).Else-at-f-2))
 
 pub returns-then-is_after : goal.returns-then-is_after
 returns-then-is_after c =
     rw c.move_to-g-2.ensures
-    (Quieted.fifo (exits-wait c.before.before.before.before.before.before) (λ h. after-before (rw c.move_to-g-2.ensures at (c.is_after.ensures.after c.if-is_after.true))))
+    (Quieted.fifo (exits-wait (goal.at.returns-then-is_after c).Else-exit-exits) (λ h. after-before (rw c.move_to-g-2.ensures at (c.is_after.ensures.after c.if-is_after.true))))
 
 pub overflow_mul-n-4 : goal.overflow_mul-n-4
 overflow_mul-n-4 c = omega (arith, c.requires.few)
@@ -95,10 +95,10 @@ overflow_mul-n-4 c = omega (arith, c.requires.few)
 pub move_to-h-requires : goal.move_to-h-requires
 move_to-h-requires c =
     let p = c.requires in
-    place _ _ _ _ _ (set-in _ _ p.few p.room) p.near (near-waits c.before.before.before)
+    place _ _ _ _ _ (set-in _ _ p.few p.room) p.near (near-waits (goal.at.move_to-h-requires c).Else-at-f-2)
 
 pub returns : goal.returns
 unfolding moved_to
 returns c =
     rw c.move_to-h.ensures
-    (Quieted.register (near-waits c.before.before.before.before) (λ h. rw c.move_to-g-2.ensures at (c.is_after.ensures.by c.if-is_after.false)))
+    (Quieted.register (near-waits (goal.at.returns c).Else-at-f-2) (λ h. rw c.move_to-g-2.ensures at (c.is_after.ensures.by c.if-is_after.false)))

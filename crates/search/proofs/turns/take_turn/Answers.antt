@@ -20,92 +20,84 @@ use Rattle.search.proofs.turns.take_turn.Goals as goal
 use Rattle.search.proofs.turns.take_turn.Goals.{After-next_layer-grown, After-weight, Else-active-eq0}
 
 pub overflow_mul-top : goal.overflow_mul-top
-overflow_mul-top c = let s = c.before.before.before in omega (arith, c.period.ensures, ready-top _ _ s.requires.ready s.args.side)
+overflow_mul-top c = omega (arith, c.period.ensures, ready-top _ _ c.requires.ready c.args.side)
 
 pub overflow_add-top : goal.overflow_add-top
-overflow_add-top c = let s = c.before.before.before in omega (arith, c.period.ensures, ready-top _ _ s.requires.ready s.args.side)
+overflow_add-top c = omega (arith, c.period.ensures, ready-top _ _ c.requires.ready c.args.side)
 
 pub next_layer-grown-requires : goal.next_layer-grown-requires
 next_layer-grown-requires c =
-    let s = c.before.before.before.before.before in
-    (s.requires.ready, (s.requires.room, (s.requires.front.waiting.standing.list.listed, (rw c.no_trail.ensures (sound_none _ _ no_trail refl refl (omega arith) (omega arith)), (coloured-unlinked (problem-colouring s.args.net s.args.plan.now) s.requires.front.waiting.standing.coloured, s.requires.costed)))))
+    (c.requires.ready, (c.requires.room, (c.requires.front.waiting.standing.list.listed, (rw c.no_trail.ensures (sound_none _ _ no_trail refl refl (omega arith) (omega arith)), (coloured-unlinked (problem-colouring c.args.net c.args.plan.now) c.requires.front.waiting.standing.coloured, c.requires.costed)))))
 
 -- the layer, made without a trail, by this side's bound
-made : (c : After-next_layer-grown) → let s = c.before.before.before.before.before.before in Layered (net_rules s.args.net s.args.plan.now) (length s.args.plan.now) ((net_rules s.args.net s.args.plan.now).bound 0 s.args.side) no_trail s.args.scratch.now c.next_layer-grown.new.1.0 c.next_layer-grown.result
+made : (c : After-next_layer-grown) → Layered (net_rules c.args.net c.args.plan.now) (length c.args.plan.now) ((net_rules c.args.net c.args.plan.now).bound 0 c.args.side) no_trail c.args.scratch.now c.next_layer-grown.new.1.0 c.next_layer-grown.result
 made c =
-    let s = c.before.before.before.before.before.before in
-    rw (net-bound s.args.net s.args.plan.now 0 s.args.side) (rw (c.no_trail.ensures, c.period.ensures) at c.next_layer-grown.ensures)
+    rw (net-bound c.args.net c.args.plan.now 0 c.args.side) (rw (c.no_trail.ensures, c.period.ensures) at c.next_layer-grown.ensures)
 
 pub after_quiet-requires : goal.after_quiet-requires
 after_quiet-requires c =
-    let s = c.before.before.before.before.before.before.before.before.before.before in
-    let r = s.requires.ready in
-    let l = made c.before.before.before.before in
-    let near = layer-near (ready-lawful _ _ r) (ready-cells _ _ r) s.requires.front l in
-    let far = layer-far (ready-lawful _ _ r) (ready-cells _ _ r) s.requires.front l in
+    let r = c.requires.ready in
+    let l = made (goal.at.after_quiet-requires c).After-next_layer-grown in
+    let near = layer-near (ready-lawful _ _ r) (ready-cells _ _ r) c.requires.front l in
+    let far = layer-far (ready-lawful _ _ r) (ready-cells _ _ r) c.requires.front l in
     record {
       few = few-cells _ _ r.ready;
-      room = omega (arith, l.same, s.requires.room);
+      room = omega (arith, l.same, c.requires.room);
       near = near.ordered;
       at_count = near.at_count;
       within = far.within;
-      exits_in = λ h. omega (arith, l.same, s.requires.exits_in h);
+      exits_in = λ h. omega (arith, l.same, c.requires.exits_in h);
       far = λ h. (far.queue h).ordered;
     }
 
 pub returns-then-active-eq0 : goal.returns-then-active-eq0
 returns-then-active-eq0 c =
-    let s = c.before.before.before.before.before.before.before.before.before.before.before in
-    let r = s.requires.ready in
-    turn-quiet (ready-lawful _ _ r) (ready-cells _ _ r) s.requires.front (made c.before.before.before.before.before) c.if-active-eq0.true _ c.after_quiet.ensures
+    let r = c.requires.ready in
+    turn-quiet (ready-lawful _ _ r) (ready-cells _ _ r) c.requires.front (made (goal.at.returns-then-active-eq0 c).After-next_layer-grown) c.if-active-eq0.true _ c.after_quiet.ensures
 
 -- a layer that grew: its weight and steps are small
-short : (c : Else-active-eq0) → let s = c.before.before.before.before.before.before.before.before.before in (s.args.f.steps < 134348800) × ((net_rules s.args.net s.args.plan.now).weight s.args.side + s.args.f.weight ≤ 61500000)
+short : (c : Else-active-eq0) → (c.args.f.steps < 134348800) × ((net_rules c.args.net c.args.plan.now).weight c.args.side + c.args.f.weight ≤ 61500000)
 short c =
-    let s = c.before.before.before.before.before.before.before.before.before in
-    let r = s.requires.ready in
-    ready-short _ _ r s.args.side (omega (arith, s.requires.side_in, net-fifos s.args.net s.args.plan.now)) s.args.f.weight (layer-came (ready-lawful _ _ r) (ready-cells _ _ r) s.requires.front (made c.before.before.before) (omega (arith, c.if-active-eq0.false)))
+    let r = c.requires.ready in
+    ready-short _ _ r c.args.side (omega (arith, c.requires.side_in, net-fifos c.args.net c.args.plan.now)) c.args.f.weight (layer-came (ready-lawful _ _ r) (ready-cells _ _ r) c.requires.front (made (goal.at.Else-active-eq0 c).After-next_layer-grown) (omega (arith, c.if-active-eq0.false)))
 
 pub overflow_add-steps : goal.overflow_add-steps
-overflow_add-steps c = omega (arith, short c.before)
+overflow_add-steps c = omega (arith, short (goal.at.overflow_add-steps c).Else-active-eq0)
 
 pub at_sink-requires : goal.at_sink-requires
 at_sink-requires c =
-    let s = c.before.before.before.before.before.before.before.before.before.before.before in
-    (s.requires.ready.ready.valid.register, omega (arith, s.requires.ready.ready.sink, s.requires.room, (made c.before.before.before.before.before).same))
+    (c.requires.ready.ready.valid.register, omega (arith, c.requires.ready.ready.sink, c.requires.room, (made (goal.at.at_sink-requires c).After-next_layer-grown).same))
 
 pub returns-then-at_sink : goal.returns-then-at_sink
 returns-then-at_sink c =
-    let s = c.before.before.before.before.before.before.before.before.before.before.before.before.before in
-    let r = s.requires.ready in
-    let net = s.args.net in
-    let marks = s.args.plan.now in
-    turn-sink (ready-lawful _ _ r) (ready-cells _ _ r) s.requires.front (made c.before.before.before.before.before.before.before) (c.at_sink.ensures.yes c.if-at_sink.true)
+    let r = c.requires.ready in
+    let net = c.args.net in
+    let marks = c.args.plan.now in
+    turn-sink (ready-lawful _ _ r) (ready-cells _ _ r) c.requires.front (made (goal.at.returns-then-at_sink c).After-next_layer-grown) (c.at_sink.ensures.yes c.if-at_sink.true)
     (rw (net-start-delay net marks, net-sink net marks, net-start-load net marks) (c.at_sink.ensures.comes c.if-at_sink.true (length marks) r.ready.sink))
 
 -- the weight of the new labels
-weighs : (c : After-weight) → let s = c.before.before.before.before.before.before.before.before.before.before.before.before.before.before in s.args.f.weight + c.weight.result ≡ (net_rules s.args.net s.args.plan.now).weight s.args.side + s.args.f.weight
-weighs c = let s = c.before.before.before.before.before.before.before.before.before.before.before.before.before.before in omega (arith, c.weight.ensures, net-weight s.args.net s.args.plan.now s.args.side)
+weighs : (c : After-weight) → c.args.f.weight + c.weight.result ≡ (net_rules c.args.net c.args.plan.now).weight c.args.side + c.args.f.weight
+weighs c = omega (arith, c.weight.ensures, net-weight c.args.net c.args.plan.now c.args.side)
 
 pub overflow_add-weight : goal.overflow_add-weight
-overflow_add-weight c = omega (arith, weighs c.before, short c.before.before.before.before.before.before)
+overflow_add-weight c = omega (arith, weighs (goal.at.overflow_add-weight c).After-weight, short (goal.at.overflow_add-weight c).Else-active-eq0)
 
 pub overflow_mul-n : goal.overflow_mul-n
 overflow_mul-n c = omega (arith, few-cells _ _ c.requires.ready.ready)
 
 pub label_active-count-requires : goal.label_active-count-requires
 label_active-count-requires c =
-    let s = c.before.before.before.before.before.before.before.before.before.before.before.before.before.before.before.before in
-    let r = s.requires.ready in
-    let l = made c.before.before.before.before.before.before.before.before.before.before in (
+    let r = c.requires.ready in
+    let l = made (goal.at.label_active-count-requires c).After-next_layer-grown in (
       record {
         ready = r;
         gate = inl refl;
-        room = omega (arith, l.same, s.requires.room);
-        ordered = (layer-near (ready-lawful _ _ r) (ready-cells _ _ r) s.requires.front l).ordered;
-        last = turn-before (ready-lawful _ _ r) (ready-cells _ _ r) s.requires.front l _ (weighs c.before.before);
-        few = omega (arith, weighs c.before.before, short c.before.before.before.before.before.before.before);
-        set_in = set-in _ _ (few-cells _ _ r.ready) (omega (arith, l.same, s.requires.room));
+        room = omega (arith, l.same, c.requires.room);
+        ordered = (layer-near (ready-lawful _ _ r) (ready-cells _ _ r) c.requires.front l).ordered;
+        last = turn-before (ready-lawful _ _ r) (ready-cells _ _ r) c.requires.front l _ (weighs (goal.at.label_active-count-requires c).After-weight);
+        few = omega (arith, weighs (goal.at.label_active-count-requires c).After-weight, short (goal.at.label_active-count-requires c).Else-active-eq0);
+        set_in = set-in _ _ (few-cells _ _ r.ready) (omega (arith, l.same, c.requires.room));
         apart = set_apart _;
       },
       l.listed,
@@ -113,22 +105,21 @@ label_active-count-requires c =
 
 pub watch-watched-requires : goal.watch-watched-requires
 watch-watched-requires c =
-    let s = c.before.before.before.before.before.before.before.before.before.before.before.before.before.before.before.before.before.before.before.before in
-    let r = s.requires.ready in
-    let l = made c.before.before.before.before.before.before.before.before.before.before.before.before.before.before in
+    let r = c.requires.ready in
+    let l = made (goal.at.watch-watched-requires c).After-next_layer-grown in
     let added = c.label_active-count.ensures in
     record {
       few = few-cells _ _ r.ready;
       label = λ h.
-          let v = turn-watch (ready-lawful _ _ r) (ready-cells _ _ r) s.requires.front l _ (weighs c.before.before.before.before.before.before) added h in
+          let v = turn-watch (ready-lawful _ _ r) (ready-cells _ _ r) c.requires.front l _ (weighs (goal.at.watch-watched-requires c).After-weight) added h in
           record {
             ready = r;
-            gate = inr (refl, omega (arith, s.requires.side_in));
-            room = omega (arith, added.same, l.same, s.requires.room);
+            gate = inr (refl, omega (arith, c.requires.side_in));
+            room = omega (arith, added.same, l.same, c.requires.room);
             ordered = v.0;
             last = v.1;
-            few = omega (arith, weighs c.before.before.before.before.before.before, short c.before.before.before.before.before.before.before.before.before.before.before);
-            set_in = exits-in _ _ (few-cells _ _ r.ready) (omega (arith, added.same, l.same, s.requires.watch_in h));
+            few = omega (arith, weighs (goal.at.watch-watched-requires c).After-weight, short (goal.at.watch-watched-requires c).Else-active-eq0);
+            set_in = exits-in _ _ (few-cells _ _ r.ready) (omega (arith, added.same, l.same, c.requires.watch_in h));
             apart = exits-apart _;
           };
       listed = listed_kept l.listed _ (λ i h. added.high _ (omega arith)) (λ i h. added.high _ (omega arith));
@@ -136,10 +127,9 @@ watch-watched-requires c =
 
 pub returns : goal.returns
 returns c =
-    let s = c.before.before.before.before.before.before.before.before.before.before.before.before.before.before.before.before.before.before.before.before.before.before.before in
-    let r = s.requires.ready in
-    let net = s.args.net in
-    let marks = s.args.plan.now in
-    turn-grown (ready-lawful _ _ r) (ready-cells _ _ r) s.requires.front (made c.before.before.before.before.before.before.before.before.before.before.before.before.before.before.before.before.before) _ (weighs c.before.before.before.before.before.before.before.before.before) (omega (arith, c.if-active-eq0.false))
+    let r = c.requires.ready in
+    let net = c.args.net in
+    let marks = c.args.plan.now in
+    turn-grown (ready-lawful _ _ r) (ready-cells _ _ r) c.requires.front (made (goal.at.returns c).After-next_layer-grown) _ (weighs (goal.at.returns c).After-weight) (omega (arith, c.if-active-eq0.false))
     (λ e. rw (net-start-delay net marks, net-sink net marks, net-start-load net marks) (c.at_sink.ensures.not_yet c.if-at_sink.false e (length marks) r.ready.sink))
     c.label_active-count.ensures c.watch-watched.ensures

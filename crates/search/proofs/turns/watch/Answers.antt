@@ -16,7 +16,7 @@ pub overflow_mul-set : goal.overflow_mul-set
 overflow_mul-set c = omega (arith, c.requires.few)
 
 pub label_active-requires : goal.label_active-requires
-label_active-requires c = let p = c.requires in (p.label (past c.before), p.listed)
+label_active-requires c = let p = c.requires in (p.label (past (goal.at.label_active-requires c).Else-side-eq0), p.listed)
 
 pub returns : goal.returns
 returns c =
@@ -25,6 +25,6 @@ returns c =
       same = a.same;
       low = a.low;
       high = λ k h. a.high k (omega arith);
-      none = λ e k. absurd (omega (arith, past c.before.before.before.before));
+      none = λ e k. absurd (omega (arith, past (goal.at.returns c).Else-side-eq0));
       added = λ h. a;
     }

@@ -14,12 +14,12 @@ done : (c : Then-is_done) → is_done (open_answer c.args.width c.args.height c.
 done c = sym (ap is_done c.open_answer-answer.ensures) ∙ (sym c.is_done.ensures ∙ c.if-is_done.true)
 
 pub clear_journal-requires : goal.clear_journal-requires
-clear_journal-requires c = (open_done _ _ _ _ (done-is _ (done c.before))).space
+clear_journal-requires c = (open_done _ _ _ _ (done-is _ (done (goal.at.clear_journal-requires c).Then-is_done))).space
 
 pub returns-then-is_done : goal.returns-then-is_done
 unfolding opened effect
 returns-then-is_done c =
-    let d = done c.before.before.before.before in
+    let d = done (goal.at.returns-then-is_done c).Then-is_done in
     record { answer = c.open_answer-answer.ensures; session = rw d; marks = rw d; journal = rw d c.clear_journal.ensures }
 
 pub returns : goal.returns

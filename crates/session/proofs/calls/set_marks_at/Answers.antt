@@ -21,22 +21,22 @@ movable c = move-done _ _ _ _ _ (done-is _ (done c))
 
 pub bounds-plan-cell : goal.bounds-plan-cell
 unfolding cells
-bounds-plan-cell c = let m = movable c.before in omega (arith, m.inside, (valid-sized _ m.intact.openable.valid).full)
+bounds-plan-cell c = let m = movable (goal.at.bounds-plan-cell c).Then-is_done in omega (arith, m.inside, (valid-sized _ m.intact.openable.valid).full)
 
 pub bounds-plan-cell-then-is_done : goal.bounds-plan-cell-then-is_done
 unfolding cells
-bounds-plan-cell-then-is_done c = let m = movable c.before in omega (arith, m.inside, (valid-sized _ m.intact.openable.valid).full)
+bounds-plan-cell-then-is_done c = let m = movable (goal.at.bounds-plan-cell-then-is_done c).Then-is_done in omega (arith, m.inside, (valid-sized _ m.intact.openable.valid).full)
 
 pub write_entry-requires : goal.write_entry-requires
-write_entry-requires c = let m = movable c.before.before.before in omega (arith, m.space, m.intact.openable.space)
+write_entry-requires c = let m = movable (goal.at.write_entry-requires c).Then-is_done in omega (arith, m.space, m.intact.openable.space)
 
 pub overflow_add-result : goal.overflow_add-result
-overflow_add-result c = let m = movable c.before.before.before.before.before.before.before in omega (arith, m.space)
+overflow_add-result c = let m = movable (goal.at.overflow_add-result c).Then-is_done in omega (arith, m.space)
 
 pub returns-then-is_done : goal.returns-then-is_done
 unfolding moved effect with_move move_entry
 returns-then-is_done c =
-    let d = done c.before.before.before.before.before.before.before in
+    let d = done (goal.at.returns-then-is_done c).Then-is_done in
     record { answer = c.move_answer-answer.ensures; session = rw d; marks = rw d; journal = rw d c.write_entry.ensures }
 
 pub returns : goal.returns

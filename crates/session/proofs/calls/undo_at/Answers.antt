@@ -19,25 +19,25 @@ undoable : (c : Then-is_done) → Undoable c.args.s c.args.plan.now c.args.journ
 undoable c = undo-done _ _ _ (done-is _ (done c))
 
 pub overflow_sub-at : goal.overflow_sub-at
-overflow_sub-at c = let u = undoable c.before in omega (arith, u.some)
+overflow_sub-at c = let u = undoable (goal.at.overflow_sub-at c).Then-is_done in omega (arith, u.some)
 
 pub read_entry-entry-requires : goal.read_entry-entry-requires
-read_entry-entry-requires c = let u = undoable c.before.before in omega (arith, u.some, u.intact.deep, u.intact.openable.space)
+read_entry-entry-requires c = let u = undoable (goal.at.read_entry-entry-requires c).Then-is_done in omega (arith, u.some, u.intact.deep, u.intact.openable.space)
 
 pub bounds-plan-cell : goal.bounds-plan-cell
 unfolding cells newest_at
 bounds-plan-cell c =
-    let u = undoable c.before.before.before.before in
+    let u = undoable (goal.at.bounds-plan-cell c).Then-is_done in
     let inside = rw (← c.read_entry-entry.ensures) at u.newest.inside in
     omega (arith, inside, (valid-sized _ u.intact.openable.valid).full)
 
 pub write_entry-requires : goal.write_entry-requires
-write_entry-requires c = let u = undoable c.before.before.before.before.before in omega (arith, u.some, u.intact.deep, u.intact.openable.space)
+write_entry-requires c = let u = undoable (goal.at.write_entry-requires c).Then-is_done in omega (arith, u.some, u.intact.deep, u.intact.openable.space)
 
 pub returns-then-is_done : goal.returns-then-is_done
 unfolding undone effect with_undo newest_at
 returns-then-is_done c =
-    let d = done c.before.before.before.before.before.before.before.before.before in
+    let d = done (goal.at.returns-then-is_done c).Then-is_done in
     record {
       answer = c.undo_answer-answer.ensures;
       session = rw d;

@@ -22,26 +22,26 @@ intact c = session-done _ _ _ (sym c.session_answer-intact.ensures ∙ done-is _
 
 pub overflow_mul-s : goal.overflow_mul-s
 unfolding cells
-overflow_mul-s c = omega (arith, cells-most _ (valid-sized _ (intact c.before).openable.valid))
+overflow_mul-s c = omega (arith, cells-most _ (valid-sized _ (intact (goal.at.overflow_mul-s c).Then-is_done).openable.valid))
 
 pub returns-then-s-cell : goal.returns-then-s-cell
 unfolding move_answer
-returns-then-s-cell c = rw (← c.session_answer-intact.ensures, after-done _ _ (done c.before.before), le-leb (c.args.s.width * c.args.s.height) c.args.cell (omega arith))
+returns-then-s-cell c = rw (← c.session_answer-intact.ensures, after-done _ _ (done (goal.at.returns-then-s-cell c).Then-is_done), le-leb (c.args.s.width * c.args.s.height) c.args.cell (omega arith))
 
 pub invalid_mark-requires : goal.invalid_mark-requires
-invalid_mark-requires c = (valid-sized _ (intact c.before.before).openable.valid).wide
+invalid_mark-requires c = (valid-sized _ (intact (goal.at.invalid_mark-requires c).Then-is_done).openable.valid).wide
 
 pub returns-then-invalid_mark : goal.returns-then-invalid_mark
 unfolding move_answer
-returns-then-invalid_mark c = rw (← c.session_answer-intact.ensures, after-done _ _ (done c.before.before.before.before), lt-leb _ _ c.if-s-cell.false, sym c.invalid_mark.ensures ∙ c.if-invalid_mark.true)
+returns-then-invalid_mark c = rw (← c.session_answer-intact.ensures, after-done _ _ (done (goal.at.returns-then-invalid_mark c).Then-is_done), lt-leb _ _ c.if-s-cell.false, sym c.invalid_mark.ensures ∙ c.if-invalid_mark.true)
 
 pub returns-then-s-ge-DEPTH_MAX : goal.returns-then-s-ge-DEPTH_MAX
 unfolding move_answer
-returns-then-s-ge-DEPTH_MAX c = rw (← c.session_answer-intact.ensures, after-done _ _ (done c.before.before.before.before.before.before), lt-leb _ _ c.if-s-cell.false, sym c.invalid_mark.ensures ∙ c.if-invalid_mark.false, le-leb depth_max c.args.s.depth (omega arith))
+returns-then-s-ge-DEPTH_MAX c = rw (← c.session_answer-intact.ensures, after-done _ _ (done (goal.at.returns-then-s-ge-DEPTH_MAX c).Then-is_done), lt-leb _ _ c.if-s-cell.false, sym c.invalid_mark.ensures ∙ c.if-invalid_mark.false, le-leb depth_max c.args.s.depth (omega arith))
 
 pub returns-else-s-ge-DEPTH_MAX : goal.returns-else-s-ge-DEPTH_MAX
 unfolding move_answer
-returns-else-s-ge-DEPTH_MAX c = rw (← c.session_answer-intact.ensures, after-done _ _ (done c.before.before.before.before.before.before), lt-leb _ _ c.if-s-cell.false, sym c.invalid_mark.ensures ∙ c.if-invalid_mark.false, lt-leb depth_max c.args.s.depth (omega arith)) (done-is _ (done c.before.before.before.before.before.before))
+returns-else-s-ge-DEPTH_MAX c = rw (← c.session_answer-intact.ensures, after-done _ _ (done (goal.at.returns-else-s-ge-DEPTH_MAX c).Then-is_done), lt-leb _ _ c.if-s-cell.false, sym c.invalid_mark.ensures ∙ c.if-invalid_mark.false, lt-leb depth_max c.args.s.depth (omega arith)) (done-is _ (done (goal.at.returns-else-s-ge-DEPTH_MAX c).Then-is_done))
 
 pub returns-else-is_done : goal.returns-else-is_done
 unfolding move_answer

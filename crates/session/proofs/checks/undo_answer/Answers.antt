@@ -20,21 +20,21 @@ intact c = session-done _ _ _ (sym c.session_answer-intact.ensures ∙ done-is _
 
 pub returns-then-s-eq0 : goal.returns-then-s-eq0
 unfolding undo_answer
-returns-then-s-eq0 c = rw (← c.session_answer-intact.ensures, after-done _ _ (done c.before.before), eq-eqb _ _ c.if-s-eq0.true)
+returns-then-s-eq0 c = rw (← c.session_answer-intact.ensures, after-done _ _ (done (goal.at.returns-then-s-eq0 c).Then-is_done), eq-eqb _ _ c.if-s-eq0.true)
 
 pub read_entry-entry-requires : goal.read_entry-entry-requires
-read_entry-entry-requires c = let i = intact c.before.before.before in omega (arith, i.deep, i.openable.space)
+read_entry-entry-requires c = let i = intact (goal.at.read_entry-entry-requires c).Then-is_done in omega (arith, i.deep, i.openable.space)
 
 pub is_corrupt-requires : goal.is_corrupt-requires
-is_corrupt-requires c = valid-sized _ (intact c.before.before.before.before).openable.valid
+is_corrupt-requires c = valid-sized _ (intact (goal.at.is_corrupt-requires c).Then-is_done).openable.valid
 
 pub returns-then-is_corrupt : goal.returns-then-is_corrupt
 unfolding undo_answer newest_at
-returns-then-is_corrupt c = rw (← c.session_answer-intact.ensures, after-done _ _ (done c.before.before.before.before.before.before), ne_eqb _ _ c.if-s-eq0.false, ← c.read_entry-entry.ensures, sym c.is_corrupt.ensures ∙ c.if-is_corrupt.true)
+returns-then-is_corrupt c = rw (← c.session_answer-intact.ensures, after-done _ _ (done (goal.at.returns-then-is_corrupt c).Then-is_done), ne_eqb _ _ c.if-s-eq0.false, ← c.read_entry-entry.ensures, sym c.is_corrupt.ensures ∙ c.if-is_corrupt.true)
 
 pub returns-else-is_corrupt : goal.returns-else-is_corrupt
 unfolding undo_answer newest_at
-returns-else-is_corrupt c = rw (← c.session_answer-intact.ensures, after-done _ _ (done c.before.before.before.before.before.before), ne_eqb _ _ c.if-s-eq0.false, ← c.read_entry-entry.ensures, sym c.is_corrupt.ensures ∙ c.if-is_corrupt.false) (done-is _ (done c.before.before.before.before.before.before))
+returns-else-is_corrupt c = rw (← c.session_answer-intact.ensures, after-done _ _ (done (goal.at.returns-else-is_corrupt c).Then-is_done), ne_eqb _ _ c.if-s-eq0.false, ← c.read_entry-entry.ensures, sym c.is_corrupt.ensures ∙ c.if-is_corrupt.false) (done-is _ (done (goal.at.returns-else-is_corrupt c).Then-is_done))
 
 pub returns-else-is_done : goal.returns-else-is_done
 unfolding undo_answer

@@ -15,14 +15,13 @@ use Rattle.spans.proofs.arrivals.arrive.Goals as goal
 use Rattle.spans.proofs.arrivals.arrive.Goals.{Joined-cell-p, Joined-takes_buffers}
 
 -- passed and driven
-through : (c : Joined-takes_buffers) → let start = c.before.before.before.before.before.before.before.before.before.before.before.before.before in let a = start.args in Through a.p a.plan.now a.period a.scratch-1.now a.count a.cell a.load.0 a.delay.0 start.requires c.if-takes_buffers.scratch c.if-takes_buffers.waiting
+through : (c : Joined-takes_buffers) → let a = c.args in Through a.p a.plan.now a.period a.scratch-1.now a.count a.cell a.load.0 a.delay.0 c.requires c.if-takes_buffers.scratch c.if-takes_buffers.waiting
 through c =
-    let start = c.before.before.before.before.before.before.before.before.before.before.before.before.before in
-    let a = start.args in
+    let a = c.args in
     let eased = c.ease-waiting.ensures in
     ⊎_elim
-    (λ w. rw (w.5, w.6) (through-buffers a.p a.plan.now a.period a.scratch-1.now a.count a.cell a.load.0 a.delay.0 start.requires _ _ eased _ _ w.2.ensures))
-    (λ w. rw (w.1, w.2) (through-none a.p a.plan.now a.period a.scratch-1.now a.count a.cell a.load.0 a.delay.0 start.requires _ _ eased (sym c.takes_buffers.ensures ∙ w.0.left)))
+    (λ w. rw (w.5, w.6) (through-buffers a.p a.plan.now a.period a.scratch-1.now a.count a.cell a.load.0 a.delay.0 c.requires _ _ eased _ _ w.2.ensures))
+    (λ w. rw (w.1, w.2) (through-none a.p a.plan.now a.period a.scratch-1.now a.count a.cell a.load.0 a.delay.0 c.requires _ _ eased (sym c.takes_buffers.ensures ∙ w.0.left)))
     c.if-takes_buffers.branch
 
 closes : (c : Joined-cell-p) → let a = c.args in MayClose (rules_for a.p a.plan.now) a.cell
@@ -35,46 +34,40 @@ closes c =
 
 pub ease-waiting-requires : goal.ease-waiting-requires
 ease-waiting-requires c =
-    let start = c.before.before.before.before.before.before.before in
-    let g = start.requires.ground in
-    (ground-space _ _ g, (g.queue, (g.falling, (start.requires.inside, (start.requires.light, limit-row _ _ g)))))
+    let g = c.requires.ground in
+    (ground-space _ _ g, (g.queue, (g.falling, (c.requires.inside, (c.requires.light, limit-row _ _ g)))))
 
 pub ease_buffers-waiting-requires : goal.ease_buffers-waiting-requires
 ease_buffers-waiting-requires c =
-    let start = c.before.before.before.before.before.before.before.before.before.before.before.before.before.before in
-    let a = start.args in
-    (passed-asks a.p a.plan.now a.period a.scratch-1.now a.count a.cell a.load.0 a.delay.0 start.requires _ _ c.ease-waiting.ensures, sym c.takes_buffers.ensures ∙ c.if-takes_buffers.true)
+    let a = c.args in
+    (passed-asks a.p a.plan.now a.period a.scratch-1.now a.count a.cell a.load.0 a.delay.0 c.requires _ _ c.ease-waiting.ensures, sym c.takes_buffers.ensures ∙ c.if-takes_buffers.true)
 
 pub may_register-requires : goal.may_register-requires
 may_register-requires c = (c.requires.ground.ready, c.requires.inside)
 
 pub shape_of-scratch-then-not-may_register : goal.shape_of-scratch-then-not-may_register
-shape_of-scratch-then-not-may_register c = (through c.before.before.before.before).eases.same
+shape_of-scratch-then-not-may_register c = (through (goal.at.shape_of-scratch-then-not-may_register c).Joined-takes_buffers).eases.same
 
 pub returns-then-not-may_register : goal.returns-then-not-may_register
 returns-then-not-may_register c =
-    let start = c.before.before.before.before.before.before.before.before.before.before.before.before.before.before.before.before.before in
-    let a = start.args in
+    let a = c.args in
     let may = may_stand (rules_for a.p a.plan.now) a.cell register_code in
-    arrived-open a.p a.plan.now a.period a.scratch-1.now a.count a.cell a.load.0 a.delay.0 start.requires _ _ (through c.before.before.before.before) (⊎_elim (λ e. c.if-cell-p.true (e ∙ source-named a.p a.plan.now)) (λ t. T_not may (of-false may (sym c.may_register.ensures ∙ not-true _ c.if-not-may_register.true-raw)) t))
+    arrived-open a.p a.plan.now a.period a.scratch-1.now a.count a.cell a.load.0 a.delay.0 c.requires _ _ (through (goal.at.returns-then-not-may_register c).Joined-takes_buffers) (⊎_elim (λ e. c.if-cell-p.true (e ∙ source-named a.p a.plan.now)) (λ t. T_not may (of-false may (sym c.may_register.ensures ∙ not-true _ c.if-not-may_register.true-raw)) t))
 
 pub closing-closing-requires : goal.closing-closing-requires
 closing-closing-requires c =
-    let start = c.before.before.before.before.before.before.before.before.before.before.before.before.before.before.before.before in
-    let v = start.requires.ground.ready.valid in
-    (v.register-1, (omega (arith, v.skew), (omega (arith, start.requires.light, v.limit), omega (arith, start.requires.early))))
+    let v = c.requires.ground.ready.valid in
+    (v.register-1, (omega (arith, v.skew), (omega (arith, c.requires.light, v.limit), omega (arith, c.requires.early))))
 
 pub shut-requires : goal.shut-requires
 shut-requires c =
-    let start = c.before.before.before.before.before.before.before.before.before.before.before.before.before.before.before.before.before.before in
-    let a = start.args in
-    rw c.closing-closing.ensures (shut-asks a.p a.plan.now a.period a.scratch-1.now a.count a.cell a.load.0 a.delay.0 start.requires _ _ (through c.before.before.before.before.before) (closes c.before.before.before))
+    let a = c.args in
+    rw c.closing-closing.ensures (shut-asks a.p a.plan.now a.period a.scratch-1.now a.count a.cell a.load.0 a.delay.0 c.requires _ _ (through (goal.at.shut-requires c).Joined-takes_buffers) (closes (goal.at.shut-requires c).Joined-cell-p))
 
 pub shape_of-scratch : goal.shape_of-scratch
-shape_of-scratch c = c.shut.ensures.0.same ∙ (through c.before.before.before.before.before.before.before.before).eases.same
+shape_of-scratch c = c.shut.ensures.0.same ∙ (through (goal.at.shape_of-scratch c).Joined-takes_buffers).eases.same
 
 pub returns : goal.returns
 returns c =
-    let start = c.before.before.before.before.before.before.before.before.before.before.before.before.before.before.before.before.before.before.before.before.before in
-    let a = start.args in
-    arrived-shut a.p a.plan.now a.period a.scratch-1.now a.count a.cell a.load.0 a.delay.0 start.requires _ _ (through c.before.before.before.before.before.before.before.before) _ _ (rw c.closing-closing.ensures at c.shut.ensures)
+    let a = c.args in
+    arrived-shut a.p a.plan.now a.period a.scratch-1.now a.count a.cell a.load.0 a.delay.0 c.requires _ _ (through (goal.at.returns c).Joined-takes_buffers) _ _ (rw c.closing-closing.ensures at c.shut.ensures)

@@ -24,18 +24,16 @@ loop-i-init c = (omega arith, λ p e asks takes. driven-none p _ _ _ _ _ _ _ ask
 pub after-after-requires : goal.after-after-requires
 unfolding buffer_at buffer_of driver_of
 after-after-requires c =
-    let start = c.before.before.before.before.before.before.before.before.before in
-    let driver : c.driver.result ≡ buffer_driver (buffer_at start.args.p.elements c.loop-i.i) = c.driver.ensures in
-    let g = start.requires.0.ground in
-    (rw driver (buffer-driver-fits g.ready.valid _ (omega (arith, g.ready.valid.count))), (omega (arith, start.requires.0.light, g.ready.valid.limit), omega (arith, start.requires.0.early)))
+    let driver : c.driver.result ≡ buffer_driver (buffer_at c.args.p.elements c.loop-i.i) = c.driver.ensures in
+    let g = c.requires.0.ground in
+    (rw driver (buffer-driver-fits g.ready.valid _ (omega (arith, g.ready.valid.count))), (omega (arith, c.requires.0.light, g.ready.valid.limit), omega (arith, c.requires.0.early)))
 
 pub ease-waiting-requires : goal.ease-waiting-requires
 ease-waiting-requires c =
-    let start = c.before.before.before.before.before.before.before.before.before.before.before.before.before in
     let loop = c.loop-i in
-    let a = start.args in
-    let g = driven-ground a.p a.plan.now a.period a.scratch-1.now a.count a.cell a.load-own.0 a.delay.0 start.requires.0 loop.scratch-1 loop.waiting loop.i (loop.invariant.1 a.p refl start.requires.0 start.requires.1) in
-    (ground-space _ _ g, (g.queue, (g.falling, (start.requires.0.inside, (omega (arith, c.if-own-limit.true), limit-row _ _ g)))))
+    let a = c.args in
+    let g = driven-ground a.p a.plan.now a.period a.scratch-1.now a.count a.cell a.load-own.0 a.delay.0 c.requires.0 loop.scratch-1 loop.waiting loop.i (loop.invariant.1 a.p refl c.requires.0 c.requires.1) in
+    (ground-space _ _ g, (g.queue, (g.falling, (c.requires.0.inside, (omega (arith, c.if-own-limit.true), limit-row _ _ g)))))
 
 -- one buffer more, of the loop's elements
 module _ (p : Problem) (marks : List ℕ) (t : ℕ) (old : List ℕ) (count cell load delay : ℕ) (asks : ArriveAsks p marks t old count cell load delay) (takes : takes_buffers (get_or marks cell 0) p cell ≡ true) (e : Elements) (same : p.elements-1 ≡ e) (words : List ℕ) (waiting i : ℕ) (d : Driven p marks t old count cell load delay asks words waiting i) (own after : ℕ) (isOwn : own ≡ buffer_load (buffer_at e i)) (isAfter : after ≡ delay + gate_delay (buffer_driver (buffer_at e i)) load) where
@@ -58,9 +56,8 @@ module _ (p : Problem) (marks : List ℕ) (t : ℕ) (old : List ℕ) (count cell
 pub loop-i-preserved : goal.loop-i-preserved
 unfolding buffer_at buffer_of driver_of
 loop-i-preserved c =
-    let start = c.before.before.before.before.before.before.before.before.before.before.before in
     let loop = c.loop-i in
-    let a = start.args in
+    let a = c.args in
     let e = a.p.elements in
     let own : c.load-own.result.0 ≡ buffer_load (buffer_at e loop.i) = c.load-own.ensures in
     let driver : c.driver.result ≡ buffer_driver (buffer_at e loop.i) = c.driver.ensures in
@@ -78,13 +75,11 @@ loop-i-preserved c =
 
 pub shape_of-scratch : goal.shape_of-scratch
 shape_of-scratch c =
-    let start = c.before.before.before.before.before in
-    (c.loop-i.invariant.1 start.args.p refl start.requires.0 start.requires.1).eases.same
+    (c.loop-i.invariant.1 c.args.p refl c.requires.0 c.requires.1).eases.same
 
 pub returns : goal.returns
 returns c =
-    let start = c.before.before.before.before.before in
     let loop = c.loop-i in
-    let d = loop.invariant.1 start.args.p refl start.requires.0 start.requires.1 in
-    let end : loop.i ≡ start.args.p.elements.count = omega arith in
+    let d = loop.invariant.1 c.args.p refl c.requires.0 c.requires.1 in
+    let end : loop.i ≡ c.args.p.elements.count = omega arith in
     (d.eases, rw end at d.done)

@@ -15,8 +15,7 @@ overflow_cast-delay c = omega (arith, setup-most c.requires.valid.register)
 
 pub ease-requires : goal.ease-requires
 ease-requires c =
-    let start = c.before.before.before.before.before.before.before.before.before in
-    (start.requires.space, (start.requires.queue, (start.requires.falling, (start.requires.inside, (omega (arith, start.requires.light, c.load-load.ensures), omega (arith, start.requires.valid.limit))))))
+    (c.requires.space, (c.requires.queue, (c.requires.falling, (c.requires.inside, (omega (arith, c.requires.light, c.load-load.ensures), omega (arith, c.requires.valid.limit))))))
 
 pub returns : goal.returns
 returns c =

@@ -26,61 +26,52 @@ near c = c.neighbours_of-near.ensures.is
 
 after2 : (c : After-step-b) → let a = c.args in Eases a.p a.plan.now a.period a.scratch-1.now a.count c.step-b.new.1.0 c.step-b.result
 after2 c =
-    let start = c.before.before.before.before.before.before.before.before.before.before.before.before in
-    let a = start.args in
-    spread-more a.p a.plan.now a.period a.scratch-1.now a.count a.state start.requires _ _ _ _ _ c.step-a.ensures.0 c.step-b.ensures
+    let a = c.args in
+    spread-more a.p a.plan.now a.period a.scratch-1.now a.count a.state c.requires _ _ _ _ _ c.step-a.ensures.0 c.step-b.ensures
 
 after3 : (c : After-step-c) → let a = c.args in Eases a.p a.plan.now a.period a.scratch-1.now a.count c.step-c.new.1.0 c.step-c.result
 after3 c =
-    let start = c.before.before.before.before.before.before.before.before.before.before.before.before.before.before.before.before in
-    let a = start.args in
-    spread-more a.p a.plan.now a.period a.scratch-1.now a.count a.state start.requires _ _ _ _ _ (after2 c.before.before.before.before) c.step-c.ensures
+    let a = c.args in
+    spread-more a.p a.plan.now a.period a.scratch-1.now a.count a.state c.requires _ _ _ _ _ (after2 (goal.at.After-step-c c).After-step-b) c.step-c.ensures
 
 pub returns-then-scratch-state : goal.returns-then-scratch-state
 returns-then-scratch-state c =
-    let start = c.before.before.before.before.before.before in
-    let a = start.args in
-    spread-idle a.p a.plan.now a.period a.scratch-1.now a.count a.state start.requires c.if-load-gt0.true c.if-scratch-state.true
+    let a = c.args in
+    spread-idle a.p a.plan.now a.period a.scratch-1.now a.count a.state c.requires c.if-load-gt0.true c.if-scratch-state.true
 
 pub neighbours_of-near-requires : goal.neighbours_of-near-requires
 unfolding plan_for
 neighbours_of-near-requires c =
-    let start = c.before.before.before.before in
-    (start.requires.ground.ready.sized, omega (arith, start.requires.inside, cells-product _ _ start.requires.ground.ready))
+    (c.requires.ground.ready.sized, omega (arith, c.requires.inside, cells-product _ _ c.requires.ground.ready))
 
 pub overflow_cast-d : goal.overflow_cast-d
-overflow_cast-d c = omega (arith, small c.before.before.before.before)
+overflow_cast-d c = omega (arith, small (goal.at.overflow_cast-d c).After-slice_known-1)
 
 pub step-a-requires : goal.step-a-requires
 step-a-requires c =
-    let start = c.before.before.before.before.before.before.before in
-    let a = start.args in
-    rw (near c.before.before) (up-asks a.p a.plan.now a.period a.scratch-1.now a.count a.state start.requires (small c.before.before.before.before.before) _ _ (eases-self a.p a.plan.now a.period a.scratch-1.now a.count start.requires.ground))
+    let a = c.args in
+    rw (near (goal.at.step-a-requires c).After-neighbours_of-near) (up-asks a.p a.plan.now a.period a.scratch-1.now a.count a.state c.requires (small (goal.at.step-a-requires c).After-slice_known-1) _ _ (eases-self a.p a.plan.now a.period a.scratch-1.now a.count c.requires.ground))
 
 pub step-b-requires : goal.step-b-requires
 step-b-requires c =
-    let start = c.before.before.before.before.before.before.before.before.before.before.before in
-    let a = start.args in
-    rw (near c.before.before.before.before.before.before) (left-asks a.p a.plan.now a.period a.scratch-1.now a.count a.state start.requires (small c.before.before.before.before.before.before.before.before.before) _ _ c.step-a.ensures.0)
+    let a = c.args in
+    rw (near (goal.at.step-b-requires c).After-neighbours_of-near) (left-asks a.p a.plan.now a.period a.scratch-1.now a.count a.state c.requires (small (goal.at.step-b-requires c).After-slice_known-1) _ _ c.step-a.ensures.0)
 
 pub step-c-requires : goal.step-c-requires
 step-c-requires c =
-    let start = c.before.before.before.before.before.before.before.before.before.before.before.before.before.before.before in
-    let a = start.args in
-    rw (near c.before.before.before.before.before.before.before.before.before.before) (right-asks a.p a.plan.now a.period a.scratch-1.now a.count a.state start.requires (small c.before.before.before.before.before.before.before.before.before.before.before.before.before) _ _ (after2 c.before.before.before))
+    let a = c.args in
+    rw (near (goal.at.step-c-requires c).After-neighbours_of-near) (right-asks a.p a.plan.now a.period a.scratch-1.now a.count a.state c.requires (small (goal.at.step-c-requires c).After-slice_known-1) _ _ (after2 (goal.at.step-c-requires c).After-step-b))
 
 pub step-requires : goal.step-requires
 step-requires c =
-    let start = c.before.before.before.before.before.before.before.before.before.before.before.before.before.before.before.before.before.before.before in
-    let a = start.args in
-    rw (near c.before.before.before.before.before.before.before.before.before.before.before.before.before.before) (down-asks a.p a.plan.now a.period a.scratch-1.now a.count a.state start.requires (small c.before.before.before.before.before.before.before.before.before.before.before.before.before.before.before.before.before) _ _ (after3 c.before.before.before))
+    let a = c.args in
+    rw (near (goal.at.step-requires c).After-neighbours_of-near) (down-asks a.p a.plan.now a.period a.scratch-1.now a.count a.state c.requires (small (goal.at.step-requires c).After-slice_known-1) _ _ (after3 (goal.at.step-requires c).After-step-c))
 
 pub shape_of-scratch : goal.shape_of-scratch
-shape_of-scratch c = c.step.ensures.0.same ∙ (after3 c.before.before.before.before.before.before).same
+shape_of-scratch c = c.step.ensures.0.same ∙ (after3 (goal.at.shape_of-scratch c).After-step-c).same
 
 pub returns : goal.returns
 returns c =
-    let start = c.before.before.before.before.before.before.before.before.before.before.before.before.before.before.before.before.before.before.before.before.before.before in
-    let a = start.args in
-    let is = near c.before.before.before.before.before.before.before.before.before.before.before.before.before.before.before.before.before in
-    spread-all a.p a.plan.now a.period a.scratch-1.now a.count a.state start.requires _ _ _ _ _ _ _ _ (rw is at c.step-a.ensures) (rw is at c.step-b.ensures) (rw is at c.step-c.ensures) (rw is at c.step.ensures)
+    let a = c.args in
+    let is = near (goal.at.returns c).After-neighbours_of-near in
+    spread-all a.p a.plan.now a.period a.scratch-1.now a.count a.state c.requires _ _ _ _ _ _ _ _ (rw is at c.step-a.ensures) (rw is at c.step-b.ensures) (rw is at c.step-c.ensures) (rw is at c.step.ensures)

@@ -29,50 +29,42 @@ heavy c = leb-false _ _ (sym c.at_most.ensures ∙ not-true _ c.if-not-at_most.t
 
 pub returns-then-to-plan : goal.returns-then-to-plan
 returns-then-to-plan c =
-    let start = c.before.before.before in
-    let a = start.args in
-    step-none a.p a.plan.now a.period a.scratch-1.now a.count a.cell a.load.0 a.delay.0 a.to a.wire start.requires c.if-to-plan.true
+    let a = c.args in
+    step-none a.p a.plan.now a.period a.scratch-1.now a.count a.cell a.load.0 a.delay.0 a.to a.wire c.requires c.if-to-plan.true
 
 pub plus-heavier-requires : goal.plus-heavier-requires
 unfolding wire_load
 plus-heavier-requires c =
-    let start = c.before.before.before.before in
-    (omega (arith, start.requires.light), omega (arith, c.load.ensures, start.requires.wire_fits.load))
+    (omega (arith, c.requires.light), omega (arith, c.load.ensures, c.requires.wire_fits.load))
 
 pub returns-then-not-at_most : goal.returns-then-not-at_most
 returns-then-not-at_most c =
-    let start = c.before.before.before.before.before.before.before in
-    let a = start.args in
-    step-heavy a.p a.plan.now a.period a.scratch-1.now a.count a.cell a.load.0 a.delay.0 a.to a.wire start.requires (omega (arith, loads c.before.before, heavy c))
+    let a = c.args in
+    step-heavy a.p a.plan.now a.period a.scratch-1.now a.count a.cell a.load.0 a.delay.0 a.to a.wire c.requires (omega (arith, loads (goal.at.returns-then-not-at_most c).After-plus-heavier, heavy c))
 
 pub delay-requires : goal.delay-requires
 delay-requires c =
-    let start = c.before.before.before.before.before.before.before in
-    (start.requires.wire_fits, omega (arith, start.requires.light))
+    (c.requires.wire_fits, omega (arith, c.requires.light))
 
 pub plus-later-requires : goal.plus-later-requires
 plus-later-requires c =
-    let start = c.before.before.before.before.before.before.before.before in
-    let a = start.args in
-    omega (arith, c.delay.ensures, start.requires.small, wire-delay-max a.wire a.load.0 start.requires.wire_fits (omega (arith, start.requires.light)))
+    let a = c.args in
+    omega (arith, c.delay.ensures, c.requires.small, wire-delay-max a.wire a.load.0 c.requires.wire_fits (omega (arith, c.requires.light)))
 
 pub returns-then-later-gt-LATEST : goal.returns-then-later-gt-LATEST
 returns-then-later-gt-LATEST c =
-    let start = c.before.before.before.before.before.before.before.before.before.before.before in
-    let a = start.args in
-    step-late a.p a.plan.now a.period a.scratch-1.now a.count a.cell a.load.0 a.delay.0 a.to a.wire start.requires (omega (arith, delays c.before.before, c.if-later-gt-LATEST.true))
+    let a = c.args in
+    step-late a.p a.plan.now a.period a.scratch-1.now a.count a.cell a.load.0 a.delay.0 a.to a.wire c.requires (omega (arith, delays (goal.at.returns-then-later-gt-LATEST c).After-plus-later, c.if-later-gt-LATEST.true))
 
 pub arrive-requires : goal.arrive-requires
 arrive-requires c =
-    let start = c.before.before.before.before.before.before.before.before.before.before.before.before in
-    let a = start.args in
-    step-asks a.p a.plan.now a.period a.scratch-1.now a.count a.cell a.load.0 a.delay.0 a.to a.wire start.requires (inside c.before.before.before.before.before.before.before.before.before) _ _ (loads c.before.before.before.before.before.before.before) (delays c.before.before.before) (light c.before.before.before.before.before) c.if-later-gt-LATEST.false
+    let a = c.args in
+    step-asks a.p a.plan.now a.period a.scratch-1.now a.count a.cell a.load.0 a.delay.0 a.to a.wire c.requires (inside (goal.at.arrive-requires c).Else-to-plan) _ _ (loads (goal.at.arrive-requires c).After-plus-heavier) (delays (goal.at.arrive-requires c).After-plus-later) (light (goal.at.arrive-requires c).Else-not-at_most) c.if-later-gt-LATEST.false
 
 pub shape_of-scratch : goal.shape_of-scratch
 shape_of-scratch c = c.arrive.ensures.0.same
 
 pub returns : goal.returns
 returns c =
-    let start = c.before.before.before.before.before.before.before.before.before.before.before.before.before.before.before in
-    let a = start.args in
-    step-done a.p a.plan.now a.period a.scratch-1.now a.count a.cell a.load.0 a.delay.0 a.to a.wire start.requires (inside c.before.before.before.before.before.before.before.before.before.before.before.before) _ _ (loads c.before.before.before.before.before.before.before.before.before.before) (delays c.before.before.before.before.before.before) (light c.before.before.before.before.before.before.before.before) c.if-later-gt-LATEST.false _ _ c.arrive.ensures
+    let a = c.args in
+    step-done a.p a.plan.now a.period a.scratch-1.now a.count a.cell a.load.0 a.delay.0 a.to a.wire c.requires (inside (goal.at.returns c).Else-to-plan) _ _ (loads (goal.at.returns c).After-plus-heavier) (delays (goal.at.returns c).After-plus-later) (light (goal.at.returns c).Else-not-at_most) c.if-later-gt-LATEST.false _ _ c.arrive.ensures

@@ -19,85 +19,77 @@ use Rattle.table.proofs.arrival.fill_arrival.Goals.{Joined-takes_buffers}
 
 pub copy_row-requires : goal.copy_row-requires
 copy_row-requires c =
-    let start = c.before.before.before in
-    (omega arith, (omega (arith, start.requires.inside), omega (arith, start.requires.inside, start.requires.room)))
+    (omega arith, (omega (arith, c.requires.inside), omega (arith, c.requires.inside, c.requires.room)))
 
 pub raise_buffers-requires : goal.raise_buffers-requires
 raise_buffers-requires c =
-    let start = c.before.before.before.before.before.before.before.before.before.before.before in
     record {
-      valid = start.requires.ready.ready.valid;
-      costed = start.requires.costed.buffers;
-      before = omega (arith, start.requires.inside);
-      inside = omega (arith, start.requires.inside, start.requires.room, c.copy_row.ensures.same);
+      valid = c.requires.ready.ready.valid;
+      costed = c.requires.costed.buffers;
+      before = omega (arith, c.requires.inside);
+      inside = omega (arith, c.requires.inside, c.requires.room, c.copy_row.ensures.same);
     }
 
 -- the row that the buffers leave
-mid : (c : Joined-takes_buffers) → let start = c.before.before.before.before.before.before.before.before.before.before in Filled (through start.args.net start.args.plan.now start.args.scratch.now start.args.cell start.requires.ready start.requires.inside) (length start.args.plan.now * arrival_at) row_words start.args.scratch.now c.if-takes_buffers.scratch
+mid : (c : Joined-takes_buffers) → Filled (through c.args.net c.args.plan.now c.args.scratch.now c.args.cell c.requires.ready c.requires.inside) (length c.args.plan.now * arrival_at) row_words c.args.scratch.now c.if-takes_buffers.scratch
 mid c =
-    let start = c.before.before.before.before.before.before.before.before.before.before in
-    let a = start.args in
+    let a = c.args in
     let to = length a.plan.now * arrival_at in
     let row = c.copy_row in
     let known = c.slice_known-1.given in
     let test : c.takes_buffers.result ≡ takes_buffers (get_or a.plan.now a.cell 0) a.net.problem a.cell = c.takes_buffers.ensures in
     let copy : Filled (limited a.scratch-1.now a.cell a.net.problem.elements.limit.0) to row_words a.scratch-1.now row.new.0 =
-    filled-as {F = copied a.scratch-1.now a.cell a.costs.now none_at} row.ensures _ (λ k h. copied-limited a.scratch-1.now a.cell a.costs.now none_at a.net.problem.elements.limit.0 start.requires.costed.none k h (omega (arith, known (a.cell * row_words + k)))) in
+    filled-as {F = copied a.scratch-1.now a.cell a.costs.now none_at} row.ensures _ (λ k h. copied-limited a.scratch-1.now a.cell a.costs.now none_at a.net.problem.elements.limit.0 c.requires.costed.none k h (omega (arith, known (a.cell * row_words + k)))) in
     ⊎_elim
     (λ w.
     let raise : Filled (raised_by_buffers row.new.0 a.cell to a.net.problem.elements a.net.problem.elements.count) to row_words row.new.0 w.2.last.0 = w.2.ensures in
-    rw w.5 (filled-as (filled-twice copy _ _ raise) _ (λ k h. raised-by-through a.net a.plan.now a.scratch-1.now a.cell start.requires.ready start.requires.inside _ to k (sym test ∙ w.0.taken) (λ j l. copy.low (a.cell * row_words + j) (omega (arith, start.requires.inside))) (copy.done k h))))
-    (λ w. rw w.1 (filled-as copy _ (λ k h. limited-through a.net a.plan.now a.scratch-1.now a.cell start.requires.ready start.requires.inside (sym test ∙ w.0.left) k)))
+    rw w.5 (filled-as (filled-twice copy _ _ raise) _ (λ k h. raised-by-through a.net a.plan.now a.scratch-1.now a.cell c.requires.ready c.requires.inside _ to k (sym test ∙ w.0.taken) (λ j l. copy.low (a.cell * row_words + j) (omega (arith, c.requires.inside))) (copy.done k h))))
+    (λ w. rw w.1 (filled-as copy _ (λ k h. limited-through a.net a.plan.now a.scratch-1.now a.cell c.requires.ready c.requires.inside (sym test ∙ w.0.left) k)))
     c.if-takes_buffers.branch
 
 pub raise_seed-requires : goal.raise_seed-requires
 raise_seed-requires c =
-    let start = c.before.before.before.before.before.before.before.before.before.before.before in (
+    (
       record {
-        mark_in = omega (arith, (mid c.before).same, start.requires.inside, start.requires.room);
-        row_in = omega (arith, (mid c.before).same, start.requires.inside, start.requires.room);
+        mark_in = omega (arith, (mid (goal.at.raise_seed-requires c).Joined-takes_buffers).same, c.requires.inside, c.requires.room);
+        row_in = omega (arith, (mid (goal.at.raise_seed-requires c).Joined-takes_buffers).same, c.requires.inside, c.requires.room);
         costs_in = omega arith;
       },
-      start.requires.ready.ready.valid.skew,
+      c.requires.ready.ready.valid.skew,
     )
 
 pub raise_seed-requires-2 : goal.raise_seed-requires-2
 raise_seed-requires-2 c =
-    let join = c.before.before.before.before.before in
-    let start = join.before.before.before.before.before.before.before.before.before.before in
     let first = c.raise_seed.ensures.same in (
       record {
-        mark_in = omega (arith, first, (mid join).same, start.requires.inside, start.requires.room);
-        row_in = omega (arith, first, (mid join).same, start.requires.inside, start.requires.room);
+        mark_in = omega (arith, first, (mid (goal.at.raise_seed-requires-2 c).Joined-takes_buffers).same, c.requires.inside, c.requires.room);
+        row_in = omega (arith, first, (mid (goal.at.raise_seed-requires-2 c).Joined-takes_buffers).same, c.requires.inside, c.requires.room);
         costs_in = omega arith;
       },
-      start.requires.ready.ready.valid.skew,
+      c.requires.ready.ready.valid.skew,
     )
 
 pub shape_of-scratch : goal.shape_of-scratch
 shape_of-scratch c =
     c.raise_seed-2.ensures.same
-    ∙ (c.raise_seed.ensures.same ∙ (mid c.before.before.before.before.before.before.before.before).same)
+    ∙ (c.raise_seed.ensures.same ∙ (mid (goal.at.shape_of-scratch c).Joined-takes_buffers).same)
 
 -- the seed mark is as it was
 mark : (c : Joined-takes_buffers) → let a = c.args in let k = length a.plan.now * seeds_at + a.cell in get_or c.if-takes_buffers.scratch k 0 ≡ get_or a.scratch-1.now k 0
 mark c =
-    let start = c.before.before.before.before.before.before.before.before.before.before in
-    (mid c).high (length start.args.plan.now * seeds_at + start.args.cell) (omega (arith, start.requires.inside))
+    (mid c).high (length c.args.plan.now * seeds_at + c.args.cell) (omega (arith, c.requires.inside))
 
 pub returns : goal.returns
 unfolding seed_of
 returns c =
-    let join = c.before.before.before.before.before.before.before.before in
-    let start = join.before.before.before.before.before.before.before.before.before.before in
-    let a = start.args in
+    let a = c.args in
     let n = length a.plan.now in
     let to = n * arrival_at in
     let at = n * seeds_at + a.cell in
     let past = c.raise_seed.new.0 in
-    let first : Filled (seeded (marks_seed (get_or join.if-takes_buffers.scratch at 0) register_code) join.if-takes_buffers.scratch to (a.top - 2 * a.net.problem.elements.skew) a.costs.now register_at) to row_words join.if-takes_buffers.scratch past = c.raise_seed.ensures in
+    let first : Filled (seeded (marks_seed (get_or c.if-takes_buffers.scratch at 0) register_code) c.if-takes_buffers.scratch to (a.top - 2 * a.net.problem.elements.skew) a.costs.now register_at) to row_words c.if-takes_buffers.scratch past = c.raise_seed.ensures in
     let second : Filled (seeded (marks_seed (get_or past at 0) fifo_code) past to (a.top - 2 * a.net.problem.elements.skew) a.costs.now fifo_at) to row_words past c.raise_seed-2.new.0 = c.raise_seed-2.ensures in
-    let still : get_or past at 0 ≡ get_or a.scratch-1.now at 0 = first.high at (omega (arith, start.requires.inside)) ∙ mark join in
-    filled-as (filled-twice (filled-twice (mid join) _ _ first) _ _ (rw still at second)) _
+    let still : get_or past at 0 ≡ get_or a.scratch-1.now at 0 = first.high at (omega (arith, c.requires.inside)) ∙ mark (goal.at.returns c).Joined-takes_buffers in
+    filled-as (filled-twice (filled-twice (mid (goal.at.returns c).Joined-takes_buffers) _ _ first) _ _ (rw still at second)) _
     (λ k h.
-    seeded-arrival a.net a.plan.now a.scratch-1.now a.cell start.requires.ready start.requires.inside a.top a.costs.now start.requires.costed (omega arith) join.if-takes_buffers.scratch past to k h ((mid join).done k h) ((rw (mark join) at first).done k h))
+    seeded-arrival a.net a.plan.now a.scratch-1.now a.cell c.requires.ready c.requires.inside a.top a.costs.now c.requires.costed (omega arith) c.if-takes_buffers.scratch past to k h ((mid (goal.at.returns c).Joined-takes_buffers).done k h) ((rw (mark (goal.at.returns c).Joined-takes_buffers) at first).done k h))

@@ -25,16 +25,14 @@ overflow_add-i c = omega (arith, c.requires.valid.count)
 
 pub raise_row-requires : goal.raise_row-requires
 raise_row-requires c =
-    let start = c.before.before.before.before.before.before.before.before.before.before in
     let loop = c.loop-i in
-    (omega (arith, start.requires.valid.count), omega (arith, loop.invariant.1.same))
+    (omega (arith, c.requires.valid.count), omega (arith, loop.invariant.1.same))
 
 pub loop-i-preserved : goal.loop-i-preserved
 unfolding buffer_at buffer_of driver_of buffer_driver
 loop-i-preserved c =
-    let start = c.before.before.before.before.before.before.before in
     let loop = c.loop-i in
-    let a = start.args in
+    let a = c.args in
     let b = buffer_at a.t4 loop.i in
     let load : c.load-load.result.0 ≡ buffer_load b = c.load-load.ensures in (
       omega arith,
@@ -43,7 +41,7 @@ loop-i-preserved c =
           let raise : Filled (raised loop.scratch-1 a.to w.2.result a.costs.now (buffers_at loop.i)) a.to row_words loop.scratch-1 w.4.last.0 = w.4.ensures in
           let top = loop.invariant.1.low (a.cell * row_words + buffer_load b) (omega arith) in
           let known = c.slice_known-1.given (a.cell * row_words + buffer_load b) in
-          rw w.7 (filled-as (filled-twice loop.invariant.1 _ _ (rw load at (rw w.2.ensures at raise))) _ (λ k h. raised-driven loop.scratch-1 a.to (get_or loop.scratch-1 (a.cell * row_words + buffer_load b) 0) a.costs.now (buffers_at loop.i) (buffer_driver b) a.t4.limit.0 (start.requires.costed loop.i (omega arith)) (omega (arith, top, known)) k h ∙ raised-by-more a.scratch-1.now a.cell a.to a.t4 loop.i k loop.scratch-1 (loop.invariant.1.done k h) top (omega (arith, load, w.0.taken)))))
+          rw w.7 (filled-as (filled-twice loop.invariant.1 _ _ (rw load at (rw w.2.ensures at raise))) _ (λ k h. raised-driven loop.scratch-1 a.to (get_or loop.scratch-1 (a.cell * row_words + buffer_load b) 0) a.costs.now (buffers_at loop.i) (buffer_driver b) a.t4.limit.0 (c.requires.costed loop.i (omega arith)) (omega (arith, top, known)) k h ∙ raised-by-more a.scratch-1.now a.cell a.to a.t4 loop.i k loop.scratch-1 (loop.invariant.1.done k h) top (omega (arith, load, w.0.taken)))))
           (λ w. rw w.1 (filled-as loop.invariant.1 _ (λ k h. raised-by-past a.scratch-1.now a.cell a.to a.t4 loop.i k (omega (arith, load, w.0.left)))))
           c.if-load-limit.branch),
     )

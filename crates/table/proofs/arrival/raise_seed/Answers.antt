@@ -10,14 +10,11 @@ use Rattle.table.proofs.arrival.raise_seed.Goals as goal
 pub returns-then-marks_seed : goal.returns-then-marks_seed
 unfolding seeded
 returns-then-marks_seed c =
-    let here = c.before.before.before.before.before in
-    let start = here.before.before.before.before in
-    let test : marks_seed (get_or start.args.scratch.now start.args.mark 0) start.args.code ≡ true = sym here.marks_seed.ensures ∙ here.if-marks_seed.true in
+    let test : marks_seed (get_or c.args.scratch.now c.args.mark 0) c.args.code ≡ true = sym c.marks_seed.ensures ∙ c.if-marks_seed.true in
     filled-as c.raise_row.ensures _ (λ k h. simp (test, c.above-rest.ensures))
 
 pub returns-else-marks_seed : goal.returns-else-marks_seed
 unfolding seeded
 returns-else-marks_seed c =
-    let start = c.before.before.before.before in
-    let test : marks_seed (get_or start.args.scratch.now start.args.mark 0) start.args.code ≡ false = sym c.marks_seed.ensures ∙ c.if-marks_seed.false in
+    let test : marks_seed (get_or c.args.scratch.now c.args.mark 0) c.args.code ≡ false = sym c.marks_seed.ensures ∙ c.if-marks_seed.false in
     record { same = refl; done = λ k h. simp test; low = λ k h. refl; high = λ k h. refl }

@@ -26,8 +26,7 @@ overflow_cast-cell c = omega (arith, c.slice_known-1.given (c.args.n * active_at
 -- the cell read
 inside : (c : After-slice_known-1) → get_or c.loop-i.scratch (c.args.n * active_at + c.loop-i.i) 0 < c.args.n
 inside c =
-    let s = c.before.before.before in
-    cell_in _ _ _ _ _ s.requires.1.1 s.requires.1.0 c.loop-i-test.true c.loop-i.invariant.1
+    cell_in _ _ _ _ _ c.requires.1.1 c.requires.1.0 c.loop-i-test.true c.loop-i.invariant.1
 
 pub overflow_add-scratch : goal.overflow_add-scratch
 overflow_add-scratch c = omega (arith, inside c)
@@ -40,8 +39,7 @@ bounds-scratch-n-in-loop-i c = omega (arith, inside c)
 
 pub loop-i-preserved : goal.loop-i-preserved
 loop-i-preserved c =
-    let s = c.before.before.before in
-    (omega arith, clear-more _ _ _ _ _ s.requires.1.1 s.requires.1.0 c.loop-i-test.true c.loop-i.invariant.1)
+    (omega arith, clear-more _ _ _ _ _ c.requires.1.1 c.requires.1.0 c.loop-i-test.true c.loop-i.invariant.1)
 
 pub returns : goal.returns
 returns c =

@@ -11,20 +11,17 @@ use Rattle.table.proofs.layer.next_layer.Goals as goal
 
 pub clear_flags-requires : goal.clear_flags-requires
 clear_flags-requires c =
-    let s = c.before.before.before in
-    (few-cells _ _ s.requires.0.ready, (omega (arith, s.requires.1.0), s.requires.1.1.0))
+    (few-cells _ _ c.requires.0.ready, (omega (arith, c.requires.1.0), c.requires.1.1.0))
 
 pub spread_all-next-requires : goal.spread_all-next-requires
 spread_all-next-requires c =
-    let s = c.before.before.before.before.before.before.before in
-    cleared-asks _ _ _ _ _ _ _ s.requires.0 s.requires.1.0 s.requires.1.1.1.0 s.requires.1.1.0 s.requires.1.1.1.1.0 s.requires.1.1.1.1.1 c.clear_flags.ensures
+    cleared-asks _ _ _ _ _ _ _ c.requires.0 c.requires.1.0 c.requires.1.1.1.0 c.requires.1.1.0 c.requires.1.1.1.1.0 c.requires.1.1.1.1.1 c.clear_flags.ensures
 
 pub take_list-requires : goal.take_list-requires
 take_list-requires c =
-    let s = c.before.before.before.before.before.before.before.before.before.before.before in
     let f = c.clear_flags.ensures in
     let u = c.spread_all-next.ensures.raised in
-    (u.listed, (few-cells _ _ s.requires.0.ready, omega (arith, u.same, f.same, s.requires.1.0)))
+    (u.listed, (few-cells _ _ c.requires.0.ready, omega (arith, u.same, f.same, c.requires.1.0)))
 
 pub shape_of-scratch : goal.shape_of-scratch
 shape_of-scratch c = c.take_list.ensures.same ∙ (c.spread_all-next.ensures.raised.same ∙ c.clear_flags.ensures.same)
@@ -32,5 +29,4 @@ shape_of-scratch c = c.take_list.ensures.same ∙ (c.spread_all-next.ensures.rai
 pub returns : goal.returns
 unfolding net_rules rules_between rules_of
 returns c =
-    let s = c.before.before.before.before.before.before.before.before.before.before.before.before.before.before in
-    layered _ _ _ _ _ _ _ _ _ _ (sym (cells_are _ _ s.requires.0.ready)) s.requires.1.1.0 s.requires.1.1.1.0 c.clear_flags.ensures c.spread_all-next.ensures c.take_list.ensures
+    layered _ _ _ _ _ _ _ _ _ _ (sym (cells_are _ _ c.requires.0.ready)) c.requires.1.1.0 c.requires.1.1.1.0 c.clear_flags.ensures c.spread_all-next.ensures c.take_list.ensures

@@ -17,8 +17,7 @@ bounds-scratch-n c = omega (arith, c.requires.0.room)
 
 pub returns-then-scratch-n-eq1 : goal.returns-then-scratch-n-eq1
 returns-then-scratch-n-eq1 c =
-    let s = c.before.before.before in
-    noted-listed s.requires.0.sound s.requires.1 c.if-scratch-n-eq1.true
+    noted-listed c.requires.0.sound c.requires.1 c.if-scratch-n-eq1.true
 
 pub returns : goal.returns
 returns c = noted-saved c.save.ensures

@@ -20,36 +20,28 @@ grows-requires c =
 
 pub returns-then-not-grows : goal.returns-then-not-grows
 returns-then-not-grows c =
-    let s = c.before.before.before.before.before in
-    let a = s.args in
-    offer-quiet a.n a.to a.costs.now a.base a.step a.next _ s.requires (omega arith) (c.grows.ensures.none (not-true _ c.if-not-grows.true-raw))
+    let a = c.args in
+    offer-quiet a.n a.to a.costs.now a.base a.step a.next _ c.requires (omega arith) (c.grows.ensures.none (not-true _ c.if-not-grows.true-raw))
 
 pub note-trail-requires : goal.note-trail-requires
 note-trail-requires c =
-    let s = c.before.before.before.before.before.before in
-    let a = s.requires in
+    let a = c.requires in
     (record { sound = a.sound; few = a.few; room = a.room }, omega (arith, c.if-to-n.false, a.to_in))
 
 pub push_row-requires : goal.push_row-requires
 push_row-requires c =
-    let n = c.before.before.before in
-    let e = n.before.before.before.before.before in
-    let a = e.requires in
-    (a.costed, (omega (arith, e.if-to-n.false, a.to_in), omega (arith, e.if-to-n.false, a.to_in, a.room, n.note-trail.ensures.same)))
+    let a = c.requires in
+    (a.costed, (omega (arith, c.if-to-n.false, a.to_in), omega (arith, c.if-to-n.false, a.to_in, a.room, c.note-trail.ensures.same)))
 
 pub enlist-count-requires : goal.enlist-count-requires
 enlist-count-requires c =
-    let p = c.before.before.before in
-    let n = p.before.before.before.before in
-    let e = n.before.before.before.before.before in
-    let s = e.before.before in
-    let a = s.requires in
-    let f = p.push_row.ensures in
-    let listed = noted-listed-kept s.args.n s.args.to s.args.costs.now s.args.base s.args.step s.args.next _ a _ _ n.note-trail.ensures in
+    let a = c.requires in
+    let f = c.push_row.ensures in
+    let listed = noted-listed-kept c.args.n c.args.to c.args.costs.now c.args.base c.args.step c.args.next _ a _ _ c.note-trail.ensures in
     let few = listed-count listed in
-    let in_plan : s.args.to < s.args.n = omega (arith, e.if-to-n.false, a.to_in) in (
-      listed_kept listed _ (λ k h. f.high (s.args.n * listed_at + k) (omega arith)) (λ i h. f.high (s.args.n * next_at + i) (omega arith)),
-      (in_plan, (a.few, (omega arith, omega (arith, f.same, n.note-trail.ensures.same, a.room)))),
+    let in_plan : c.args.to < c.args.n = omega (arith, c.if-to-n.false, a.to_in) in (
+      listed_kept listed _ (λ k h. f.high (c.args.n * listed_at + k) (omega arith)) (λ i h. f.high (c.args.n * next_at + i) (omega arith)),
+      (in_plan, (a.few, (omega arith, omega (arith, f.same, c.note-trail.ensures.same, a.room)))),
     )
 
 pub shape_of-scratch : goal.shape_of-scratch
@@ -59,11 +51,6 @@ shape_of-scratch c =
 
 pub returns : goal.returns
 returns c =
-    let p = c.before.before.before.before.before.before in
-    let n = p.before.before.before.before in
-    let g = n.before.before in
-    let e = g.before.before.before in
-    let s = e.before.before in
-    let a = s.args in
-    offer-grew a.n a.to a.costs.now a.base a.step a.next _ s.requires _ _ n.note-trail.ensures _ (omega (arith, e.if-to-n.false, s.requires.to_in)) p.push_row.ensures _ _
-    (g.grows.ensures.some (not-false _ g.if-not-grows.false-raw)) c.enlist-count.ensures
+    let a = c.args in
+    offer-grew a.n a.to a.costs.now a.base a.step a.next _ c.requires _ _ c.note-trail.ensures _ (omega (arith, c.if-to-n.false, c.requires.to_in)) c.push_row.ensures _ _
+    (c.grows.ensures.some (not-false _ c.if-not-grows.false-raw)) c.enlist-count.ensures

@@ -11,8 +11,7 @@ loop-i-init c = (omega arith, refl)
 
 pub loop-i-preserved : goal.loop-i-preserved
 loop-i-preserved c =
-    let loop = c.before.before.before in
-    (omega arith, rw (loop.loop-i.invariant.1, c.relaxed.ensures, add-one) (changed-more _ _ _ _ (omega arith)))
+    (omega arith, rw (c.loop-i.invariant.1, c.relaxed.ensures, add-one) (changed-more _ _ _ _ (omega arith)))
 
 pub returns : goal.returns
 returns c = c.loop-i.invariant.1 ∙ changed-all _ _ _ (omega arith)

@@ -17,8 +17,8 @@ returns-in_default c = simp (buffer-out _ _ _ (sym c.checked.ensures ∙ c.in_de
 pub delay-requires : goal.delay-requires
 unfolding buffer_driver
 delay-requires c =
-    let m = made c.before in
+    let m = made (goal.at.delay-requires c).In-Valid in
     (rw (c.driver.ensures, m.1) (buffer-in _ _ _ m.0).driver, c.requires)
 
 pub returns : goal.returns
-returns c = c.delay.ensures ∙ simp (c.driver.ensures, (made c.before.before).1, (made c.before.before).0)
+returns c = c.delay.ensures ∙ simp (c.driver.ensures, (made (goal.at.returns c).In-Valid).1, (made (goal.at.returns c).In-Valid).0)

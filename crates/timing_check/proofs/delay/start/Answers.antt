@@ -17,4 +17,4 @@ pub start_delay-requires : goal.start_delay-requires
 start_delay-requires c = rw (made c).1 (register-in _ _ _ _ (made c).0)
 
 pub returns : goal.returns
-returns c = c.start_delay.ensures ∙ simp ((made c.before).1, (made c.before).0)
+returns c = c.start_delay.ensures ∙ simp ((made (goal.at.returns c).In-Valid).1, (made (goal.at.returns c).In-Valid).0)

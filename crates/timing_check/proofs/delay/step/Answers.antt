@@ -17,4 +17,4 @@ pub delay-requires : goal.delay-requires
 delay-requires c = (rw (made c).1 (wire-in _ _ (made c).0), c.requires)
 
 pub returns : goal.returns
-returns c = c.delay.ensures ∙ simp ((made c.before).1, (made c.before).0)
+returns c = c.delay.ensures ∙ simp ((made (goal.at.returns c).In-Valid).1, (made (goal.at.returns c).In-Valid).0)

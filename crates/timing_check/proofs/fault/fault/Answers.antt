@@ -12,7 +12,5 @@ check_tables-checked-requires c = read-own _ _ c.read_list-read.ensures
 pub returns : goal.returns
 unfolding fault_with checked_list
 returns c =
-    let t = c.before.before in
-    let r = t.before in
-    let checked = rw (r.read_list-read.ensures, r.list.ensures, t.tables.ensures) at c.check_tables-checked.ensures in
-    c.number.ensures ∙ ap fault_number (ap (λ (r : TablesCheck). r.fault) checked ∙ tables-fault _ _)
+    let checked = rw (c.read_list-read.ensures, c.list.ensures, c.tables.ensures) at c.check_tables-checked.ensures in
+    c.number.ensures ∙ ap fault_number (ap (λ (c.before.before.before : TablesCheck). c.before.before.before.fault) checked ∙ tables-fault _ _)

@@ -19,17 +19,12 @@ returns-then-last c = rw c.if-last.true (c.closed.ensures mathlib.Core.Bool.true
 
 pub returns-then-not-at_most : goal.returns-then-not-at_most
 returns-then-not-at_most c =
-    let m = c.before in
-    let e = m.before.before.before in
-    let s = e.before in
-    rw e.if-last.false
-    (λ P from to a none k. gate-own-heavy P s.args.elements from to mathlib.Core.Bool.false a s.args.at.cell (rw k.load at (le-leb _ _ s.requires.light)) (own m ∙ not-true _ c.if-not-at_most.true-raw))
+    rw c.if-last.false
+    (λ P from to a none k. gate-own-heavy P c.args.elements from to mathlib.Core.Bool.false a c.args.at.cell (rw k.load at (le-leb _ _ c.requires.light)) (own (goal.at.returns-then-not-at_most c).After-at_most ∙ not-true _ c.if-not-at_most.true-raw))
 
 pub closed-requires-2 : goal.closed-requires-2
 closed-requires-2 c = c.requires
 
 pub returns : goal.returns
 returns c =
-    let m = c.before.before in
-    let e = m.before.before.before in
-    rw e.if-last.false (c.closed-2.ensures mathlib.Core.Bool.false (own m ∙ not-false _ c.if-not-at_most.false-raw))
+    rw c.if-last.false (c.closed-2.ensures mathlib.Core.Bool.false (own (goal.at.returns c).After-at_most ∙ not-false _ c.if-not-at_most.false-raw))

@@ -19,20 +19,16 @@ slack-close-requires c = (c.requires.valid, (omega (arith, c.requires.light, c.r
 
 pub returns-then-close-lt0 : goal.returns-then-close-lt0
 returns-then-close-lt0 c =
-    let s = c.before.before in
     λ last own P from to a none k.
-    rw (close c.before)
-    (gate-late P s.args.elements from to last a s.args.at.cell (rw k.load at (le-leb _ _ s.requires.light)) own s.args.at s.requires.valid k (rw (close c.before) at c.if-close-lt0.true))
+    rw (close (goal.at.returns-then-close-lt0 c).After-slack-close)
+    (gate-late P c.args.elements from to last a c.args.at.cell (rw k.load at (le-leb _ _ c.requires.light)) own c.args.at c.requires.valid k (rw (close (goal.at.returns-then-close-lt0 c).After-slack-close) at c.if-close-lt0.true))
 
 pub start_delay-requires : goal.start_delay-requires
 start_delay-requires c = c.requires.valid.register
 
 pub returns : goal.returns
 returns c =
-    let d = c.before.before in
-    let e = d.before.before.before in
-    let s = e.before.before in
-    let own = to_z-of_z {w = w32} {z = s.args.at.slack} (record { sfits = c.struct_told-1.given.1.1.1.0.1 }) in
+    let own = to_z-of_z {w = w32} {z = c.args.at.slack} (record { sfits = c.struct_told-1.given.1.1.1.0.1 }) in
     let made = to_z-of_z {w = w32} {z = c.smaller_slack.result} (record { sfits = c.smaller_slack.type-inv }) in
     λ last owns P from to a none k.
-    closed-step P s.args.elements from to last a s.args.at.cell (rw k.load at (le-leb _ _ s.requires.light)) owns s.args.at s.requires.valid k (rw (close e.before) at e.if-close-lt0.false) none _ refl d.load.ensures d.start_delay.ensures (made ∙ (c.smaller_slack.ensures ∙ ap₂ smaller own (close e.before)))
+    closed-step P c.args.elements from to last a c.args.at.cell (rw k.load at (le-leb _ _ c.requires.light)) owns c.args.at c.requires.valid k (rw (close (goal.at.returns c).After-slack-close) at c.if-close-lt0.false) none _ refl c.load.ensures c.start_delay.ensures (made ∙ (c.smaller_slack.ensures ∙ ap₂ smaller own (close (goal.at.returns c).After-slack-close)))

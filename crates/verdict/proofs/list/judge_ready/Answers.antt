@@ -4,11 +4,6 @@ use native.Mathlib.Omega.{arith}
 use Rattle.verdict.proofs.Routes.{good_length}
 use Rattle.verdict.proofs.Judged.{judged-first, judged-first-fault}
 use Rattle.verdict.proofs.list.judge_ready.Goals as goal
-use Rattle.verdict.proofs.list.judge_ready.Goals.{After-judge_first-first, Start}
-
--- the entry, seen from the first visit
-abbrev start : After-judge_first-first → Start
-start c = c.before.before.before.before.before
 
 pub bounds-words-0 : goal.bounds-words-0
 bounds-words-0 c = omega (arith, good_length _ c.requires.1)
@@ -24,12 +19,8 @@ judge_first-first-requires c = c.requires.0
 
 pub returns-in-Fault : goal.returns-in-Fault
 returns-in-Fault c =
-    let f = c.before.before.before in
-    let s = start f in
-    sym (judged-first-fault s.args.p s.args.plan.now s.args.words.now s.requires.0 s.requires.1 _ (rw c.in-Fault.is at f.judge_first-first.ensures))
+    sym (judged-first-fault c.args.p c.args.plan.now c.args.words.now c.requires.0 c.requires.1 _ (rw c.in-Fault.is at c.judge_first-first.ensures))
 
 pub judge_rest-requires : goal.judge_rest-requires
 judge_rest-requires c =
-    let f = c.before.before.before in
-    let s = start f in
-    (s.requires.0, (s.requires.1, judged-first s.args.p s.args.plan.now s.args.words.now s.requires.0 s.requires.1 _ (rw c.in-On.is at f.judge_first-first.ensures)))
+    (c.requires.0, (c.requires.1, judged-first c.args.p c.args.plan.now c.args.words.now c.requires.0 c.requires.1 _ (rw c.in-On.is at c.judge_first-first.ensures)))

@@ -6,8 +6,7 @@ use Rattle.verdict.proofs.sites.code_right.Goals as goal
 
 pub returns-then-last : goal.returns-then-last
 returns-then-last c =
-    let s = c.before.before in
-    rw c.if-last.true (sym (code-last s.args.p s.args.plan.now s.requires.0 s.args.cell s.args.code))
+    rw c.if-last.true (sym (code-last c.args.p c.args.plan.now c.requires.0 c.args.cell c.args.code))
 
 pub returns : goal.returns
 unfolding code_right

@@ -5,7 +5,7 @@ use mir.Facts.{to_z-of_z}
 use Rattle.timing.proofs.elements.Elements.slack.Goals as goal
 
 pub slack-requires : goal.slack-requires
-slack-requires c = let start = c.before in (start.requires.0.register, (start.requires.0.most, (start.requires.0.skew, start.requires.1)))
+slack-requires c = (c.requires.0.register, (c.requires.0.most, (c.requires.0.skew, c.requires.1)))
 
 pub returns : goal.returns
 returns c = to_z-of_z {w = w32} {z = c.slack.result} (record { sfits = c.slack.type-inv }) ∙ c.slack.ensures

@@ -29,13 +29,11 @@ returns-then-allowed-self c =
 
 pub overflow_sub-result : goal.overflow_sub-result
 overflow_sub-result c =
-    let s = c.before.before.before in
-    rw (read-natural _ (allowed-low s), read-natural _ (used_low c.before)) (difference-fits _ _ (allowed-low s) (used_low c.before))
+    rw (read-natural _ (allowed-low (goal.at.overflow_sub-result c).Start), read-natural _ (used_low (goal.at.overflow_sub-result c).Else-allowed-self)) (difference-fits _ _ (allowed-low (goal.at.overflow_sub-result c).Start) (used_low (goal.at.overflow_sub-result c).Else-allowed-self))
 
 pub returns : goal.returns
 unfolding slack_of
 returns c =
-    let s = c.before.before.before in
-    let a = s.args in
+    let a = c.args in
     let e : min a.self.0 (2 * a.period + miss_most) ≡ a.self.0 = omega (arith, c.if-allowed-self.false) in
-    rw (read-natural _ (allowed-low s), read-natural _ (used_low c.before), e) (to_z-of_z w32 _ (difference-fits _ _ (allowed-low s) (used_low c.before)))
+    rw (read-natural _ (allowed-low (goal.at.returns c).Start), read-natural _ (used_low (goal.at.returns c).Else-allowed-self), e) (to_z-of_z w32 _ (difference-fits _ _ (allowed-low (goal.at.returns c).Start) (used_low (goal.at.returns c).Else-allowed-self)))
