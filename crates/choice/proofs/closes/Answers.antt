@@ -26,7 +26,7 @@ slack-requires c =
 
 pub returns : goal.returns
 returns c =
-    let figure = to_z-of_z {w = w32} {z = c.slack.result} (record { sfits = c.slack.type-inv }) in
+    let figure = to_z-of_z {w = w32} {z = c.slack.result} (record { sfits = c.slack.type_inv }) in
     let is : c.slack.result ≡ slack_with c.args.net c.args.at c.args.code = rw (c.gate-closer.ensures, c.period-period.ensures) at c.slack.ensures in
     let seed = sym c.may_close.ensures ∙ not-false _ c.if-not-may_close.false-raw in
     ap (le_z (pos 0)) (figure ∙ is)

@@ -55,8 +55,8 @@ returns-then-code-ge7 c =
     let gate = after-gate.gate-gate.ensures in
     let side = after-load.side_after-side.ensures in
     let own = to_z-of_z {w = w32} {z = at.slack-close} (record { sfits = c.struct_told-1.given.1.1.1.1.1.0.1 }) in
-    let close = to_z-of_z {w = w32} {z = after-slack.slack-close.result} (record { sfits = after-slack.slack-close.type-inv }) in
-    let made = to_z-of_z {w = w32} {z = c.smaller_slack.result} (record { sfits = c.smaller_slack.type-inv }) in
+    let close = to_z-of_z {w = w32} {z = after-slack.slack-close.result} (record { sfits = after-slack.slack-close.type_inv }) in
+    let made = to_z-of_z {w = w32} {z = c.smaller_slack.result} (record { sfits = c.smaller_slack.type_inv }) in
     record {
       cell = refl;
       load = simp (ne_eqb code no_gate some, shuts) (rw gate at after-load.load.ensures);

@@ -1,7 +1,6 @@
 -- Each test of the code is one of the definition, in the same order; `no-right` is what the second leaves.
 use Prim.Native.Nat.{◌+◌, ◌/◌, ◌%◌}
 use mathlib.Core.Bool.{false, ◌&&◌}
-use mathlib.Core.Logic.{⊎_elim}
 use mathlib.Core.Path.{◌≡◌, sym, ◌∙◌}
 use native.Mathlib.Nat.{div-le_self}
 use native.Mathlib.Omega.{arith}
@@ -10,7 +9,7 @@ use lib.Dec.{eqb}
 use Rattle.plan.specs.Plan.{cut_right}
 use Rattle.plan.specs.Check.{invalid_mark}
 use Rattle.plan.proofs.invalid_mark.Goals as goal
-use Rattle.plan.proofs.invalid_mark.Goals.{Joined-cell-width}
+use Rattle.plan.proofs.invalid_mark.Goals.{Joined-cell-width, then-cell-width+else-cuts_right, else-cell-width}
 
 pub returns-then-marks-gt15 : goal.returns-then-marks-gt15
 unfolding invalid_mark
@@ -26,10 +25,11 @@ returns-then-cuts_right c =
 no-right : (c : Joined-cell-width) → let a = c.args in (eqb (a.cell % a.width + 1) a.width && cut_right a.marks) ≡ false
 no-right c =
     let a = c.args in
-    ⊎_elim
-    (λ w. simp (eq-eqb (a.cell % a.width + 1) a.width (omega arith), sym w.1.ensures ∙ w.2.left))
-    (λ w. simp (ne_eqb (a.cell % a.width + 1) a.width (λ e. w.left (omega arith))))
-    c.if-cell-width.branch
+    elim c.if-cell-width.branch [
+      then-cell-width+else-cuts_right w ↦
+        simp (eq-eqb (a.cell % a.width + 1) a.width (omega arith), sym w.cuts_right.ensures ∙ w.if-cuts_right.false)
+    | else-cell-width w ↦ simp (ne_eqb (a.cell % a.width + 1) a.width (λ e. w.if-cell-width.false (omega arith)))
+    ]
 
 pub overflow_cast-cell : goal.overflow_cast-cell
 overflow_cast-cell c = let a = c.args in omega (arith, div-le_self a.cell a.width)

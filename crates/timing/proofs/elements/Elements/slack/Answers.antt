@@ -8,4 +8,4 @@ pub slack-requires : goal.slack-requires
 slack-requires c = (c.requires.0.register, (c.requires.0.most, (c.requires.0.skew, c.requires.1)))
 
 pub returns : goal.returns
-returns c = to_z-of_z {w = w32} {z = c.slack.result} (record { sfits = c.slack.type-inv }) ∙ c.slack.ensures
+returns c = to_z-of_z {w = w32} {z = c.slack.result} (record { sfits = c.slack.type_inv }) ∙ c.slack.ensures

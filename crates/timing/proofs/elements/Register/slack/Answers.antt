@@ -8,4 +8,4 @@ closing-requires c = (c.requires.0, c.requires.1.1)
 
 pub returns : goal.returns
 returns c =
-    to_z-of_z {w = w32} {z = c.slack.result} (record { sfits = c.slack.type-inv }) ∙ rw c.closing.ensures at c.slack.ensures
+    to_z-of_z {w = w32} {z = c.slack.result} (record { sfits = c.slack.type_inv }) ∙ rw c.closing.ensures at c.slack.ensures
