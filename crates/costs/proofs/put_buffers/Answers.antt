@@ -14,7 +14,7 @@ pub gate_row-row-requires : goal.gate_row-row-requires
 unfolding buffer_at buffer_of driver_of buffer_driver
 gate_row-row-requires c =
     let i = c.loop-i.i in
-    let driver : c.driver.result ≡ buffer_driver (buffer_at c.args.t2 i) = c.driver.ensures in
+    let driver : c.driver.result ≡ buffer_driver (buffer_at c.args.e i) = c.driver.ensures in
     rw driver (c.requires.1.buffers i (omega (arith, c.requires.1.count))).driver
 
 pub put_row-more-requires : goal.put_row-more-requires
@@ -24,10 +24,10 @@ pub loop-i-preserved : goal.loop-i-preserved
 unfolding buffer_at buffer_of driver_of buffer_driver
 loop-i-preserved c =
     let loop = c.loop-i in
-    let driver : c.driver.result ≡ buffer_driver (buffer_at c.args.t2 loop.i) = c.driver.ensures in
+    let driver : c.driver.result ≡ buffer_driver (buffer_at c.args.e loop.i) = c.driver.ensures in
     (omega arith, buffers-more loop.invariant.1 (rw driver at c.gate_row-row.ensures) c.put_row-more.ensures)
 
 pub returns : goal.returns
 returns c =
-    let end : c.loop-i.i ≡ c.args.t2.count = omega arith in
+    let end : c.loop-i.i ≡ c.args.e.count = omega arith in
     rw end at c.loop-i.invariant.1

@@ -45,7 +45,7 @@ fifo-in c =
 -- what was read of the list is its check
 fault-in : (c : Start) → c.args.read.fault ≡ list_fault c.args.read.list
 unfolding checked_list
-fault-in c = ap (λ (r : BuffersRead). r.fault-1) c.requires
+fault-in c = ap (λ (r : BuffersRead). r.fault) c.requires
 
 pub returns-then-t-gt-SKEW_MAX : goal.returns-then-t-gt-SKEW_MAX
 returns-then-t-gt-SKEW_MAX c =
@@ -83,5 +83,5 @@ pub returns : goal.returns
 unfolding elements_of clocks_of
 returns c =
     let e : list_fault c.args.read.list ≡ Nothing = sym (fault-in (goal.at.returns c).Start) ∙ c.in_default-fault.is in
-    simp ((horizontal-in (goal.at.returns c).In-Valid).1, (vertical-in (goal.at.returns c).In-Valid-checked).1, (register-in (goal.at.returns c).In-Valid-checked-2).1, (fifo-in (goal.at.returns c).In-Valid-checked-3).1, ap (λ (b : BuffersRead). b.buffers-1) c.requires, read-clean _ e)
+    simp ((horizontal-in (goal.at.returns c).In-Valid).1, (vertical-in (goal.at.returns c).In-Valid-checked).1, (register-in (goal.at.returns c).In-Valid-checked-2).1, (fifo-in (goal.at.returns c).In-Valid-checked-3).1, ap (λ (b : BuffersRead). b.buffers) c.requires, read-clean _ e)
     (sym (elements-clean _ _ _ (list-first _ _ _ _ (fifo-in (goal.at.returns c).In-Valid-checked-3).0 e)))
