@@ -24,7 +24,7 @@ returns-then-not-at_most c = simp (fits (goal.at.returns-then-not-at_most c).Aft
 pub after-requires : goal.after-requires
 unfolding buffer_at buffer_of driver_of
 after-requires c =
-    let driver : c.driver.result ≡ buffer_driver (buffer_at c.args.t2 c.args.i) = c.driver.ensures in
+    let driver : c.driver.result ≡ buffer_driver (buffer_at c.args.elements c.args.i) = c.driver.ensures in
     (rw driver (buffer-driver-fits c.requires.0.valid c.args.i (omega arith)), (c.requires.0.light, omega (arith, c.requires.0.early)))
 
 pub budget_at-requires : goal.budget_at-requires
@@ -35,7 +35,7 @@ budget_at-requires c =
 pub returns : goal.returns
 unfolding drives buffer_at buffer_of driver_of
 returns c =
-    let b = buffer_at c.args.t2 c.args.i in
+    let b = buffer_at c.args.elements c.args.i in
     let load : c.load-own.result.0 ≡ buffer_load b = c.load-own.ensures in
     let driver : c.driver.result ≡ buffer_driver b = c.driver.ensures in
     let after : c.after.result.0 ≡ c.args.at.delay.0 + gate_delay (buffer_driver b) c.args.at.load.0 = rw driver at c.after.ensures in

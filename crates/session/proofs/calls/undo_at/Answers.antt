@@ -34,6 +34,9 @@ bounds-plan-cell c =
 pub write_entry-requires : goal.write_entry-requires
 write_entry-requires c = let u = undoable (goal.at.write_entry-requires c).Then-is_done in omega (arith, u.some, u.intact.deep, u.intact.openable.space)
 
+pub overflow_sub-result : goal.overflow_sub-result
+overflow_sub-result c = let u = undoable (goal.at.overflow_sub-result c).Then-is_done in omega (arith, u.some)
+
 pub returns-then-is_done : goal.returns-then-is_done
 unfolding undone effect with_undo newest_at
 returns-then-is_done c =
