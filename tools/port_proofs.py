@@ -134,17 +134,23 @@ def aliased(t, names, body):
     """Words for an earlier place: `start c` and `let w = c.before in` become `c`; a lemma at an earlier place gets `(goal.at.GOAL c).PLACE`."""
     asked = {new: at[1] for (old, new), at in zip(names["needs"], names["asked_at"])}
     parts = items(body)
-    ups, at = set(), {}
+    ups, at, inline = set(), {}, {}
+    seen = {norm(p) for p in asked.values()}
     kept = []
     for it in parts:
         plain = re.sub(r"^--.*\n", "", it, flags=re.M)
-        m = re.match(r"(?:abbrev )?(?:pub )?([\w'-]+) : (?:\([\w']+ : " + PLACE + r"\)|" + PLACE + r") → (.*)", plain, re.S)
+        m = re.match(r"(?:abbrev )?(?:pub )?([\w'-]+) : (?:\([\w']+ : " + PLACE + r"\)|" + PLACE + r") (?:→ )?(.*)", plain, re.S)
         if m:
             place = m.group(2) or m.group(3)
             if re.match(PLACE + r"\n", m.group(4)):
                 ups.add(m.group(1))
                 continue
-            at[m.group(1)] = t.places.get(norm(place), place)
+            new = t.places.get(norm(place), place)
+            short = re.match(r"abbrev [^\n]*\n" + re.escape(m.group(1)) + r" ([\w']+) = ([^\n]*)$", plain.strip("\n"))
+            if short and norm(new) not in seen:
+                inline[m.group(1)] = short.groups()
+                continue
+            at[m.group(1)] = new
         kept.append(it)
     out = []
     for it in kept:
@@ -154,7 +160,7 @@ def aliased(t, names, body):
             name, context = m.group(1), t.needs[norm(m.group(2))]
             here = asked[context]
         else:
-            m = re.search(r"^(?:abbrev )?(?:pub )?([\w'-]+) : (?:\([\w']+ : " + PLACE + r"\)|" + PLACE + r") → ", it, re.M)
+            m = re.search(r"^(?:abbrev )?(?:pub )?([\w'-]+) : (?:\([\w']+ : " + PLACE + r"\)|" + PLACE + r") (?:→|\()", it, re.M)
             if m and m.group(1) in at:
                 name, context = m.group(1), at[m.group(1)]
                 here = context
@@ -176,6 +182,14 @@ def aliased(t, names, body):
             for up in ups:
                 it = re.sub(r"\(" + re.escape(up) + r" " + root + r"\)", r"\1", it)
                 it = re.sub(r"(?<![\w.'-])" + re.escape(up) + r" " + root, r"\1", it)
+            for word, (param, term) in inline.items():
+
+                def put(m):
+                    got = re.sub(r"(?<![\w.'-])" + re.escape(param) + r"(?![\w'-])(?! = [^≡])", lambda k: m.group(1), term)
+                    return got if re.match(r"[\w.']+$", got) else "(" + got + ")"
+
+                it = re.sub(r"\(" + re.escape(word) + r" " + root + r"\)", put, it)
+                it = re.sub(r"(?<![\w.'-])" + re.escape(word) + r" " + root, put, it)
             m = re.search(r"let ([\w']+) = " + root + r" in[ \n]", it)
             if m:
                 a, b = m.span()

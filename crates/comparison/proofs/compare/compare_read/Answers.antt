@@ -3,17 +3,14 @@ use mathlib.Core.Bool.{or-true}
 use mathlib.Core.Logic.{⊎_elim}
 use mathlib.Core.Path.{◌≡◌, sym, ◌∙◌}
 use Rattle.question.specs.Checked.{problem_asked}
-use Rattle.question.specs.Question.{Question, question_of, passes, question_checks}
+use Rattle.question.specs.Question.{question_of, passes, question_checks}
 use Rattle.question.proofs.Checks.{told-fails, told-passes, passed-ready, rules-asked}
 use Rattle.comparison.proofs.Calls.{refused-five, refused-list, compared}
 use Rattle.comparison.proofs.compare.compare_read.Goals as goal
-use Rattle.comparison.proofs.compare.compare_read.Goals.{In-Passes, Start}
-
-abbrev asked : Start → Question
-asked s = question_of s.args.plan.now s.args.width s.args.height s.args.tables s.args.read.list s.args.source s.args.sink
+use Rattle.comparison.proofs.compare.compare_read.Goals.{In-Passes}
 
 -- checks 1 to 5 have passed, and the problem is the question's
-passed : (c : In-Passes) → (question_checks (asked (goal.at.In-Passes c).Start) passes ≡ passes) × (c.check_question-checked.result.problem ≡ problem_asked (asked (goal.at.In-Passes c).Start))
+passed : (c : In-Passes) → (question_checks (question_of c.args.plan.now c.args.width c.args.height c.args.tables c.args.read.list c.args.source c.args.sink) passes ≡ passes) × (c.check_question-checked.result.problem ≡ problem_asked (question_of c.args.plan.now c.args.width c.args.height c.args.tables c.args.read.list c.args.source c.args.sink))
 passed c = told-passes _ _ c.check_question-checked.ensures c.in-Passes.is
 
 pub check_question-checked-requires : goal.check_question-checked-requires
@@ -21,13 +18,13 @@ check_question-checked-requires c = c.requires
 
 pub returns-in-Fails : goal.returns-in-Fails
 returns-in-Fails c =
-    let q = asked (goal.at.returns-in-Fails c).Start in
+    let q = (question_of c.args.plan.now c.args.width c.args.height c.args.tables c.args.read.list c.args.source c.args.sink) in
     sym (refused-five q _ _ _ (told-fails q _ _ c.check_question-checked.ensures c.in-Fails.is))
 
 pub returns-then-bad_list : goal.returns-then-bad_list
 returns-then-bad_list c =
     sym
-    (refused-list (asked (goal.at.returns-then-bad_list c).Start) c.args.a.now c.args.b.now (passed (goal.at.returns-then-bad_list c).In-Passes).0
+    (refused-list (question_of c.args.plan.now c.args.width c.args.height c.args.tables c.args.read.list c.args.source c.args.sink) c.args.a.now c.args.b.now (passed (goal.at.returns-then-bad_list c).In-Passes).0
     (⊎_elim
     (λ w. rw (sym c.bad_list.ensures ∙ w.taken))
     (λ w. simp (sym w.1.ensures ∙ w.2.taken, or-true))
@@ -36,11 +33,11 @@ returns-then-bad_list c =
 pub compare_ready-requires : goal.compare_ready-requires
 compare_ready-requires c =
     let f = passed (goal.at.compare_ready-requires c).In-Passes in
-    (rw f.1 (passed-ready (asked (goal.at.compare_ready-requires c).Start) passes f.0), (sym c.bad_list.ensures ∙ c.if-bad_list.false, sym c.bad_list-else-bad_list.ensures ∙ c.if-bad_list-2.false))
+    (rw f.1 (passed-ready (question_of c.args.plan.now c.args.width c.args.height c.args.tables c.args.read.list c.args.source c.args.sink) passes f.0), (sym c.bad_list.ensures ∙ c.if-bad_list.false, sym c.bad_list-else-bad_list.ensures ∙ c.if-bad_list-2.false))
 
 pub returns-in-Passes : goal.returns-in-Passes
 returns-in-Passes c =
     let f = passed (goal.at.returns-in-Passes c).In-Passes in
-    let q = asked (goal.at.returns-in-Passes c).Start in
+    let q = (question_of c.args.plan.now c.args.width c.args.height c.args.tables c.args.read.list c.args.source c.args.sink) in
     rw (f.1, rules-asked q) at c.compare_ready.ensures
     ∙ sym (compared q _ _ f.0 (sym c.bad_list.ensures ∙ c.if-bad_list.false) (sym c.bad_list-else-bad_list.ensures ∙ c.if-bad_list-2.false))

@@ -4,7 +4,6 @@ use mathlib.Core.Bool.{Bool, true, false}
 use mathlib.Core.Logic.{⊎_elim}
 use mathlib.Core.Path.{◌≡◌, refl, sym, ap, ◌∙◌}
 use native.Mathlib.Omega.{arith}
-use borrow.Author.Rules.{rules}
 use lib.IntN.{ℤ}
 use lib.ListN.{length}
 use Rattle.plan.proofs.Truth.{decided, is_true, is_false}
@@ -18,13 +17,7 @@ use Rattle.verdict.specs.Verdict.{route_in, judge_route}
 use Rattle.verdict.proofs.Accepted.{accepted-legal, legal-accepted}
 use Rattle.verdict.proofs.Routes.{good-visits}
 use Rattle.comparison.proofs.compare.legal_ready.Goals as goal
-use Rattle.comparison.proofs.compare.legal_ready.Goals.{After-judge_ready-verdict, Start}
-
-abbrev rules : Start → Rules
-rules s = rules_for s.args.p s.args.plan.now
-
-abbrev route : Start → Route
-route s = route_in s.args.words.now
+use Rattle.comparison.proofs.compare.legal_ready.Goals.{After-judge_ready-verdict}
 
 abbrev accepts : Verdict → Bool
 accepts (Accepted z) = true
@@ -43,16 +36,15 @@ accepts-legal R r h = go (judge_route R r) refl
     go (Refused k) e = not (λ y k. let z : ◌≡◌ {A = ℕ} 0 1 = cc in omega arith)
 
 -- what the verdict told says whether the list is legal
-told : (c : After-judge_ready-verdict) (v : Verdict) → c.judge_ready-verdict.result ≡ v → accepts v ≡ legal (rules (start c)) (route (start c))
+told : (c : After-judge_ready-verdict) (v : Verdict) → c.judge_ready-verdict.result ≡ v → accepts v ≡ legal (rules_for c.args.p c.args.plan.now) (route_in c.args.words.now)
 told c v e =
-    let s = start c in
-    ap accepts (sym e ∙ c.judge_ready-verdict.ensures) ∙ accepts-legal (rules s) (route s) (good-visits _ s.requires.1)
+    ap accepts (sym e ∙ c.judge_ready-verdict.ensures) ∙ accepts-legal (rules_for c.args.p c.args.plan.now) (route_in c.args.words.now) (good-visits _ c.requires.1)
 
 pub returns-in-Accepted : goal.returns-in-Accepted
-returns-in-Accepted c = told c.before.before _ c.in-Accepted.is
+returns-in-Accepted c = told (goal.at.returns-in-Accepted c).After-judge_ready-verdict _ c.in-Accepted.is
 
 pub returns-in-AtFault : goal.returns-in-AtFault
-returns-in-AtFault c = told c.before.before _ c.in-AtFault.is
+returns-in-AtFault c = told (goal.at.returns-in-AtFault c).After-judge_ready-verdict _ c.in-AtFault.is
 
 pub returns-in-Refused : goal.returns-in-Refused
-returns-in-Refused c = told c.before.before _ c.in-Refused.is
+returns-in-Refused c = told (goal.at.returns-in-Refused c).After-judge_ready-verdict _ c.in-Refused.is

@@ -3,41 +3,37 @@ use mathlib.Core.List.{[]}
 use native.Mathlib.Omega.{arith}
 use Rattle.problem.proofs.Sizes.{few-cells}
 use Rattle.question.proofs.Checks.{told-fails, told-passes, passed-ready}
-use Rattle.router.specs.Route.{Question, question_of, passes}
+use Rattle.router.specs.Route.{question_of, passes}
 use Rattle.router.proofs.Refusals.{refused-five, refused-scratch}
 use Rattle.reasons.proofs.Refusals.{refused, explained}
 use Rattle.reasons.proofs.checks.explain_read.Goals as goal
-use Rattle.reasons.proofs.checks.explain_read.Goals.{Start}
-
-abbrev asked : Start → Question
-asked s = question_of s.args.plan.now s.args.width s.args.height s.args.tables s.args.read.list s.args.source s.args.sink
 
 pub check_question-checked-requires : goal.check_question-checked-requires
 check_question-checked-requires c = c.requires
 
 pub returns-in-Fails : goal.returns-in-Fails
 returns-in-Fails c =
-    let q = asked (goal.at.returns-in-Fails c).Start in
+    let q = (question_of c.args.plan.now c.args.width c.args.height c.args.tables c.args.read.list c.args.source c.args.sink) in
     refused q _ _ (refused-five q c.args.scratch.now [] _ (told-fails q _ _ c.check_question-checked.ensures c.in-Fails.is))
 
 pub overflow_mul-plan : goal.overflow_mul-plan
 overflow_mul-plan c =
-    omega (arith, few-cells _ _ (passed-ready (asked (goal.at.overflow_mul-plan c).Start) passes (told-passes (asked (goal.at.overflow_mul-plan c).Start) _ c.check_question-checked.ensures c.in-Passes.is).0))
+    omega (arith, few-cells _ _ (passed-ready (question_of c.args.plan.now c.args.width c.args.height c.args.tables c.args.read.list c.args.source c.args.sink) passes (told-passes (question_of c.args.plan.now c.args.width c.args.height c.args.tables c.args.read.list c.args.source c.args.sink) _ c.check_question-checked.ensures c.in-Passes.is).0))
 
 pub returns-then-scratch-plan : goal.returns-then-scratch-plan
 returns-then-scratch-plan c =
-    let q = asked (goal.at.returns-then-scratch-plan c).Start in
+    let q = (question_of c.args.plan.now c.args.width c.args.height c.args.tables c.args.read.list c.args.source c.args.sink) in
     refused q _ _ (refused-scratch q c.args.scratch.now [] (told-passes q _ c.check_question-checked.ensures c.in-Passes.is).0 c.if-scratch-plan.true)
 
 pub reason_ready-requires : goal.reason_ready-requires
 reason_ready-requires c =
-    let f = told-passes (asked (goal.at.reason_ready-requires c).Start) _ c.check_question-checked.ensures c.in-Passes.is in
-    (rw f.1 (passed-ready (asked (goal.at.reason_ready-requires c).Start) passes f.0), c.if-scratch-plan.false)
+    let f = told-passes (question_of c.args.plan.now c.args.width c.args.height c.args.tables c.args.read.list c.args.source c.args.sink) _ c.check_question-checked.ensures c.in-Passes.is in
+    (rw f.1 (passed-ready (question_of c.args.plan.now c.args.width c.args.height c.args.tables c.args.read.list c.args.source c.args.sink) passes f.0), c.if-scratch-plan.false)
 
 pub shape_of-scratch-in-Passes : goal.shape_of-scratch-in-Passes
 shape_of-scratch-in-Passes c = c.reason_ready.auto.1.0
 
 pub returns-in-Passes : goal.returns-in-Passes
 returns-in-Passes c =
-    let f = told-passes (asked (goal.at.returns-in-Passes c).Start) _ c.check_question-checked.ensures c.in-Passes.is in
-    explained (asked (goal.at.returns-in-Passes c).Start) _ f.0 c.if-scratch-plan.false _ _ (rw f.1 at c.reason_ready.ensures)
+    let f = told-passes (question_of c.args.plan.now c.args.width c.args.height c.args.tables c.args.read.list c.args.source c.args.sink) _ c.check_question-checked.ensures c.in-Passes.is in
+    explained (question_of c.args.plan.now c.args.width c.args.height c.args.tables c.args.read.list c.args.source c.args.sink) _ f.0 c.if-scratch-plan.false _ _ (rw f.1 at c.reason_ready.ensures)
