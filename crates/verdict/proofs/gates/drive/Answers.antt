@@ -26,7 +26,7 @@ bounds-elements-i c = omega (arith, c.requires.0.valid.count, c.requires.0.valid
 pub returns-then-not-at_most : goal.returns-then-not-at_most
 returns-then-not-at_most c =
     λ P from to a none k.
-    buffer-heavy P c.args.elements from to a c.args.at.cell c.args.code (λ z. omega (arith, c.requires.1.0)) c.requires.0.valid c.requires.1.1 (rw k.load-own at (le-leb _ _ c.requires.0.light)) (own (goal.at.returns-then-not-at_most c).After-at_most ∙ not-true _ c.if-not-at_most.true-raw)
+    buffer-heavy P c.args.elements from to a c.args.at.cell c.args.code (λ z. omega (arith, c.requires.1.0)) c.requires.0.valid c.requires.1.1 (rw k.load at (le-leb _ _ c.requires.0.light)) (own (goal.at.returns-then-not-at_most c).After-at_most ∙ not-true _ c.if-not-at_most.true-raw)
 
 pub after-requires : goal.after-requires
 unfolding buffer_of driver_of buffer_driver
@@ -45,4 +45,4 @@ returns c =
     let listed = own (goal.at.returns c).After-at_most ∙ not-false _ c.if-not-at_most.false-raw in
     let kept = to_z-of_z {w = w32} {z = c.args.at.slack} (record { sfits = c.struct_told-1.given.1.1.1.0.1 }) in
     λ P from to a none k.
-    buffer-step P c.args.elements from to a c.args.at.cell c.args.code (λ z. omega (arith, c.requires.1.0)) c.requires.0.valid c.requires.1.1 (rw k.load-own at (le-leb _ _ c.requires.0.light)) listed none c.args.at _ k refl load delay kept
+    buffer-step P c.args.elements from to a c.args.at.cell c.args.code (λ z. omega (arith, c.requires.1.0)) c.requires.0.valid c.requires.1.1 (rw k.load at (le-leb _ _ c.requires.0.light)) listed none c.args.at _ k refl load delay kept
