@@ -26,9 +26,9 @@ no-right : (c : Joined-cell-width) → let a = c.args in (eqb (a.cell % a.width 
 no-right c =
     let a = c.args in
     elim c.if-cell-width.branch [
-      then-cell-width+else-cuts_right w ↦
-        simp (eq-eqb (a.cell % a.width + 1) a.width (omega arith), sym w.cuts_right.ensures ∙ w.if-cuts_right.false)
-    | else-cell-width w ↦ simp (ne_eqb (a.cell % a.width + 1) a.width (λ e. w.if-cell-width.false (omega arith)))
+      | then-cell-width+else-cuts_right w ↦
+          simp (eq-eqb (a.cell % a.width + 1) a.width (omega arith), sym w.cuts_right.ensures ∙ w.if-cuts_right.false)
+      | else-cell-width w ↦ simp (ne_eqb (a.cell % a.width + 1) a.width (λ e. w.if-cell-width.false (omega arith)))
     ]
 
 pub overflow_cast-cell : goal.overflow_cast-cell

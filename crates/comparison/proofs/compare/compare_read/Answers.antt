@@ -1,13 +1,12 @@
 -- `comparison::compare::compare_read` meets its contract: refusals 1 to 5, then 17, or the comparison.
 use mathlib.Core.Bool.{or-true}
-use mathlib.Core.Logic.{⊎_elim}
 use mathlib.Core.Path.{◌≡◌, sym, ◌∙◌}
 use Rattle.question.specs.Checked.{problem_asked}
 use Rattle.question.specs.Question.{question_of, passes, question_checks}
 use Rattle.question.proofs.Checks.{told-fails, told-passes, passed-ready, rules-asked}
 use Rattle.comparison.proofs.Calls.{refused-five, refused-list, compared}
 use Rattle.comparison.proofs.compare.compare_read.Goals as goal
-use Rattle.comparison.proofs.compare.compare_read.Goals.{In-Passes}
+use Rattle.comparison.proofs.compare.compare_read.Goals.{In-Passes, then-bad_list-via-then-bad_list, then-bad_list-via-else-bad_list+then-bad_list-2}
 
 -- checks 1 to 5 have passed, and the problem is the question's
 passed : (c : In-Passes) → (question_checks (question_of c.args.plan.now c.args.width c.args.height c.args.tables c.args.read.list c.args.source c.args.sink) passes ≡ passes) × (c.check_question-checked.result.problem ≡ problem_asked (question_of c.args.plan.now c.args.width c.args.height c.args.tables c.args.read.list c.args.source c.args.sink))
@@ -25,10 +24,10 @@ pub returns-then-bad_list : goal.returns-then-bad_list
 returns-then-bad_list c =
     sym
     (refused-list (question_of c.args.plan.now c.args.width c.args.height c.args.tables c.args.read.list c.args.source c.args.sink) c.args.a.now c.args.b.now (passed (goal.at.returns-then-bad_list c).In-Passes).0
-    (⊎_elim
-    (λ w. rw (sym c.bad_list.ensures ∙ w.taken))
-    (λ w. simp (sym w.1.ensures ∙ w.2.taken, or-true))
-    c.if-bad_list.branch))
+    (elim c.then-bad_list.branch [
+      then-bad_list-via-then-bad_list w ↦ rw (sym c.bad_list.ensures ∙ w.if-bad_list.true)
+    | then-bad_list-via-else-bad_list+then-bad_list-2 w ↦ simp (sym w.bad_list-else-bad_list.ensures ∙ w.if-bad_list-2.true, or-true)
+    ]))
 
 pub compare_ready-requires : goal.compare_ready-requires
 compare_ready-requires c =

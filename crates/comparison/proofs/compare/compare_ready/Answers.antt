@@ -1,9 +1,9 @@
 -- The comparison by its three tests; the ranking is tried only where both lists are legal.
 use mathlib.Core.Bool.{true, false}
-use mathlib.Core.Logic.{⊎_elim}
 use mathlib.Core.Path.{refl, sym, ◌∙◌}
 use Rattle.comparison.proofs.Better.{known}
 use Rattle.comparison.proofs.compare.compare_ready.Goals as goal
+use Rattle.comparison.proofs.compare.compare_ready.Goals.{else-second-via-then-second+else-ranks_before, else-second-via-else-second}
 
 pub returns-then-ranks_before : goal.returns-then-ranks_before
 returns-then-ranks_before c =
@@ -12,10 +12,11 @@ returns-then-ranks_before c =
 pub returns-then-first : goal.returns-then-first
 returns-then-first c =
     let first = sym c.legal_ready-first.ensures ∙ c.if-first.true in
-    ⊎_elim
-    (λ w. known _ _ _ true true false first (sym c.legal_ready-second.ensures ∙ w.0.taken) (sym w.1.ensures ∙ w.2.left))
-    (λ w. known _ _ _ true false _ first (sym c.legal_ready-second.ensures ∙ w.left) refl)
-    c.if-second.branch
+    elim c.else-second.branch [
+      else-second-via-then-second+else-ranks_before w ↦
+        known _ _ _ true true false first (sym c.legal_ready-second.ensures ∙ w.if-second.true) (sym w.ranks_before.ensures ∙ w.if-ranks_before.false)
+    | else-second-via-else-second w ↦ known _ _ _ true false _ first (sym c.legal_ready-second.ensures ∙ w.if-second.false) refl
+    ]
 
 pub returns-then-second-2 : goal.returns-then-second-2
 returns-then-second-2 c =

@@ -1,12 +1,11 @@
 use Prim.Native.Nat.{◌-◌}
-use mathlib.Core.Logic.{⊎_elim}
 use mathlib.Core.Path.{◌≡◌}
 use native.Mathlib.Omega.{arith}
 use Rattle.rules.specs.Ranking.{code_sevens, registers}
 use Rattle.verdict.specs.Verdict.{route_in}
 use Rattle.comparison.proofs.Rest.{counted_none, counted-register, counted-other, counted-all}
 use Rattle.comparison.proofs.ranks.registers_of.Goals as goal
-use Rattle.comparison.proofs.ranks.registers_of.Goals.{After-loop-i}
+use Rattle.comparison.proofs.ranks.registers_of.Goals.{After-loop-i, then-words-i-eq7, else-words-i-eq7}
 
 pub loop-i-init : goal.loop-i-init
 loop-i-init c = (omega arith, counted_none _)
@@ -15,10 +14,10 @@ pub loop-i-preserved : goal.loop-i-preserved
 loop-i-preserved c =
     let so = c.loop-i.invariant.1 in (
       omega arith,
-      ⊎_elim
-          (λ w. rw w.1 (counted-register _ _ _ so (omega arith) w.0.taken))
-          (λ w. rw w.1 (counted-other _ _ _ so (omega arith) w.0.left))
-          c.if-words-i-eq7.branch,
+      elim c.if-words-i-eq7.branch [
+        then-words-i-eq7 w ↦ rw w.count-is (counted-register _ _ _ so (omega arith) w.if-words-i-eq7.true)
+      | else-words-i-eq7 w ↦ rw w.count-is (counted-other _ _ _ so (omega arith) w.if-words-i-eq7.false)
+      ],
     )
 
 -- all are counted
