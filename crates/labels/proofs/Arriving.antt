@@ -25,7 +25,7 @@ use Rattle.labels.specs.Labels.{order_of, ListedOr}
 use Rattle.labels.specs.declared.both.Idle.{Idle}
 use Rattle.labels.specs.Both.{ArrivedBoth}
 use Rattle.labels.specs.Idle.{IdleRight}
-use Rattle.labels.proofs.Idle.{Instead, arrival-less, given-less}
+use Rattle.labels.proofs.IdleGates.{Instead, arrival-less, given-less}
 
 -- a place in the order, or none
 abbrev pub Found : ℕ → ℕ → List ℕ → ℕ → ℕ → ℕ → Type 0

@@ -3,6 +3,6 @@ pub mod Additions
 pub mod BothSets
 pub mod Seeds
 pub mod Codes
-pub mod Idle
+pub mod IdleGates
 pub mod Arriving
 pub mod Ready

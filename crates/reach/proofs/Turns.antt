@@ -29,7 +29,7 @@ use Rattle.labels.specs.Labels.{labels_for}
 use Rattle.labels.specs.Idle.{no_idle}
 use Rattle.labels.specs.Both.{BothAsk, ArrivedBoth}
 use Rattle.labels.proofs.Labels.{set-in, exits-in}
-use Rattle.labels.proofs.Idle.{none-idle}
+use Rattle.labels.proofs.IdleGates.{none-idle}
 use Rattle.labels.proofs.Arriving.{active-kept, active-arrived, coloured-arrived}
 use Rattle.labels.proofs.Seeds.{layer-seeds}
 use Rattle.reach.specs.Cone.{Dropped}

@@ -13,7 +13,7 @@ use Rattle.choice.proofs.buffer_drives.Goals as goal
 use Rattle.choice.proofs.buffer_drives.Goals.{After-at_most}
 
 -- the test of the buffer's own load
-fits : (c : After-at_most) → let a = c.args in leb (buffer_load (buffer_at a.t2 a.i)) a.t2.limit.0 ≡ c.at_most.result
+fits : (c : After-at_most) → let a = c.args in leb (buffer_load (buffer_at a.elements a.i)) a.elements.limit.0 ≡ c.at_most.result
 unfolding buffer_at buffer_of driver_of
 fits c = sym (rw c.load-own.ensures at c.at_most.ensures)
 

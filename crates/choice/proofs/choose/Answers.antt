@@ -14,24 +14,24 @@ near c = c.neighbours_of-near.ensures.is
 
 -- what was found on each side, and that it was nothing
 
-up : (c : After-try_cell-up) → Only c.args.net c.args.plan.now c.args.exits c.args.scratch.now c.args.from c.requires (neighbours_of (plan_for c.args.net.problem c.args.plan.now) c.args.from.cell).up-1 c.try_cell-up.result
+up : (c : After-try_cell-up) → Only c.args.net c.args.plan.now c.args.exits c.args.scratch.now c.args.from c.requires (neighbours_of (plan_for c.args.net.problem c.args.plan.now) c.args.from.cell).up c.try_cell-up.result
 up c = rw (near (goal.at.After-try_cell-up c).After-neighbours_of-near) at c.try_cell-up.ensures
 
-no-up : (c : In_default) → Empty c.args.net c.args.plan.now c.args.exits c.args.scratch.now c.args.from c.requires (neighbours_of (plan_for c.args.net.problem c.args.plan.now) c.args.from.cell).up-1
+no-up : (c : In_default) → Empty c.args.net c.args.plan.now c.args.exits c.args.scratch.now c.args.from c.requires (neighbours_of (plan_for c.args.net.problem c.args.plan.now) c.args.from.cell).up
 no-up c =
     empty c.args.net c.args.plan.now c.args.exits c.args.scratch.now c.args.from c.requires _ (rw c.in_default.is at (up (goal.at.In_default c).After-try_cell-up))
 
-left : (c : After-try_cell-left) → Only c.args.net c.args.plan.now c.args.exits c.args.scratch.now c.args.from c.requires (neighbours_of (plan_for c.args.net.problem c.args.plan.now) c.args.from.cell).left-1 c.try_cell-left.result
+left : (c : After-try_cell-left) → Only c.args.net c.args.plan.now c.args.exits c.args.scratch.now c.args.from c.requires (neighbours_of (plan_for c.args.net.problem c.args.plan.now) c.args.from.cell).left c.try_cell-left.result
 left c = rw (near (goal.at.After-try_cell-left c).After-neighbours_of-near) at c.try_cell-left.ensures
 
-no-left : (c : In_default-left) → Empty c.args.net c.args.plan.now c.args.exits c.args.scratch.now c.args.from c.requires (neighbours_of (plan_for c.args.net.problem c.args.plan.now) c.args.from.cell).left-1
+no-left : (c : In_default-left) → Empty c.args.net c.args.plan.now c.args.exits c.args.scratch.now c.args.from c.requires (neighbours_of (plan_for c.args.net.problem c.args.plan.now) c.args.from.cell).left
 no-left c =
     empty c.args.net c.args.plan.now c.args.exits c.args.scratch.now c.args.from c.requires _ (rw c.in_default-left.is at (left (goal.at.In_default-left c).After-try_cell-left))
 
-right : (c : After-try_cell-right) → Only c.args.net c.args.plan.now c.args.exits c.args.scratch.now c.args.from c.requires (neighbours_of (plan_for c.args.net.problem c.args.plan.now) c.args.from.cell).right-1 c.try_cell-right.result
+right : (c : After-try_cell-right) → Only c.args.net c.args.plan.now c.args.exits c.args.scratch.now c.args.from c.requires (neighbours_of (plan_for c.args.net.problem c.args.plan.now) c.args.from.cell).right c.try_cell-right.result
 right c = rw (near (goal.at.After-try_cell-right c).After-neighbours_of-near) at c.try_cell-right.ensures
 
-no-right : (c : In_default-right) → Empty c.args.net c.args.plan.now c.args.exits c.args.scratch.now c.args.from c.requires (neighbours_of (plan_for c.args.net.problem c.args.plan.now) c.args.from.cell).right-1
+no-right : (c : In_default-right) → Empty c.args.net c.args.plan.now c.args.exits c.args.scratch.now c.args.from c.requires (neighbours_of (plan_for c.args.net.problem c.args.plan.now) c.args.from.cell).right
 no-right c =
     empty c.args.net c.args.plan.now c.args.exits c.args.scratch.now c.args.from c.requires _ (rw c.in_default-right.is at (right (goal.at.In_default-right c).After-try_cell-right))
 

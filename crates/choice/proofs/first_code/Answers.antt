@@ -1,7 +1,6 @@
 -- The tests of the code, in the order of the codes, by the laws of `Codes`.
 use Prim.Native.Nat.{ℕ, ◌+◌, ◌<◌, ◌≤◌}
 use mathlib.Core.Path.{◌≡◌, sym, ◌∙◌}
-use mathlib.Core.Logic.{⊎_elim}
 use native.Mathlib.Omega.{arith}
 use lib.Dec.{T, ltb}
 use lib.ListN.{length, get_or}
@@ -14,7 +13,7 @@ use Rattle.choice.specs.Choice.{delay_most}
 use Rattle.choice.specs.Codes.{goes_at}
 use Rattle.choice.proofs.Codes.{high-closes, code-first, code-none, code-buffer, no_buffer, no-site, low-more}
 use Rattle.choice.proofs.first_code.Goals as goal
-use Rattle.choice.proofs.first_code.Goals.{After-below, After-shared_slice_known-2-1, Else-closes, Joined-takes_buffers}
+use Rattle.choice.proofs.first_code.Goals.{After-below, After-shared_slice_known-2-1, Else-closes, Joined-takes_buffers, then-takes_buffers+else-i-elements, else-takes_buffers}
 
 -- all words have 16 bits
 bits : (c : After-shared_slice_known-2-1) → (k : ℕ) → get_or c.args.scratch.now k 0 ≤ delay_most
@@ -27,10 +26,10 @@ tested c = sym (rw c.budget_at.ensures at c.below.ensures)
 -- past the buffers, no code below the register's goes on
 low : (c : Joined-takes_buffers) → let a = c.args in (code : ℕ) → code < register_code → T (goes_at (net_rules a.net a.plan.now) (labels_for (length a.plan.now) a.exits a.scratch.now) (budget_of (length a.plan.now) a.scratch.now) a.at code) → ⊥
 low c =
-    ⊎_elim
-    (λ w. no_buffer c.args.net c.args.plan.now c.args.exits c.args.scratch.now c.args.at c.requires (tested (goal.at.Joined-takes_buffers c).After-below ∙ c.if-below.false) (sym c.takes_buffers.ensures ∙ w.0.taken) _ w.1.ensures w.3.left)
-    (λ w. no-site c.args.net c.args.plan.now c.args.exits c.args.scratch.now c.args.at c.requires (tested (goal.at.Joined-takes_buffers c).After-below ∙ c.if-below.false) (sym c.takes_buffers.ensures ∙ w.left))
-    c.if-takes_buffers.branch
+    elim c.if-takes_buffers.branch [
+      | then-takes_buffers+else-i-elements w ↦ no_buffer c.args.net c.args.plan.now c.args.exits c.args.scratch.now c.args.at c.requires (tested (goal.at.Joined-takes_buffers c).After-below ∙ c.if-below.false) (sym c.takes_buffers.ensures ∙ w.if-takes_buffers.true) _ w.first_buffer-i.ensures w.if-i-elements.false
+      | else-takes_buffers w ↦ no-site c.args.net c.args.plan.now c.args.exits c.args.scratch.now c.args.at c.requires (tested (goal.at.Joined-takes_buffers c).After-below ∙ c.if-below.false) (sym c.takes_buffers.ensures ∙ w.if-takes_buffers.false)
+    ]
 
 -- nor the register's
 low-fifo : (c : Else-closes) → let a = c.args in (code : ℕ) → code < fifo_code → T (goes_at (net_rules a.net a.plan.now) (labels_for (length a.plan.now) a.exits a.scratch.now) (budget_of (length a.plan.now) a.scratch.now) a.at code) → ⊥

@@ -44,26 +44,22 @@ start_delay-requires c =
 pub returns-then-code-ge7 : goal.returns-then-code-ge7
 unfolding left_load left_delay left_weight left_slack
 returns-then-code-ge7 c =
-    let after-load = c.before.before.before.before.before in
-    let after-slack = after-load.before.before in
-    let after-gate = after-slack.before.before in
-    let start = after-gate.before.before.before in
-    let at = start.args.at in
-    let code = start.args.code in
-    let shuts = is_true (is_closing code) (high-closes code start.requires.small after-gate.if-code-ge7.true) in
-    let some = after-gate.if-code-eq0.false in
-    let gate = after-gate.gate-gate.ensures in
-    let side = after-load.side_after-side.ensures in
-    let own = to_z-of_z {w = w32} {z = at.slack-close} (record { sfits = c.struct_told-1.given.1.1.1.1.1.0.1 }) in
-    let close = to_z-of_z {w = w32} {z = after-slack.slack-close.result} (record { sfits = after-slack.slack-close.type_inv }) in
+    let at = c.args.at in
+    let code = c.args.code in
+    let shuts = is_true (is_closing code) (high-closes code c.requires.small c.if-code-ge7.true) in
+    let some = c.if-code-eq0.false in
+    let gate = c.gate-gate.ensures in
+    let side = c.side_after-side.ensures in
+    let own = to_z-of_z {w = w32} {z = at.slack} (record { sfits = c.struct_told-1.given.1.1.1.1.1.0.1 }) in
+    let close = to_z-of_z {w = w32} {z = c.slack-close.result} (record { sfits = c.slack-close.type_inv }) in
     let made = to_z-of_z {w = w32} {z = c.smaller_slack.result} (record { sfits = c.smaller_slack.type_inv }) in
     record {
       cell = refl;
-      load = simp (ne_eqb code no_gate some, shuts) (rw gate at after-load.load.ensures);
+      load = simp (ne_eqb code no_gate some, shuts) (rw gate at c.load.ensures);
       delay = simp (ne_eqb code no_gate some, shuts) (rw gate at c.start_delay.ensures);
       weight = simp shuts (rw (c.weight.ensures, side) at c.fewer.ensures);
       steps = refl;
-      slack = simp shuts (made ∙ (c.smaller_slack.ensures ∙ ap₂ smaller own (close ∙ rw (gate, after-slack.period.ensures) at after-slack.slack-close.ensures)));
+      slack = simp shuts (made ∙ (c.smaller_slack.ensures ∙ ap₂ smaller own (close ∙ rw (gate, c.period.ensures) at c.slack-close.ensures)));
       side = side;
     }
 
@@ -76,21 +72,18 @@ after-requires c =
 pub returns : goal.returns
 unfolding left_load left_delay left_weight left_slack buffer_at buffer_of driver_of
 returns c =
-    let after-load = c.before.before.before in
-    let else = after-load.before.before.before in
-    let start = else.before.before in
-    let code = start.args.code in
-    let b = buffer_at start.args.net.problem.elements (code - 1) in
-    let some = else.if-code-eq0.false in
-    let unclosed = below-open code (omega (arith, else.if-code-ge7.false)) in
+    let code = c.args.code in
+    let b = buffer_at c.args.net.problem.elements (code - 1) in
+    let some = c.if-code-eq0.false in
+    let unclosed = below-open code (omega (arith, c.if-code-ge7.false)) in
     let passes = is_false (is_closing code) unclosed in
     let driver : c.driver.result ≡ buffer_driver b = c.driver.ensures in
     record {
       cell = refl;
-      load = simp (ne_eqb code no_gate some, passes) after-load.load-2.ensures;
+      load = simp (ne_eqb code no_gate some, passes) c.load-2.ensures;
       delay = simp (ne_eqb code no_gate some, passes) (rw driver at c.after.ensures);
       weight = simp passes;
       steps = refl;
-      slack = simp passes (to_z-of_z {w = w32} {z = start.args.at.slack} (record { sfits = c.struct_told-2-1.given.1.1.1.1.1.0.1 }));
+      slack = simp passes (to_z-of_z {w = w32} {z = c.args.at.slack} (record { sfits = c.struct_told-2-1.given.1.1.1.1.1.0.1 }));
       side = sym (side-kept _ code unclosed);
     }

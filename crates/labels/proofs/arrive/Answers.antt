@@ -15,7 +15,7 @@ use Rattle.labels.specs.Labels.{known_of, order_of, other_code, ListedOr, LabelB
 use Rattle.labels.proofs.Codes.{other-closes, other_differs}
 use Rattle.labels.proofs.Labels.{known-below, label_kept}
 use Rattle.labels.proofs.arrive.Goals as goal
-use Rattle.labels.proofs.arrive.Goals.{Else-is_after, In-loop-i}
+use Rattle.labels.proofs.arrive.Goals.{In-loop-i}
 
 arrived-none : (n set code : ℕ) (idle : Bool) (from k s : ℕ) (words : List ℕ) (active : ℕ) → Listed n words (n * active_at) active → Arrived n set code idle from from k s words words active
 arrived-none n set code idle from k s words active l =
@@ -137,20 +137,20 @@ offset_bounds-scratch-set c = omega (arith, c.requires.set_in.small, c.requires.
 
 pub bounds-scratch-set : goal.bounds-scratch-set
 bounds-scratch-set c =
-    omega (arith, c.requires.set_in.room, few c.before, c.loop-i.invariant.1.same, c.loop-i-test.true)
+    omega (arith, c.requires.set_in.room, few (goal.at.bounds-scratch-set c).In-loop-i, c.loop-i.invariant.1.same, c.loop-i-test.true)
 
 pub overflow_cast-cell : goal.overflow_cast-cell
-overflow_cast-cell c = omega (arith, cell_below c.before, c.requires.set_in.small)
+overflow_cast-cell c = omega (arith, cell_below (goal.at.overflow_cast-cell c).In-loop-i, c.requires.set_in.small)
 
 pub is_after-requires : goal.is_after-requires
 is_after-requires c =
-    let w : In-loop-i = c.before.before in
+    let w = (goal.at.is_after-requires c).In-loop-i in
     let a = w.requires.set_in in
     (record { small = a.small; low = a.low; room = omega (arith, a.room, w.loop-i.invariant.1.same) }, rw (label_same w).known (cell-known w))
 
 pub returns-then-is_after : goal.returns-then-is_after
 returns-then-is_after c =
-    let w : In-loop-i = c.before.before.before.before in
+    let w = (goal.at.returns-then-is_after c).In-loop-i in
     record {
       within = w.loop-i.invariant.0;
       late = λ h. rw (← cell_same w) (rw (← (label_same w).weight, ← (label_same w).steps) (c.is_after.ensures.after c.if-is_after.true));
@@ -159,18 +159,17 @@ returns-then-is_after c =
 
 pub plant-listed-requires : goal.plant-listed-requires
 plant-listed-requires c =
-    let w : In-loop-i = c.before.before.before.before.before in
+    let w = (goal.at.plant-listed-requires c).In-loop-i in
     let a = w.requires in
     (a.closes, (w.loop-i.invariant.1.listed, (cell_below w, (a.set_in.small, omega (arith, a.room, w.loop-i.invariant.1.same)))))
 
 pub loop-i-preserved : goal.loop-i-preserved
 loop-i-preserved c =
-    let e : Else-is_after = c.before.before.before.before in
-    let w : In-loop-i = e.before.before.before.before in (
+    let w = (goal.at.loop-i-preserved c).In-loop-i in (
       omega arith,
       arrived-more w.requires.closes w.loop-i.invariant.1 (cell_same w) (cell_below w) c.plant-listed.ensures
           (λ j h. known-below _ _ _ _ (w.requires.known j (omega arith)))
-          (rw (← cell_same w) (rw (← (label_same w).weight, ← (label_same w).steps) (e.is_after.ensures.by e.if-is_after.false))),
+          (rw (← cell_same w) (rw (← (label_same w).weight, ← (label_same w).steps) (c.is_after.ensures.by c.if-is_after.false))),
     )
 
 pub returns : goal.returns

@@ -55,11 +55,10 @@ pub overflow_mul-cell : goal.overflow_mul-cell
 overflow_mul-cell c = omega (arith, cell_in (goal.at.overflow_mul-cell c).After-place-at, c.requires.0.few)
 
 pub copy-requires : goal.copy-requires
-copy-requires c =
-    (
-      inr (omega (arith, cell_in (goal.at.copy-requires c).After-place-at, c.place-at.ensures, place-above c.requires.0.sound (c.args.trail.count - 1) (omega (arith, c.requires.0.sound.fits)))),
-      (omega (arith, inside (goal.at.copy-requires c).After-place-at, c.requires.0.room), omega (arith, cell_in (goal.at.copy-requires c).After-place-at, c.requires.0.room)),
-    )
+copy-requires c = (
+  inr (omega (arith, cell_in (goal.at.copy-requires c).After-place-at, c.place-at.ensures, place-above c.requires.0.sound (c.args.trail.count - 1) (omega (arith, c.requires.0.sound.fits)))),
+  (omega (arith, inside (goal.at.copy-requires c).After-place-at, c.requires.0.room), omega (arith, cell_in (goal.at.copy-requires c).After-place-at, c.requires.0.room)),
+)
 
 pub returns : goal.returns
 returns c =

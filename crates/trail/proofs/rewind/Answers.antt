@@ -72,13 +72,13 @@ loop-left-preserved c =
       kept = λ k h. y.kept k h ∙ x.kept k h;
       sound = y.sound;
       lowest = y.lowest ∙ x.lowest;
-      history = λ u Z le past. y.history _ Z (top c.before.before.before.before _ y.fewer) (x.history u Z le past);
+      history = λ u Z le past. y.history _ Z (top (goal.at.loop-left-preserved c).Else-stamp_of-layer _ y.fewer) (x.history u Z le past);
     }
   where
-    top : (c.before.before.before.before : Else-stamp_of-layer) (k : ℕ) → c.loop-left.left.count ≡ k + 1 → c.args.layer < stamp_at c.args.n c.loop-left.scratch c.loop-left.left k
-    top c.before.before.before.before k f =
-        let z : c.loop-left.left.count - 1 ≡ k = omega arith in
-        omega (arith, newest (goal.at.loop-left-preserved c).After-stamp_of, c.if-stamp_of-layer.false, ap (stamp_at c.args.n c.loop-left.scratch c.loop-left.left) z)
+    top : (e : Else-stamp_of-layer) (k : ℕ) → e.loop-left.left.count ≡ k + 1 → e.args.layer < stamp_at e.args.n e.loop-left.scratch e.loop-left.left k
+    top e k f =
+        let z : e.loop-left.left.count - 1 ≡ k = omega arith in
+        omega (arith, newest (goal.at.Else-stamp_of-layer e).After-stamp_of, e.if-stamp_of-layer.false, ap (stamp_at e.args.n e.loop-left.scratch e.loop-left.left) z)
 
 pub shape_of-scratch : goal.shape_of-scratch
 shape_of-scratch c = c.loop-left.invariant.same

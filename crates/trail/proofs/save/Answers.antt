@@ -15,7 +15,7 @@ use Rattle.trail.proofs.Slots.{place-in, place-above}
 use Rattle.trail.proofs.History.{sound_none}
 use Rattle.trail.proofs.Changes.{saved}
 use Rattle.trail.proofs.save.Goals as goal
-use Rattle.trail.proofs.save.Goals.{After-place-at, After-slice_known-2-1}
+use Rattle.trail.proofs.save.Goals.{After-place-at}
 
 -- no slots: nothing can be had back any more
 pub save-nothing : (n cell : ℕ) (words : List ℕ) (t : Trail) → t.room ≡ 0 → Saved n cell words t words (record { room = 0; start = 0; count = 0; low = t.stamp; stamp = t.stamp })
@@ -110,42 +110,37 @@ after : (c : After-place-at) → c.args.n * arrival_at + row_words ≤ c.place-a
 after c = omega (arith, c.place-at.ensures, place-above c.make_room-kept.ensures.sound _ c.make_room-kept.ensures.free)
 
 pub copy-requires : goal.copy-requires
-copy-requires c =
-    (
-      inl (omega (arith, after (goal.at.copy-requires c).After-place-at, c.requires.1)),
-      (omega (arith, c.requires.1, c.requires.0.room), omega (arith, room (goal.at.copy-requires c).After-place-at, c.requires.0.room)),
-    )
-
-bounds : (c : After-slice_known-2-1) → (c.place-at.result + slot_words ≤ 262144) × (c.place-at.result + slot_words ≤ length c.copy.new.0)
-bounds c =
-    (omega (arith, room (goal.at.After-slice_known-2-1 c).After-place-at, c.requires.0.few), omega (arith, room (goal.at.After-slice_known-2-1 c).After-place-at, c.requires.0.room, c.copy.ensures.same))
+copy-requires c = (
+  inl (omega (arith, after (goal.at.copy-requires c).After-place-at, c.requires.1)),
+  (omega (arith, c.requires.1, c.requires.0.room), omega (arith, room (goal.at.copy-requires c).After-place-at, c.requires.0.room)),
+)
 
 pub overflow_add-scratch : goal.overflow_add-scratch
-overflow_add-scratch c = omega (arith, bounds c)
+overflow_add-scratch c = omega (arith, room (goal.at.overflow_add-scratch c).After-place-at, c.requires.0.few)
 
 pub offset_bounds-scratch-at : goal.offset_bounds-scratch-at
-offset_bounds-scratch-at c = omega (arith, bounds c)
+offset_bounds-scratch-at c = omega (arith, room (goal.at.offset_bounds-scratch-at c).After-place-at, c.requires.0.few)
 
 pub bounds-scratch-at : goal.bounds-scratch-at
-bounds-scratch-at c = omega (arith, bounds c)
+bounds-scratch-at c = omega (arith, room (goal.at.bounds-scratch-at c).After-place-at, c.requires.0.room, c.copy.ensures.same)
 
 pub overflow_add-scratch-2 : goal.overflow_add-scratch-2
-overflow_add-scratch-2 c = omega (arith, bounds c)
+overflow_add-scratch-2 c = omega (arith, room (goal.at.overflow_add-scratch-2 c).After-place-at, c.requires.0.few)
 
 pub offset_bounds-scratch-at-2 : goal.offset_bounds-scratch-at-2
-offset_bounds-scratch-at-2 c = omega (arith, bounds c)
+offset_bounds-scratch-at-2 c = omega (arith, room (goal.at.offset_bounds-scratch-at-2 c).After-place-at, c.requires.0.few)
 
 pub bounds-scratch-at-2 : goal.bounds-scratch-at-2
-bounds-scratch-at-2 c = simp length-set (omega (arith, bounds c))
+bounds-scratch-at-2 c = simp length-set (omega (arith, room (goal.at.bounds-scratch-at-2 c).After-place-at, c.requires.0.room, c.copy.ensures.same))
 
 pub overflow_add-scratch-3 : goal.overflow_add-scratch-3
-overflow_add-scratch-3 c = omega (arith, bounds c)
+overflow_add-scratch-3 c = omega (arith, room (goal.at.overflow_add-scratch-3 c).After-place-at, c.requires.0.few)
 
 pub offset_bounds-scratch-at-3 : goal.offset_bounds-scratch-at-3
-offset_bounds-scratch-at-3 c = omega (arith, bounds c)
+offset_bounds-scratch-at-3 c = omega (arith, room (goal.at.offset_bounds-scratch-at-3 c).After-place-at, c.requires.0.few)
 
 pub bounds-scratch-at-3 : goal.bounds-scratch-at-3
-bounds-scratch-at-3 c = simp length-set (omega (arith, bounds c))
+bounds-scratch-at-3 c = simp length-set (omega (arith, room (goal.at.bounds-scratch-at-3 c).After-place-at, c.requires.0.room, c.copy.ensures.same))
 
 pub returns : goal.returns
 returns c =

@@ -16,7 +16,7 @@ use Rattle.labels.proofs.sites.fresh_in.Goals as goal
 
 load-most : {gate : Register} → RegisterInRange gate → register_load gate ≤ load_max
 unfolding register_load
-load-most v = v.load-load
+load-most v = v.load
 
 delay-most : {gate : Register} → RegisterInRange gate → setup_delay gate ≤ 2 * setup_max
 unfolding setup_delay

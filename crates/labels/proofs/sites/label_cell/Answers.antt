@@ -100,7 +100,7 @@ fresh_in-requires c =
 
 pub returns-then-not-fresh_in : goal.returns-then-not-fresh_in
 returns-then-not-fresh_in c =
-    not-fresh _ _ _ _ _ _ _ _ _ c.requires.0 c.requires.1 _ (rw c.gate.ensures at c.before.Fresh-in.ensures) c.if-not-fresh_in.true-raw
+    not-fresh _ _ _ _ _ _ _ _ _ c.requires.0 c.requires.1 _ (rw c.gate.ensures at c.fresh_in.ensures) c.if-not-fresh_in.true-raw
 
 pub may_register-requires : goal.may_register-requires
 may_register-requires c = (c.requires.0.ready.ready, c.requires.1)
@@ -123,4 +123,4 @@ overflow_add-result c =
 
 pub returns : goal.returns
 returns c =
-    one_more _ _ _ _ _ _ _ _ _ c.requires.0 c.requires.1 (unlabelled-word (goal.at.returns c).Else-weight_word-gt0) _ _ (rw c.gate.ensures at c.before.before.before.before.before.before.before.Fresh-in.ensures) c.if-not-fresh_in.false-raw c.may_register.ensures c.if-not-may_register.false-raw _ c.label.ensures
+    one_more _ _ _ _ _ _ _ _ _ c.requires.0 c.requires.1 (unlabelled-word (goal.at.returns c).Else-weight_word-gt0) _ _ (rw c.gate.ensures at c.fresh_in.ensures) c.if-not-fresh_in.false-raw c.may_register.ensures c.if-not-may_register.false-raw _ c.label.ensures

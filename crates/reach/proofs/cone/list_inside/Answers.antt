@@ -1,7 +1,7 @@
 use Prim.Native.Nat.{ℕ, ◌+◌, ◌*◌, ◌-◌, ◌<◌}
 use mathlib.Core.Path.{◌≡◌, refl, sym, ◌∙◌}
 use mathlib.Core.Bool.{Bool}
-use mathlib.Core.Logic.{◌⊎◌, inl, inr, ⊎_elim}
+use mathlib.Core.Logic.{◌⊎◌, inl, inr}
 use mathlib.Core.List.{List}
 use native.Mathlib.Omega.{arith}
 use lib.Dec.{T}
@@ -13,7 +13,7 @@ use Rattle.lists.proofs.Lists.{listed-none, enlisted-stays}
 use Rattle.labels.proofs.Labels.{unknown-not}
 use Rattle.reach.specs.Cone.{ListAsks, ListedInside}
 use Rattle.reach.proofs.cone.list_inside.Goals as goal
-use Rattle.reach.proofs.cone.list_inside.Goals.{In-loop-i}
+use Rattle.reach.proofs.cone.list_inside.Goals.{In-loop-i, then-in_cone, else-in_cone}
 
 module _ (n : ℕ) (P : ℕ → Bool) (old : List ℕ) where
   none_yet : {active width : ℕ} → ListAsks n active width old → ListedInside n 0 P old old 0
@@ -87,10 +87,10 @@ pub loop-i-preserved : goal.loop-i-preserved
 loop-i-preserved c =
     let f = c.loop-i.invariant.1 in (
       omega arith,
-      ⊎_elim
-          (λ x. rw (x.5, x.6) (now-inside _ _ _ _ _ _ f _ _ _ (cell_same (goal.at.loop-i-preserved c).In-loop-i) (λ j h. c.requires.cells j (omega arith)) x.2.ensures))
-          (λ x. rw (x.1, x.2) (not-inside _ _ _ _ _ _ f (λ t. unknown-not (sym c.in_cone.ensures ∙ x.0.left) (rw (cell_same (goal.at.loop-i-preserved c).In-loop-i) t))))
-          c.if-in_cone.branch,
+      elim c.if-in_cone.branch [
+        | then-in_cone x ↦ rw (x.scratch-is, x.count-is) (now-inside _ _ _ _ _ _ f _ _ _ (cell_same (goal.at.loop-i-preserved c).In-loop-i) (λ j h. c.requires.cells j (omega arith)) x.enlist-count.ensures)
+        | else-in_cone x ↦ rw (x.scratch-is, x.count-is) (not-inside _ _ _ _ _ _ f (λ t. unknown-not (sym c.in_cone.ensures ∙ x.if-in_cone.false) (rw (cell_same (goal.at.loop-i-preserved c).In-loop-i) t)))
+      ],
     )
 
 pub returns : goal.returns

@@ -3,7 +3,6 @@
 use Prim.Native.Nat.{ℕ, ◌+◌, ◌-◌, ◌≤◌}
 use mathlib.Core.Bool.{Bool}
 use mathlib.Core.List.{List}
-use borrow.Author.Rules.{rules}
 use lib.ListN.{length}
 use Rattle.plan.specs.Apart.{apart_by}
 use Rattle.budget.specs.Cone.{in_cone}
@@ -21,14 +20,6 @@ inside net cell steps = in_cone (apart_by net.problem.width cell) (steps + 1)
 abbrev pub Turning : Net → List ℕ → ℕ → ℕ → ℕ → ℕ → ℕ → ℕ → List ℕ → List ℕ → ℕ → ℕ → ℕ → ℕ → Trail → Type 0
 Turning net marks f count exits cell weight steps old words u active at exit trail =
     Current (net_rules net marks) (length marks) f weight (inside net cell steps) old words u active at count exit exits × Trailing (net_rules net marks) (length marks) f weight exits (inside net cell steps) old words u trail
-
--- the entry, the net's rules and cells
-
-abbrev pub cells : At-loop-u → ℕ
-cells a = length a.args.plan.now
-
-abbrev pub cone : At-loop-u → ℕ → ℕ → Bool
-cone a = inside a.args.net a.args.cell a.args.steps
 
 abbrev pub invariant-loop-u : goal.invariant-loop-u
 invariant-loop-u l =

@@ -26,7 +26,7 @@ pub arrive_both-requires : goal.arrive_both-requires
 arrive_both-requires c =
     let R = net_rules c.args.net c.args.plan.now in
     let same = c.clear_span.ensures.same in
-    let r = labels-start R _ _ _ c.clear_span.ensures _ _ _ c.requires.ordered c.requires.exits_ordered c.requires.in_step _ _ c.first_with-at.ensures c.first_exit-exit.ensures 0 (λ u c.before.before.before.before. true) in
+    let r = labels-start R _ _ _ c.clear_span.ensures _ _ _ c.requires.ordered c.requires.exits_ordered c.requires.in_step _ _ c.first_with-at.ensures c.first_exit-exit.ensures 0 (λ u e. true) in
     both-ask R _ _ _ _ _ _ _ _ _ _ _ _ r (few-cells _ _ c.requires.ready.ready) (omega (arith, c.requires.room, same)) (λ h. omega (arith, c.requires.exits_in h, same))
 
 pub returns : goal.returns

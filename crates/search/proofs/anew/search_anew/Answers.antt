@@ -22,23 +22,22 @@ pub clear-requires-2 : goal.clear-requires-2
 clear-requires-2 c = (omega arith, omega (arith, c.requires.1.0, c.clear.ensures.same))
 
 pub search-requires : goal.search-requires
-search-requires c =
+search-requires c = (
+  c.requires.0,
+  (
+    omega (arith, c.requires.1.0, c.clear-2.ensures.same, c.clear.ensures.same),
     (
-      c.requires.0,
+      record {
+        table = λ i h. c.clear-2.ensures.low i (omega arith) ∙ filled_at c.clear.ensures i (omega arith) (omega arith);
+        labels = λ i lo hi. filled_at c.clear-2.ensures i (omega arith) (omega arith);
+      },
       (
-        omega (arith, c.requires.1.0, c.clear-2.ensures.same, c.clear.ensures.same),
-        (
-          record {
-            table = λ i h. c.clear-2.ensures.low i (omega arith) ∙ filled_at c.clear.ensures i (omega arith) (omega arith);
-            labels = λ i lo hi. filled_at c.clear-2.ensures i (omega arith) (omega arith);
-          },
-          (
-            asks-kept c.requires.1.1.0 _ (c.clear-2.ensures.same ∙ c.clear.ensures.same) (λ i h. c.clear-2.ensures.high i (omega arith) ∙ c.clear.ensures.high i (omega arith)),
-            c.requires.1.1.1,
-          ),
-        ),
+        asks-kept c.requires.1.1.0 _ (c.clear-2.ensures.same ∙ c.clear.ensures.same) (λ i h. c.clear-2.ensures.high i (omega arith) ∙ c.clear.ensures.high i (omega arith)),
+        c.requires.1.1.1,
       ),
-    )
+    ),
+  ),
+)
 
 pub shape_of-scratch : goal.shape_of-scratch
 shape_of-scratch c =

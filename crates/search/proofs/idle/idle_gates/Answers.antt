@@ -7,7 +7,7 @@ use Rattle.table.specs.Problem.{net_rules}
 use Rattle.labels.specs.declared.both.Idle.{Idle}
 use Rattle.search.specs.Idle.{IdleFrom}
 use Rattle.search.proofs.IdleRows.{idle-right}
-use Rattle.labels.proofs.Idle.{none-idle}
+use Rattle.labels.proofs.IdleGates.{none-idle}
 use Rattle.search.proofs.idle.idle_gates.Goals as goal
 
 from-same : (costs : List ℕ) (a b : ℕ) (r : Idle) → a ≡ b → IdleFrom costs a r → IdleFrom costs b r

@@ -30,9 +30,9 @@ label_source-count-requires c =
     (c.requires.1.1.0, (few-cells _ _ c.requires.0.ready, (omega (arith, c.requires.1.0), c.requires.0.ready.source)))
 
 -- the start of the search
-starts : (c : After-label_source-count) → Waiting (net_rules c.args.net c.args.plan.now) (length c.args.plan.now) c.args.side c.args.exits c.label_source-count.new.0 0 0 0 0 c.label_source-count.result 0 0
+starts : (c : After-label_source-count) → Waiting (net_rules c.args.net c.args.plan.now) (length c.args.plan.now) c.args.side c.args.exits c.label_source-count.new.scratch 0 0 0 0 c.label_source-count.result 0 0
 starts c =
-    let a : Sourced (length c.args.plan.now) c.args.side (net_rules c.args.net c.args.plan.now).fifos (net_rules c.args.net c.args.plan.now).source c.args.scratch.now c.label_source-count.new.0 c.label_source-count.result = rw (net-fifos c.args.net c.args.plan.now, net-source c.args.net c.args.plan.now) c.label_source-count.ensures in
+    let a : Sourced (length c.args.plan.now) c.args.side (net_rules c.args.net c.args.plan.now).fifos (net_rules c.args.net c.args.plan.now).source c.args.scratch.now c.label_source-count.new.scratch c.label_source-count.result = rw (net-fifos c.args.net c.args.plan.now, net-source c.args.net c.args.plan.now) c.label_source-count.ensures in
     start-front (ready-lawful _ _ c.requires.0) c.requires.1.1.0 c.requires.1.1.1.0 a
 
 pub idle_gates-idle-requires : goal.idle_gates-idle-requires
@@ -64,7 +64,7 @@ take_turn-t-requires c =
     }
 
 -- the words since the start
-since : (c : After-take_turn-t) → (length c.take_turn-t.new.1.0 ≡ length c.args.scratch.now) × Beyond (length c.args.plan.now) c.args.side c.args.scratch.now c.take_turn-t.new.1.0
+since : (c : After-take_turn-t) → (length c.take_turn-t.new.scratch ≡ length c.args.scratch.now) × Beyond (length c.args.plan.now) c.args.side c.args.scratch.now c.take_turn-t.new.scratch
 since c =
     let turn = c.take_turn-t.ensures in
     let loop = c.loop-weight.invariant in
@@ -102,11 +102,11 @@ loop-weight-smaller c =
     omega (
       arith,
       advances g.1 a,
-      total-fits (length c.args.plan.now) c.arrive_both-b.new.0 few (λ i. (c.slice_known-in-On-1.given i).fits),
+      total-fits (length c.args.plan.now) c.arrive_both-b.new.scratch few (λ i. (c.slice_known-in-On-1.given i).fits),
       a.near.within,
       ordered-count g.0.standing.near.ordered,
       a.far.within,
-      exits-few c,
+      exits-few (goal.at.loop-weight-smaller c).After-slice_known-in-On-1,
       few,
     )
   where

@@ -7,7 +7,7 @@ use Rattle.search.proofs.turns.at_sink.Goals as goal
 
 pub returns-then-side-eq0 : goal.returns-then-side-eq0
 returns-then-side-eq0 c =
-    let e = c.Fresh-in.ensures in
+    let e = c.fresh_in.ensures in
     record {
       yes = λ h. c.if-side-eq0.true;
       comes = λ h n k. ltb-true _ _ (sym (e n k) ∙ h);

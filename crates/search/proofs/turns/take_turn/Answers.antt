@@ -30,7 +30,7 @@ next_layer-grown-requires c =
     (c.requires.ready, (c.requires.room, (c.requires.front.waiting.standing.list.listed, (rw c.no_trail.ensures (sound_none _ _ no_trail refl refl (omega arith) (omega arith)), (coloured-unlinked (problem-colouring c.args.net c.args.plan.now) c.requires.front.waiting.standing.coloured, c.requires.costed)))))
 
 -- the layer, made without a trail, by this side's bound
-made : (c : After-next_layer-grown) → Layered (net_rules c.args.net c.args.plan.now) (length c.args.plan.now) ((net_rules c.args.net c.args.plan.now).bound 0 c.args.side) no_trail c.args.scratch.now c.next_layer-grown.new.1.0 c.next_layer-grown.result
+made : (c : After-next_layer-grown) → Layered (net_rules c.args.net c.args.plan.now) (length c.args.plan.now) ((net_rules c.args.net c.args.plan.now).bound 0 c.args.side) no_trail c.args.scratch.now c.next_layer-grown.new.scratch c.next_layer-grown.result
 made c =
     rw (net-bound c.args.net c.args.plan.now 0 c.args.side) (rw (c.no_trail.ensures, c.period.ensures) at c.next_layer-grown.ensures)
 

@@ -1,6 +1,5 @@
 use Prim.Native.Nat.{◌+◌, ◌*◌, ◌-◌}
 use mathlib.Core.Path.{◌≡◌, sym, ◌∙◌}
-use mathlib.Core.Logic.{⊎_elim}
 use native.Mathlib.Omega.{arith}
 use native.Mathlib.Numerals.{add-one}
 use lib.ListN.{get_or}
@@ -13,6 +12,7 @@ use Rattle.rows.proofs.Words.{filled_none, filled-longer, filled-as, filled-twic
 use Rattle.rows.proofs.Leaves.{raised-driven}
 use Rattle.table.proofs.ArrivalRow.{raised-by-none, raised-by-past, raised-by-more}
 use Rattle.table.proofs.arrival.raise_buffers.Goals as goal
+use Rattle.table.proofs.arrival.raise_buffers.Goals.{then-load-limit, else-load-limit}
 
 pub loop-i-init : goal.loop-i-init
 loop-i-init c = (omega arith, filled-longer (filled_none _ _ _) row_words (omega arith) (λ k a b. sym (raised-by-none _ _ _ _ k)))
@@ -33,20 +33,20 @@ unfolding buffer_at buffer_of driver_of buffer_driver
 loop-i-preserved c =
     let loop = c.loop-i in
     let a = c.args in
-    let b = buffer_at a.t4 loop.i in
+    let b = buffer_at a.elements loop.i in
     let load : c.load-load.result.0 ≡ buffer_load b = c.load-load.ensures in (
       omega arith,
-      rw add-one (⊎_elim
-          (λ w.
-          let raise : Filled (raised loop.scratch-1 a.to w.2.result a.costs.now (buffers_at loop.i)) a.to row_words loop.scratch-1 w.4.last.0 = w.4.ensures in
-          let top = loop.invariant.1.low (a.cell * row_words + buffer_load b) (omega arith) in
-          let known = c.slice_known-1.given (a.cell * row_words + buffer_load b) in
-          rw w.7 (filled-as (filled-twice loop.invariant.1 _ _ (rw load at (rw w.2.ensures at raise))) _ (λ k h. raised-driven loop.scratch-1 a.to (get_or loop.scratch-1 (a.cell * row_words + buffer_load b) 0) a.costs.now (buffers_at loop.i) (buffer_driver b) a.t4.limit.0 (c.requires.costed loop.i (omega arith)) (omega (arith, top, known)) k h ∙ raised-by-more a.scratch-1.now a.cell a.to a.t4 loop.i k loop.scratch-1 (loop.invariant.1.done k h) top (omega (arith, load, w.0.taken)))))
-          (λ w. rw w.1 (filled-as loop.invariant.1 _ (λ k h. raised-by-past a.scratch-1.now a.cell a.to a.t4 loop.i k (omega (arith, load, w.0.left)))))
-          c.if-load-limit.branch),
+      rw add-one (elim c.if-load-limit.branch [
+        | then-load-limit w ↦
+            let raise : Filled (raised loop.scratch a.to w.view-top.result a.costs.now (buffers_at loop.i)) a.to row_words loop.scratch w.raise_row.new.scratch = w.raise_row.ensures in
+            let top = loop.invariant.1.low (a.cell * row_words + buffer_load b) (omega arith) in
+            let known = c.slice_known-1.given (a.cell * row_words + buffer_load b) in
+            rw w.scratch-is (filled-as (filled-twice loop.invariant.1 _ _ (rw load at (rw w.view-top.ensures at raise))) _ (λ k h. raised-driven loop.scratch a.to (get_or loop.scratch (a.cell * row_words + buffer_load b) 0) a.costs.now (buffers_at loop.i) (buffer_driver b) a.elements.limit.0 (c.requires.costed loop.i (omega arith)) (omega (arith, top, known)) k h ∙ raised-by-more a.scratch.now a.cell a.to a.elements loop.i k loop.scratch (loop.invariant.1.done k h) top (omega (arith, load, w.if-load-limit.true))))
+        | else-load-limit w ↦ rw w.scratch-is (filled-as loop.invariant.1 _ (λ k h. raised-by-past a.scratch.now a.cell a.to a.elements loop.i k (omega (arith, load, w.if-load-limit.false))))
+      ]),
     )
 
 pub returns : goal.returns
 returns c =
-    let end : c.loop-i.i ≡ c.args.t4.count = omega arith in
+    let end : c.loop-i.i ≡ c.args.elements.count = omega arith in
     rw end at c.loop-i.invariant.1
