@@ -13,7 +13,7 @@ returns-then-scratch-at c =
     eased-none _ _ _ _ _ _ pre.1.1.0 (omega arith) (omega arith) (omega arith) c.if-scratch-at.true pre.1.0
 
 -- the row after `cut_row`
-row : (c : After-cut_row) → let a = c.args in Cut (a.cell * row_words + a.load) (a.cell * row_words + a.limit + 1) a.delay a.scratch-1.now c.cut_row.new.0
+row : (c : After-cut_row) → let a = c.args in Cut (a.cell * row_words + a.load) (a.cell * row_words + a.limit + 1) a.delay a.scratch.now c.cut_row.new.scratch
 row c = c.cut_row.ensures
 
 pub join-requires : goal.join-requires

@@ -1,9 +1,9 @@
 use Prim.Native.Nat.{◌-◌}
 use mathlib.Core.Path.{◌≡◌}
-use mathlib.Core.Logic.{⊎_elim}
 use native.Mathlib.Omega.{arith}
 use Rattle.delays.proofs.Closes.{nearest-none, nearest-stays, nearest-falls}
 use Rattle.delays.proofs.next_close.Goals as goal
+use Rattle.delays.proofs.next_close.Goals.{then-bound-close+then-close-least, then-bound-close+else-close-least, else-bound-close}
 
 pub loop-c-init : goal.loop-c-init
 loop-c-init c = (omega arith, nearest-none _ _ _)
@@ -13,12 +13,11 @@ loop-c-preserved c =
     let loop = c.loop-c in
     let near = loop.invariant.1 in (
       omega arith,
-      ⊎_elim
-          (λ w. rw w.2 (nearest-falls _ _ _ _ _ near (omega arith) (omega (arith, w.0.taken)) (omega (arith, w.1.taken))))
-          (⊎_elim
-          (λ w. rw w.2 (nearest-stays _ _ _ _ _ near (λ h. omega (arith, w.1.left))))
-          (λ w. rw w.1 (nearest-stays _ _ _ _ _ near (λ h. absurd (omega (arith, w.0.left))))))
-          c.if-bound-close.branch,
+      elim c.if-bound-close.branch [
+        | then-bound-close+then-close-least w ↦ rw w.least-is (nearest-falls _ _ _ _ _ near (omega arith) (omega arith) (omega arith))
+        | then-bound-close+else-close-least w ↦ rw w.least-is (nearest-stays _ _ _ _ _ near (λ h. omega arith))
+        | else-bound-close w ↦ rw w.least-is (nearest-stays _ _ _ _ _ near (λ h. absurd (omega arith)))
+      ],
     )
 
 pub returns : goal.returns

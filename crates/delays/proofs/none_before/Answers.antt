@@ -1,14 +1,14 @@
 use Prim.Native.Nat.{◌-◌}
 use mathlib.Core.Path.{◌≡◌}
 use mathlib.Core.Bool.{false}
-use mathlib.Core.Logic.{⊎_elim, inl, inr}
+use mathlib.Core.Logic.{inl, inr}
 use native.Mathlib.Omega.{arith}
 use Rattle.plan.proofs.Truth.{of-true}
 use Rattle.queue.specs.Queue.{Slot}
 use Rattle.queue.proofs.Queue.{queue-slot}
 use Rattle.delays.proofs.Idles.{idle-at, none_more}
 use Rattle.delays.proofs.none_before.Goals as goal
-use Rattle.delays.proofs.none_before.Goals.{In-loop-i}
+use Rattle.delays.proofs.none_before.Goals.{In-loop-i, then-delay-close+else-state-eq0+else-delay-scratch, else-delay-close}
 
 -- the place that is looked at
 slot : (c : In-loop-i) → let a = c.args in Slot a.n a.scratch.now c.loop-i.i
@@ -53,7 +53,7 @@ loop-i-preserved c =
     let a = c.args in (
       omega arith,
       none_more a.n a.scratch.now loop.i a.close loop.invariant.1
-          (⊎_elim (λ w. inr (idle-at _ _ w.1.left (omega (arith, w.3.left)))) (λ w. inl (omega (arith, w.left))) c.if-delay-close.branch),
+          (elim c.if-delay-close.branch [ then-delay-close+else-state-eq0+else-delay-scratch w ↦ inr (idle-at _ _ w.if-state-eq0.false (omega arith)) | else-delay-close w ↦ inl (omega arith) ]),
     )
 
 pub returns : goal.returns

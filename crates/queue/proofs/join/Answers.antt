@@ -8,10 +8,7 @@ use Rattle.layout.specs.Layout.{places_at}
 use Rattle.queue.specs.Queue.{Waits, Joined}
 use Rattle.queue.proofs.Queue.{stored, space-kept, queue-room, queue-room-for, joined-waiting, joined-new, joined-then}
 use Rattle.queue.proofs.join.Goals as goal
-use Rattle.queue.proofs.join.Goals.{Joined-place-count}
-
-pub overflow_cast-place : goal.overflow_cast-place
-overflow_cast-place c = omega (arith, c.slice_known-2-1.given (c.args.n * places_at + c.args.state))
+use Rattle.queue.proofs.join.Goals.{Joined-place-count, then-place-count+else-scratch-n, else-place-count}
 
 pub overflow_add-n : goal.overflow_add-n
 overflow_add-n c = omega (arith, queue-room c.requires.1.0)
@@ -33,7 +30,7 @@ returns-then-scratch-n c = joined-waiting (omega arith) (record { early = c.if-p
 
 -- the state does not wait, and there is room for it
 absent : (c : Joined-place-count) → Waits c.args.n c.args.scratch.now c.args.count c.args.state → ⊥
-absent c w = ⊎_elim (λ p. p.2.left w.holds) (λ p. omega (arith, w.early, p.left)) c.if-place-count.branch
+absent c w = elim c.if-place-count.branch [ then-place-count+else-scratch-n p ↦ p.if-scratch-n.false w.holds | else-place-count p ↦ omega arith ]
 
 short : (c : Joined-place-count) → c.args.count < c.args.n * row_words
 short c = queue-room-for c.requires.1.0 _ (omega arith) (absent c)

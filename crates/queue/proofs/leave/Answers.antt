@@ -12,14 +12,11 @@ use Rattle.queue.proofs.leave.Goals.{After-exchange}
 pub bounds-scratch-n : goal.bounds-scratch-n
 bounds-scratch-n c = omega (arith, c.requires.1.0.states 0 (omega arith))
 
-pub overflow_cast-state : goal.overflow_cast-state
-overflow_cast-state c = omega (arith, c.slice_known-2-1.given (c.args.n * queue_at))
-
 pub exchange-requires : goal.exchange-requires
 exchange-requires c = two-slots (requeued-self c.requires.1.0) _ _ (omega arith) (omega arith) c.requires.0
 
 -- after the exchange
-left : (c : After-exchange) → Left c.args.n c.args.count c.args.scratch.now c.exchange.new.0 (get_or c.args.scratch.now (c.args.n * queue_at) 0)
+left : (c : After-exchange) → Left c.args.n c.args.count c.args.scratch.now c.exchange.new.scratch (get_or c.args.scratch.now (c.args.n * queue_at) 0)
 left c = left-last c.requires.1.0 (omega arith) (ap (λ (k : ℕ). get_or c.args.scratch.now k 0) (omega arith)) c.exchange.ensures
 
 pub sift-requires : goal.sift-requires
