@@ -20,33 +20,52 @@ same "the version" "tools/route $(cat tools/VERSION)" "$(tools/route --version |
 fake=$work/repository
 few=$work/commands
 mkdir -p "$fake/examples" "$fake/target/tools" "$fake"/crates/{plan,other,script,route_printer,session_player}/src "$few"
+echo "its own input" >"$fake/crates/session_player/stdin"
 cp -r tools "$fake/"
 cp examples/README.md "$fake/examples/"
 printf 'plan:\nother: plan\nscript:\nroute_printer: io plan # and a comment\nsession_player: plan script\n' >"$fake/crates.txt"
-for command in bash dirname cat awk wc find mkdir touch mv mktemp rm chmod cp; do
+for command in bash dirname cat awk wc grep find mkdir touch mv mktemp rm chmod cp; do
     ln -s "$(command -v $command)" "$few/$command"
 done
 cp examples/twice.txt "$work/twice.txt"
 printf 'row\n' >"$work/bad.txt"
 twice="$(tools/route examples/twice.txt)"
 in_fake() { PATH=$few "$fake/tools/route" "$@"; }
-calls() { wc -l <"$work/calls"; }
+# a run without the words of how long each part took
+timed() {
+    in_fake "$@" 2>"$work/lines"
+    local status=$?
+    sed 's/, [0-9]* s$/, N s/' "$work/lines" >&2
+    return $status
+}
+first=route_printer
+calls() { grep -c " $first " "$work/calls"; }
 : >"$work/calls"
 
 told "no rt" 4 "" "tools/route: no rt, the Rattle toolchain (its kit's folder bin must be on the PATH), which proves and builds the planner" \
     in_fake "$work/twice.txt"
+# rt run in a program's folder: it proves what has changed, builds and runs the program
 cat >"$few/rt" <<END
-echo "rt \$*" >>"$work/calls"
-echo "logic=proved and more"
-echo "rt: plan proved (unchanged since it was last proved)"
-[ ! -e "$work/broken" ] || { echo "rt: route_printer NOT PROVED (exit 1, 3 s)"; exit 1; }
-echo "rt: route_printer proved (59 s)"
-echo "rt: script proved (1 s)"
-echo "rt: session_player proved (7 s)"
-mkdir -p target/bin
-[ -x target/bin/route_printer ] || cp "$PWD/$printer" target/bin/
-[ -x target/bin/session_player ] || [ -e "$work/unbuilt" ] || cp "$PWD/$player" target/bin/
-echo "rt: ok, 4 crates proved"
+program=\${PWD##*/}
+echo "rt \$* in \$program on '\$(cat)'" >>"$work/calls"
+part() { # NAME
+    echo "rt: chose --jobs 2 for \$1"
+    [ "\$1" != route_printer ] || [ ! -e "$work/broken" ] || {
+        echo "fn route_printer::main: not proved"
+        echo "logic=not-proved"
+        echo "rattle build: nothing was built, since only a proved crate is built"
+        exit 1
+    }
+    echo "logic=proved functions=1 and more"
+}
+rm -f out/\$program
+[ \$program != session_player ] || part script >&2
+part \$program >&2
+echo "rt: running out/\$program" >&2
+echo "what the program prints"
+mkdir -p out
+[ \$program != route_printer ] || cp "$PWD/$printer" out/
+[ \$program != session_player ] || [ -e "$work/unbuilt" ] || cp "$PWD/$player" out/
 END
 chmod +x "$few/rt"
 told "no rustc" 4 "" "tools/build: no rustc, the Rust compiler (Debian: package rustc), which compiles tools/job; examples/detour.job is a job without it" \
@@ -65,16 +84,19 @@ same "the compiler's words" "rustc -O --edition 2021 -o target/tools/NEW/job too
 log=target/log/tools_route.log
 wait="proving the planner, 4 parts; this takes several minutes the first time ($log has the prover's lines)"
 told "the first run" 0 "$twice" "$wait
-[2 of 4] route_printer, 59 s
-[3 of 4] script, 1 s
-[4 of 4] session_player, 7 s" in_fake "$work/twice.txt"
-same "the prover's words" "rt check route_printer session_player" "$(cat "$work/calls")"
-same "the log" "logic=proved and more
-rt: plan proved (unchanged since it was last proved)
-rt: route_printer proved (59 s)
-rt: script proved (1 s)
-rt: session_player proved (7 s)
-rt: ok, 4 crates proved" "$(cat "$fake/$log")"
+[2 of 4] route_printer, N s
+[3 of 4] script, N s
+[4 of 4] session_player, N s" timed "$work/twice.txt"
+same "the prover's words" "rt run in route_printer on ''
+rt run in session_player on 'its own input'" "$(cat "$work/calls")"
+same "the log" "rt: chose --jobs 2 for route_printer
+logic=proved functions=1 and more
+rt: running out/route_printer
+rt: chose --jobs 2 for script
+logic=proved functions=1 and more
+rt: chose --jobs 2 for session_player
+logic=proved functions=1 and more
+rt: running out/session_player" "$(cat "$fake/$log")"
 told "the second run" 0 "$twice" "" in_fake "$work/twice.txt"
 told "a run without a route" 1 "$(tools/route examples/slow.txt)" "" in_fake examples/slow.txt
 touch "$fake/crates/other/src/lib.rt"
@@ -92,7 +114,7 @@ rm "$fake/target/bin/session_player"
 touch "$work/unbuilt"
 in_fake "$work/twice.txt" >"$work/out" 2>"$work/err"
 same "status where the second program is not built" 4 $?
-same "what is said then" "tools/route: rt check route_printer session_player left no target/bin/session_player" "$(tail -n 1 "$work/err")"
+same "what is said then" "tools/route: rt run left no crates/session_player/out/session_player" "$(tail -n 1 "$work/err")"
 rm "$work/unbuilt"
 in_fake "$work/twice.txt" >"$work/out" 2>/dev/null
 same "proofs after the second program was missing" 5 "$(calls)"
@@ -101,8 +123,8 @@ told "a run after a change of the tool" 0 "$twice" "" in_fake "$work/twice.txt"
 same "compilations after a change of the tool" 2 "$(wc -l <"$work/compiled")"
 touch "$fake/crates.txt" "$work/broken"
 told "a proof that fails" 4 "" "$wait
-route_printer NOT PROVED (exit 1, 3 s)
-tools/route: rt check route_printer session_player failed; $log has the prover's lines" in_fake "$work/twice.txt"
+route_printer NOT PROVED
+tools/route: rt run in crates/route_printer failed; $log has the prover's lines" in_fake "$work/twice.txt"
 rm "$work/broken"
 in_fake "$work/twice.txt" >"$work/out" 2>/dev/null
 same "proofs after one that failed" 7 "$(calls)"

@@ -275,11 +275,12 @@ done
 rm "$fake/target/bin/session_player"
 printf 'plan:\nsession_player: io plan\n' >"$fake/crates.txt"
 cat >"$few/rt" <<END
-echo "rt \$*" >>"$work/calls"
-echo "rt: plan proved (unchanged since it was last proved)"
-echo "rt: session_player proved (7 s)"
-cp "$PWD/$player" target/bin/
+echo "rt \$* in \${PWD##*/} on '\$(cat)'" >>"$work/calls"
+echo "rt: chose --jobs 2 for session_player" >&2
+echo "logic=proved functions=1 and more" >&2
+cp "$PWD/$player" out/
 END
+first=session_player
 : >"$work/calls"
 in_fake() { PATH=$few "$fake/tools/verdict" "$@"; }
 printf 'none\n' >"$work/bad.sheet"
@@ -289,8 +290,8 @@ tools/route examples/twice.txt >"$work/own.sheet"
 log=target/log/tools_verdict.log
 wait="proving the planner, 2 parts; this takes several minutes the first time ($log has the prover's lines)"
 told "the first verdict" 0 "accepted: 5 visits, 1 register, 0 half-ticks spare" "$wait
-[2 of 2] session_player, 7 s" in_fake "$work/twice.txt" "$work/own.sheet"
-same "the prover's words for a verdict" "rt check session_player" "$(cat "$work/calls")"
+[2 of 2] session_player, N s" timed "$work/twice.txt" "$work/own.sheet"
+same "the prover's words for a verdict" "rt run in session_player on 'its own input'" "$(cat "$work/calls")"
 told "the second verdict" 0 "accepted: 5 visits, 1 register, 0 half-ticks spare" "" in_fake "$work/twice.txt" "$work/own.sheet"
 same "proofs for two verdicts" 1 "$(calls)"
 
