@@ -12,6 +12,7 @@ use report::{
     crossed, smaller, write_call, write_crossing_fault, write_crossing_figures, write_left,
 };
 use script::{Cursor, read_number};
+use std::io::{Result, Write};
 use streams::write_text;
 
 // The call on the first bytes of the plan, the first scratch words and the first `room` visit words.
@@ -45,40 +46,42 @@ fn crossing_of(
     )
 }
 
-// The call with fresh words, and its line; whether it was written.
-fn asked(
+// The call with fresh words, and its line.
+fn asked<W: Write>(
+    out: &mut W,
     net: Net,
     p: Player,
     room: usize,
     plan: &[u8],
     scratch: &mut [u16],
     visits: &mut [u16],
-) -> bool {
+) -> Result<()> {
     refill(scratch);
     refill(visits);
     let answer = crossing_of(net, p, room, plan, scratch, visits);
-    write_call(b"crossing", answer.number(), p.session.depth)
-        && write_crossing_fault(answer)
-        && write_text(b" figures")
-        && write_crossing_figures(answer)
-        && write_left(visits, crossed(answer), scratch)
+    write_call(out, b"crossing", answer.number(), p.session.depth)?;
+    write_crossing_fault(out, answer)?;
+    write_text(out, b" figures")?;
+    write_crossing_figures(out, answer)?;
+    write_left(out, visits, crossed(answer), scratch)
 }
 
 // crossing W H A B V
-pub fn crossing(
+pub fn crossing<W: Write>(
+    out: &mut W,
     src: &[u8],
     c: Cursor,
     p: Player,
     plan: &[u8],
     scratch: &mut [u16],
     visits: &mut [u16],
-) -> Turn {
+) -> Result<Turn> {
     let net = read_net(src, c);
     let v = read_number(src, net.cursor, VISIT_WORDS as u16);
     let cursor = v.cursor;
     if cursor.bad != 0 {
-        return next(cursor, p);
+        return Ok(next(cursor, p));
     }
-    let written = asked(net, p, v.value as usize, plan, scratch, visits);
+    let written = asked(out, net, p, v.value as usize, plan, scratch, visits);
     ended(cursor, p, written)
 }

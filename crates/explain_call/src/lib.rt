@@ -10,21 +10,25 @@ use player::{Net, Player, Turn, ended, next, read_net, refill};
 use reasons::explain_with;
 use report::{smaller, write_call, write_element, write_zeroed};
 use script::Cursor;
+use std::io::{Result, Write};
 use streams::{write_number, write_text};
 
-fn write_reason(reason: Reason) -> bool {
+fn write_reason<W: Write>(out: &mut W, reason: Reason) -> Result<()> {
     match reason {
-        Reason::WalledOff => write_text(b" walled"),
-        Reason::Load => write_text(b" load"),
-        Reason::Period(t) => write_text(b" period") && write_number(t as u64),
-        Reason::TooShort => write_text(b" short"),
+        Reason::WalledOff => write_text(out, b" walled"),
+        Reason::Load => write_text(out, b" load"),
+        Reason::Period(t) => {
+            write_text(out, b" period")?;
+            write_number(out, t as u64)
+        }
+        Reason::TooShort => write_text(out, b" short"),
     }
 }
 
-fn write_explained(explained: Explained) -> bool {
+fn write_explained<W: Write>(out: &mut W, explained: Explained) -> Result<()> {
     match explained {
-        Explained::Because(reason) => write_reason(reason),
-        Explained::Refused(r) => write_element(r),
+        Explained::Because(reason) => write_reason(out, reason),
+        Explained::Refused(r) => write_element(out, r),
     }
 }
 
@@ -48,22 +52,35 @@ fn explained_of(net: Net, p: Player, plan: &[u8], scratch: &mut [u16]) -> Explai
     )
 }
 
-// The call with fresh words, and its line; whether it was written.
-fn asked(net: Net, p: Player, plan: &[u8], scratch: &mut [u16]) -> bool {
+// The call with fresh words, and its line.
+fn asked<W: Write>(
+    out: &mut W,
+    net: Net,
+    p: Player,
+    plan: &[u8],
+    scratch: &mut [u16],
+) -> Result<()> {
     refill(scratch);
     let explained = explained_of(net, p, plan, scratch);
-    write_call(b"reason", explained.number(), p.session.depth)
-        && write_explained(explained)
-        && write_zeroed(scratch)
+    write_call(out, b"reason", explained.number(), p.session.depth)?;
+    write_explained(out, explained)?;
+    write_zeroed(out, scratch)
 }
 
 // reason W H A B
-pub fn reason(src: &[u8], c: Cursor, p: Player, plan: &[u8], scratch: &mut [u16]) -> Turn {
+pub fn reason<W: Write>(
+    out: &mut W,
+    src: &[u8],
+    c: Cursor,
+    p: Player,
+    plan: &[u8],
+    scratch: &mut [u16],
+) -> Result<Turn> {
     let net = read_net(src, c);
     let cursor = net.cursor;
     if cursor.bad != 0 {
-        return next(cursor, p);
+        return Ok(next(cursor, p));
     }
-    let written = asked(net, p, plan, scratch);
+    let written = asked(out, net, p, plan, scratch);
     ended(cursor, p, written)
 }

@@ -1,4 +1,5 @@
 // A line of a case, read byte by byte.
+use std::io::{Result, Write};
 use streams::write_text;
 
 #[derive(Clone, Copy)]
@@ -11,8 +12,6 @@ pub struct Line {
     pub value: u16,
     // bytes of the job so far
     pub bytes: usize,
-    // the label's bytes so far were written
-    pub written: bool,
 }
 
 pub fn start() -> Line {
@@ -21,25 +20,23 @@ pub fn start() -> Line {
         in_number: false,
         value: 0,
         bytes: 0,
-        written: true,
     }
 }
 
 // The label is written as it comes, with a newline after its colon.
-fn label(byte: u8) -> Line {
+fn label<W: Write>(out: &mut W, byte: u8) -> Result<Line> {
     let colon = byte == b':';
-    let written = if colon {
-        write_text(b":\n")
+    if colon {
+        write_text(out, b":\n")?;
     } else {
-        write_text(&[byte])
-    };
-    Line {
+        write_text(out, &[byte])?;
+    }
+    Ok(Line {
         in_job: colon,
         in_number: false,
         value: 0,
         bytes: 0,
-        written: written,
-    }
+    })
 }
 
 fn digit(byte: u8, line: Line) -> Line {
@@ -48,7 +45,6 @@ fn digit(byte: u8, line: Line) -> Line {
         in_number: true,
         value: line.value % 1000 * 10 + (byte % 16) as u16,
         bytes: line.bytes,
-        written: true,
     }
 }
 
@@ -62,21 +58,20 @@ fn number(line: Line, job: &mut [u8]) -> Line {
             in_number: false,
             value: 0,
             bytes: at + 1,
-            written: true,
         };
     }
     line
 }
 
-pub fn next(line: Line, byte: u8, job: &mut [u8]) -> Line {
+pub fn next<W: Write>(out: &mut W, line: Line, byte: u8, job: &mut [u8]) -> Result<Line> {
     if !line.in_job {
-        return label(byte);
+        return label(out, byte);
     }
     if b'0' <= byte {
-        return digit(byte, line);
+        return Ok(digit(byte, line));
     }
     if line.in_number {
-        return number(line, job);
+        return Ok(number(line, job));
     }
-    line
+    Ok(line)
 }

@@ -7,53 +7,47 @@ mod lines;
 
 use lines::{next, start};
 use printer::write_answer;
-use streams::{read_input, write_text};
+use std::io::{Result, Write};
+use streams::{fail, read_input, write_text};
 
 const JOB: usize = 256;
 
-// The job's bytes of a line that has ended; whether the answer was written.
-fn ended(job: &[u8], n: usize) -> bool {
+// Writes the answer to the job's bytes of a line that has ended.
+fn ended<W: Write>(out: &mut W, job: &[u8], n: usize) -> Result<()> {
     if job.len() < n {
-        return true;
+        return Ok(());
     }
-    write_answer(&job[..n])
+    write_answer(out, &job[..n])
 }
 
-// Runs the cases; whether all was written.
-fn run(cases: &[u8], job: &mut [u8]) -> bool {
+// Runs the cases.
+fn run<W: Write>(out: &mut W, cases: &[u8], job: &mut [u8]) -> Result<()> {
     let mut line = start();
-    let mut i = 0;
-    while i < cases.len() {
-        line = next(line, cases[i], job);
-        if !line.written {
-            return false;
-        }
-        if cases[i] == b'\n' {
-            if !ended(job, line.bytes) {
-                return false;
-            }
+    for byte in cases {
+        line = next(out, line, *byte, job)?;
+        if *byte == b'\n' {
+            ended(out, job, line.bytes)?;
             line = start();
         }
-        i += 1;
     }
-    true
+    Ok(())
 }
 
-fn main() {
+fn main(rt: HostRuntime) {
     let mut cases = io::large_buffer();
     let mut job = [0u8; JOB];
-    let input = read_input(&mut cases);
-    if input.failed {
-        os::fail(b"job_cases: standard input");
+    let input = read_input(&mut rt.stdin(), &mut cases);
+    if let Some(error) = input.failed {
+        fail(&mut rt.stderr(), b"job_cases: standard input", error);
         return;
     }
     let n = input.bytes;
     let written = if cases.len() <= n {
-        write_text(b"the input has 65,536 bytes or more\n")
+        write_text(&mut rt.stdout(), b"the input has 65,536 bytes or more\n")
     } else {
-        run(&cases[..n], &mut job)
+        run(&mut rt.stdout(), &cases[..n], &mut job)
     };
-    if !written {
-        os::fail(b"job_cases: standard output");
+    if let Err(error) = written {
+        fail(&mut rt.stderr(), b"job_cases: standard output", error);
     }
 }

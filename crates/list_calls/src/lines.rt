@@ -1,46 +1,62 @@
-// The lines that are printed. Each function says whether all was written.
+// The lines that are printed. Each function says why not all was written.
 use answers::{Comparison, Verdict, VisitFault};
 use report::{write_call, write_element, write_slack, write_words};
+use std::io::{Result, Write};
 use streams::{write_number, write_text};
 
-fn write_visit_fault(fault: VisitFault) -> bool {
+fn write_visit_fault<W: Write>(out: &mut W, fault: VisitFault) -> Result<()> {
     match fault {
-        VisitFault::Cell => write_text(b" cell"),
-        VisitFault::Wire => write_text(b" wire"),
-        VisitFault::Site => write_text(b" site"),
-        VisitFault::Load => write_text(b" load"),
-        VisitFault::Period(slack) => write_text(b" period") && write_slack(slack),
+        VisitFault::Cell => write_text(out, b" cell"),
+        VisitFault::Wire => write_text(out, b" wire"),
+        VisitFault::Site => write_text(out, b" site"),
+        VisitFault::Load => write_text(out, b" load"),
+        VisitFault::Period(slack) => {
+            write_text(out, b" period")?;
+            write_slack(out, slack)
+        }
     }
 }
 
-fn write_judged(verdict: Verdict) -> bool {
+fn write_judged<W: Write>(out: &mut W, verdict: Verdict) -> Result<()> {
     match verdict {
-        Verdict::Accepted(slack) => write_text(b" accepted") && write_slack(slack),
-        Verdict::AtFault(i, fault) => {
-            write_text(b" visit") && write_number(i as u64) && write_visit_fault(fault)
+        Verdict::Accepted(slack) => {
+            write_text(out, b" accepted")?;
+            write_slack(out, slack)
         }
-        Verdict::Refused(r) => write_element(r),
+        Verdict::AtFault(i, fault) => {
+            write_text(out, b" visit")?;
+            write_number(out, i as u64)?;
+            write_visit_fault(out, fault)
+        }
+        Verdict::Refused(r) => write_element(out, r),
     }
 }
 
 // The line of a verdict.
-pub fn write_verdict(verdict: Verdict, depth: u16) -> bool {
-    write_call(b"judge", verdict.number(), depth) && write_judged(verdict) && write_text(b"\n")
+pub fn write_verdict<W: Write>(out: &mut W, verdict: Verdict, depth: u16) -> Result<()> {
+    write_call(out, b"judge", verdict.number(), depth)?;
+    write_judged(out, verdict)?;
+    write_text(out, b"\n")
 }
 
-fn write_which(which: Comparison) -> bool {
+fn write_which<W: Write>(out: &mut W, which: Comparison) -> Result<()> {
     match which {
-        Comparison::First => write_text(b" first"),
-        Comparison::Second => write_text(b" second"),
-        Comparison::Refused(r) => write_element(r),
+        Comparison::First => write_text(out, b" first"),
+        Comparison::Second => write_text(out, b" second"),
+        Comparison::Refused(r) => write_element(out, r),
     }
 }
 
 // The line of a comparison, with the words handed back.
-pub fn write_better(which: Comparison, depth: u16, handed: &[u16]) -> bool {
-    write_call(b"better", which.number(), depth)
-        && write_which(which)
-        && write_text(b" words")
-        && write_words(handed, handed.len())
-        && write_text(b"\n")
+pub fn write_better<W: Write>(
+    out: &mut W,
+    which: Comparison,
+    depth: u16,
+    handed: &[u16],
+) -> Result<()> {
+    write_call(out, b"better", which.number(), depth)?;
+    write_which(out, which)?;
+    write_text(out, b" words")?;
+    write_words(out, handed, handed.len())?;
+    write_text(out, b"\n")
 }

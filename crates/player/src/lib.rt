@@ -9,5 +9,5 @@ mod words;
 
 pub use fresh::{SCRATCH_WORDS, UNUSED, VISIT_WORDS, refill};
 pub use net::{Net, read_net};
-pub use state::{Player, Turn, UNWRITTEN, ended, new_player, next};
+pub use state::{Player, Turn, ended, new_player, next};
 pub use words::lend;

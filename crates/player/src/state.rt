@@ -3,12 +3,10 @@ use crate::fresh::SCRATCH_WORDS;
 use answers::{BufferList, BufferRecord, Crossing, RegisterRecord, Tables, WireRecord};
 use script::Cursor;
 use session::Session;
+use std::io::Result;
 
 // What is wrong with a script beside its numbers: a word is no command.
 pub const UNKNOWN: u8 = 3;
-
-// A line of output was not written: why a play ends, beside what is wrong with a script.
-pub const UNWRITTEN: u8 = 4;
 
 // The record, the lengths of plan, journal and scratch, and the tables of the next call, of one clock or two.
 #[derive(Clone, Copy)]
@@ -81,8 +79,7 @@ pub fn next(c: Cursor, p: Player) -> Turn {
 }
 
 // The turn after a line of output; one that was not written ends the play.
-pub fn ended(c: Cursor, p: Player, written: bool) -> Turn {
-    let bad = if written { c.bad } else { UNWRITTEN };
-    let cursor = Cursor { at: c.at, bad: bad };
-    next(cursor, p)
+pub fn ended(c: Cursor, p: Player, written: Result<()>) -> Result<Turn> {
+    written?;
+    Ok(next(c, p))
 }

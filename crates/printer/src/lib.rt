@@ -1,4 +1,4 @@
-// A job from standard input, and the text of its answer on standard output.
+// A job from an input, and the text of its answer on an output.
 #![tactic(auto)]
 
 ghost use Rattle.std.specs.Prelude.{◌≡◌, length};
@@ -6,6 +6,7 @@ ghost use Rattle.io.specs.Counts.{IsPrefixLen};
 ghost use Rattle.job.specs.Job.{job_bytes};
 
 use printing::print_job;
+use std::io::{Read, Result, Write};
 use streams::{Input, read_input, write_text};
 
 const CELLS: usize = 128;
@@ -19,19 +20,19 @@ const VISITS: usize = 2048;
 const TEXT: usize = 12334;
 
 // Reads a job. The room has the bytes that decide what is printed, whatever follows them (printing/proofs/Decides: `printed-decided`).
-pub fn read_deciding(space: &mut [u8]) -> Input
+pub fn read_deciding<R: Read>(input: &mut R, space: &mut [u8]) -> Input
     requires { length space.old ≡ job_bytes }
     ensures { IsPrefixLen result.bytes space.new }
 {
-    read_input(space)
+    read_input(input, space)
 }
 
-// Writes `printed` of the job's bytes (crates/printing); whether all was written.
-pub fn write_answer(job: &[u8]) -> bool {
+// Writes `printed` of the job's bytes (crates/printing).
+pub fn write_answer<W: Write>(out: &mut W, job: &[u8]) -> Result<()> {
     let mut plan = [0u8; CELLS];
     let mut scratch = [0u16; SCRATCH];
     let mut visits = [0u16; VISITS];
     let mut text = [0u8; TEXT];
     let n = print_job(job, &mut plan, &mut scratch, &mut visits, &mut text);
-    write_text(&text[..n])
+    write_text(out, &text[..n])
 }

@@ -3,6 +3,7 @@ ghost use Rattle.std.specs.Prelude.{◌≡◌, ◌≤◌};
 ghost use Rattle.answers.specs.Numbers.{filled_words};
 
 use answers::{Answer, Fault, Refusal};
+use std::io::{Result, Write};
 use streams::{write_digits, write_number, write_text};
 use timing::slack_magnitude;
 
@@ -18,69 +19,74 @@ pub fn filled(answer: Answer) -> usize
 }
 
 // Registers, steps, latency and spare half-ticks.
-pub fn write_figures(answer: Answer) -> bool {
+pub fn write_figures<W: Write>(out: &mut W, answer: Answer) -> Result<()> {
     let f = answer.figures();
-    write_number(f.registers as u64)
-        && write_number(f.steps as u64)
-        && write_number(f.latency as u64)
-        && write_slack(f.slack)
+    write_number(out, f.registers as u64)?;
+    write_number(out, f.steps as u64)?;
+    write_number(out, f.latency as u64)?;
+    write_slack(out, f.slack)
 }
 
 // A space and a spare figure in decimal, with a minus sign below zero.
-pub fn write_slack(z: i32) -> bool {
+pub fn write_slack<W: Write>(out: &mut W, z: i32) -> Result<()> {
     if z < 0 {
-        return write_text(b" -") && write_digits(slack_magnitude(z) as u64);
+        write_text(out, b" -")?;
+        return write_digits(out, slack_magnitude(z) as u64);
     }
-    write_number(slack_magnitude(z) as u64)
+    write_number(out, slack_magnitude(z) as u64)
 }
 
 // Of refusal 4 the word `fault`, the fault's place in the order of a call with so many clocks and a buffer's place in its list;
 // of any other refusal nothing.
-pub fn write_named(refusal: Refusal, clocks: u64) -> bool
+pub fn write_named<W: Write>(out: &mut W, refusal: Refusal, clocks: u64) -> Result<()>
     requires { clocks ≤ 2 }
 {
     let Refusal::Element(fault) = refusal else {
-        return true;
+        return Ok(());
     };
-    write_text(b" fault") && write_place(fault, clocks)
+    write_text(out, b" fault")?;
+    write_place(out, fault, clocks)
 }
 
 // The same with one clock.
-pub fn write_element(refusal: Refusal) -> bool {
-    write_named(refusal, 1)
+pub fn write_element<W: Write>(out: &mut W, refusal: Refusal) -> Result<()> {
+    write_named(out, refusal, 1)
 }
 
 // The same of an answer.
-pub fn write_fault(answer: Answer) -> bool {
+pub fn write_fault<W: Write>(out: &mut W, answer: Answer) -> Result<()> {
     let Answer::Refused(refusal) = answer else {
-        return true;
+        return Ok(());
     };
-    write_element(refusal)
+    write_element(out, refusal)
 }
 
 // Each clock has a period before the skew, and each clock but one a FIFO before the count.
-fn write_place(fault: Fault, clocks: u64) -> bool
+fn write_place<W: Write>(out: &mut W, fault: Fault, clocks: u64) -> Result<()>
     requires { clocks ≤ 2 }
 {
     match fault {
-        Fault::Period => write_number(1),
-        Fault::SourcePeriod => write_number(1),
-        Fault::SinkPeriod => write_number(2),
-        Fault::Skew => write_number(clocks + 1),
-        Fault::Limit => write_number(clocks + 2),
-        Fault::Horizontal => write_number(clocks + 3),
-        Fault::Vertical => write_number(clocks + 4),
-        Fault::Register => write_number(clocks + 5),
-        Fault::Fifo => write_number(clocks + 6),
-        Fault::Count => write_number(2 * clocks + 5),
-        Fault::Buffer(place) => write_number(2 * clocks + 6) && write_number(place as u64),
+        Fault::Period => write_number(out, 1),
+        Fault::SourcePeriod => write_number(out, 1),
+        Fault::SinkPeriod => write_number(out, 2),
+        Fault::Skew => write_number(out, clocks + 1),
+        Fault::Limit => write_number(out, clocks + 2),
+        Fault::Horizontal => write_number(out, clocks + 3),
+        Fault::Vertical => write_number(out, clocks + 4),
+        Fault::Register => write_number(out, clocks + 5),
+        Fault::Fifo => write_number(out, clocks + 6),
+        Fault::Count => write_number(out, 2 * clocks + 5),
+        Fault::Buffer(place) => {
+            write_number(out, 2 * clocks + 6)?;
+            write_number(out, place as u64)
+        }
     }
 }
 
 // A call's name, its number and a session record's depth.
-pub fn write_call(name: &[u8], answer: u16, depth: u16) -> bool {
-    write_text(name)
-        && write_number(answer as u64)
-        && write_text(b" depth")
-        && write_number(depth as u64)
+pub fn write_call<W: Write>(out: &mut W, name: &[u8], answer: u16, depth: u16) -> Result<()> {
+    write_text(out, name)?;
+    write_number(out, answer as u64)?;
+    write_text(out, b" depth")?;
+    write_number(out, depth as u64)
 }

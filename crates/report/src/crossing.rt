@@ -4,6 +4,7 @@ ghost use Rattle.answers.specs.Numbers.{crossed_words};
 
 use crate::answer::{write_named, write_slack};
 use answers::CrossingAnswer;
+use std::io::{Result, Write};
 use streams::write_number;
 
 // The visit words that the answer fills.
@@ -18,19 +19,19 @@ pub fn crossed(answer: CrossingAnswer) -> usize
 }
 
 // Registers on the source's side and on the sink's, steps, latency and spare half-ticks.
-pub fn write_crossing_figures(answer: CrossingAnswer) -> bool {
+pub fn write_crossing_figures<W: Write>(out: &mut W, answer: CrossingAnswer) -> Result<()> {
     let f = answer.figures();
-    write_number(f.source as u64)
-        && write_number(f.sink as u64)
-        && write_number(f.steps as u64)
-        && write_number(f.latency as u64)
-        && write_slack(f.slack)
+    write_number(out, f.source as u64)?;
+    write_number(out, f.sink as u64)?;
+    write_number(out, f.steps as u64)?;
+    write_number(out, f.latency as u64)?;
+    write_slack(out, f.slack)
 }
 
 // Of refusal 4 the word `fault` and the fault's place in the order of two clocks; of any other answer nothing.
-pub fn write_crossing_fault(answer: CrossingAnswer) -> bool {
+pub fn write_crossing_fault<W: Write>(out: &mut W, answer: CrossingAnswer) -> Result<()> {
     let CrossingAnswer::Refused(refusal) = answer else {
-        return true;
+        return Ok(());
     };
-    write_named(refusal, 2)
+    write_named(out, refusal, 2)
 }

@@ -1,4 +1,4 @@
-// What the programs print of a call: its answer, and the words that it was lent. Each says whether all was written.
+// What the programs print of a call: its answer, and the words that it was lent. Each says why not all was written.
 #![tactic(auto)]
 
 mod answer;

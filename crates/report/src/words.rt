@@ -2,6 +2,7 @@
 ghost use Rattle.std.specs.Prelude.{◌≡◌, ◌<◌, min, length};
 ghost use Rattle.report.specs.Runs.{EqualRun};
 
+use std::io::{Result, Write};
 use streams::{write_number, write_text};
 
 // The smaller of two numbers.
@@ -12,16 +13,12 @@ pub fn smaller(a: usize, b: usize) -> usize
 }
 
 // The words before `end`, a space before each.
-pub fn write_words(words: &[u16], end: usize) -> bool {
+pub fn write_words<W: Write>(out: &mut W, words: &[u16], end: usize) -> Result<()> {
     let stop = smaller(end, words.len());
-    let mut i = 0;
-    while i < stop {
-        if !write_number(words[i] as u64) {
-            return false;
-        }
-        i += 1;
+    for word in &words[..stop] {
+        write_number(out, *word as u64)?;
     }
-    true
+    Ok(())
 }
 
 // Where the run of words equal to the one at `start` ends.
@@ -52,35 +49,41 @@ fn zeros(words: &[u16]) -> usize {
 }
 
 // The end of a call's line: how many scratch words it zeroed.
-pub fn write_zeroed(scratch: &[u16]) -> bool {
-    write_text(b" zeroed") && write_number(zeros(scratch) as u64) && write_text(b"\n")
+pub fn write_zeroed<W: Write>(out: &mut W, scratch: &[u16]) -> Result<()> {
+    write_text(out, b" zeroed")?;
+    write_number(out, zeros(scratch) as u64)?;
+    write_text(out, b"\n")
 }
 
 // The same after the visit words before `end`, which the call filled.
-pub fn write_left(visits: &[u16], end: usize, scratch: &[u16]) -> bool {
-    write_text(b" visits") && write_words(visits, end) && write_zeroed(scratch)
+pub fn write_left<W: Write>(
+    out: &mut W,
+    visits: &[u16],
+    end: usize,
+    scratch: &[u16],
+) -> Result<()> {
+    write_text(out, b" visits")?;
+    write_words(out, visits, end)?;
+    write_zeroed(out, scratch)
 }
 
 // A run: its word, and after a star how many there are if there is more than one.
-fn write_run(word: u16, times: usize) -> bool {
-    if !write_number(word as u64) {
-        return false;
-    }
+fn write_run<W: Write>(out: &mut W, word: u16, times: usize) -> Result<()> {
+    write_number(out, word as u64)?;
     if times <= 1 {
-        return true;
+        return Ok(());
     }
-    write_text(b" *") && write_number(times as u64)
+    write_text(out, b" *")?;
+    write_number(out, times as u64)
 }
 
 // All words, run by run.
-pub fn write_runs(words: &[u16]) -> bool {
+pub fn write_runs<W: Write>(out: &mut W, words: &[u16]) -> Result<()> {
     let mut i = 0;
     while i < words.len() {
         let end = run_end(words, i);
-        if !write_run(words[i], end - i) {
-            return false;
-        }
+        write_run(out, words[i], end - i)?;
         i = end;
     }
-    true
+    Ok(())
 }

@@ -3,6 +3,7 @@
 use answers::Answer;
 use report::{filled, smaller, write_fault, write_figures, write_words};
 use route_call::{Call, ask};
+use std::io::{Result, Write};
 use streams::{write_number, write_text};
 
 // What all lent words hold before a call.
@@ -26,46 +27,53 @@ fn all(words: &[u16], start: usize, end: usize, value: u16) -> bool {
 }
 
 // kept: no word has changed; zero: the first 256 of each cell are zero, and no other has changed.
-fn write_scratch(scratch: &[u16], cells: usize) -> bool {
+fn write_scratch<W: Write>(out: &mut W, scratch: &[u16], cells: usize) -> Result<()> {
     if all(scratch, 0, SCRATCH, FILL) {
-        return write_text(b" kept");
+        return write_text(out, b" kept");
     }
     let used = 256 * smaller(cells, 1024);
     if !all(scratch, 0, used, 0) {
-        return write_text(b" changed");
+        return write_text(out, b" changed");
     }
     if !all(scratch, used, SCRATCH, FILL) {
-        return write_text(b" changed");
+        return write_text(out, b" changed");
     }
-    write_text(b" zero")
+    write_text(out, b" zero")
 }
 
 // kept: no word from `start` on has changed.
-fn write_visits(visits: &[u16], start: usize) -> bool {
+fn write_visits<W: Write>(out: &mut W, visits: &[u16], start: usize) -> Result<()> {
     if all(visits, start, VISITS, FILL) {
-        return write_text(b" kept");
+        return write_text(out, b" kept");
     }
-    write_text(b" changed")
+    write_text(out, b" changed")
 }
 
 // The line of an answer, and of the words that it was lent.
-fn write_line(label: &[u8], answer: Answer, cells: usize, scratch: &[u16], visits: &[u16]) -> bool {
+fn write_line<W: Write>(
+    out: &mut W,
+    label: &[u8],
+    answer: Answer,
+    cells: usize,
+    scratch: &[u16],
+    visits: &[u16],
+) -> Result<()> {
     let used = filled(answer);
-    write_text(label)
-        && write_text(b":")
-        && write_number(answer.number() as u64)
-        && write_figures(answer)
-        && write_fault(answer)
-        && write_words(visits, used)
-        && write_scratch(scratch, cells)
-        && write_visits(visits, used)
-        && write_text(b"\n")
+    write_text(out, label)?;
+    write_text(out, b":")?;
+    write_number(out, answer.number() as u64)?;
+    write_figures(out, answer)?;
+    write_fault(out, answer)?;
+    write_words(out, visits, used)?;
+    write_scratch(out, scratch, cells)?;
+    write_visits(out, visits, used)?;
+    write_text(out, b"\n")
 }
 
-// Calls, and writes the line; whether it was written.
-pub fn run(label: &[u8], plan: &[u8], c: Call) -> bool {
+// Calls, and writes the line.
+pub fn run<W: Write>(out: &mut W, label: &[u8], plan: &[u8], c: Call) -> Result<()> {
     let mut scratch = [FILL; SCRATCH];
     let mut visits = [FILL; VISITS];
     let answer = ask(plan, c, &mut scratch, &mut visits);
-    write_line(label, answer, plan.len(), &scratch, &visits)
+    write_line(out, label, answer, plan.len(), &scratch, &visits)
 }

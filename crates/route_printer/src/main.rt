@@ -4,19 +4,20 @@
 #![tactic(auto)]
 
 use printer::{read_deciding, write_answer};
+use streams::fail;
 
 // The bytes of input that decide; `read_deciding` asks for just so many.
 const INPUT: usize = 225;
 
-fn main() {
+fn main(rt: HostRuntime) {
     let mut space = [0u8; INPUT];
-    let input = read_deciding(&mut space);
-    if input.failed {
-        os::fail(b"route_printer: standard input");
+    let input = read_deciding(&mut rt.stdin(), &mut space);
+    if let Some(error) = input.failed {
+        fail(&mut rt.stderr(), b"route_printer: standard input", error);
         return;
     }
     let n = input.bytes;
-    if !write_answer(&space[..n]) {
-        os::fail(b"route_printer: standard output");
+    if let Err(error) = write_answer(&mut rt.stdout(), &space[..n]) {
+        fail(&mut rt.stderr(), b"route_printer: standard output", error);
     }
 }

@@ -5,7 +5,8 @@ ghost use Rattle.std.specs.Prelude.{◌≡◌, length};
 
 use answers::{BufferList, BufferRecord, RegisterRecord, Tables, WireRecord};
 use router::route_with;
-use streams::{write_number, write_text};
+use std::io::{Result, Write};
+use streams::{fail, write_number, write_text};
 
 const SIDE: usize = 32;
 
@@ -56,8 +57,8 @@ fn buffers() -> BufferList {
     BufferList { n: 6, items: items }
 }
 
-// Routes from cell 0 to the sink, and prints the line; whether it was written.
-fn time(label: &[u8], plan: &[u8], period: u16, sink: u16) -> bool {
+// Routes from cell 0 to the sink, and prints the line.
+fn time<W: Write>(out: &mut W, label: &[u8], plan: &[u8], period: u16, sink: u16) -> Result<()> {
     let mut scratch = [0u16; SCRATCH];
     let mut visits = [0u16; VISITS];
     let answer = route_with(
@@ -72,18 +73,18 @@ fn time(label: &[u8], plan: &[u8], period: u16, sink: u16) -> bool {
         &mut visits,
     );
     let f = answer.figures();
-    write_text(label)
-        && write_text(b":")
-        && write_number(answer.number() as u64)
-        && write_number(f.registers as u64)
-        && write_number(f.steps as u64)
-        && write_text(b"\n")
+    write_text(out, label)?;
+    write_text(out, b":")?;
+    write_number(out, answer.number() as u64)?;
+    write_number(out, f.registers as u64)?;
+    write_number(out, f.steps as u64)?;
+    write_text(out, b"\n")
 }
 
 // Taps everywhere and no cut, corner to corner.
-fn open() -> bool {
+fn open<W: Write>(out: &mut W) -> Result<()> {
     let plan = [2u8; CELLS];
-    time(b"open", &plan, 100, 1023)
+    time(out, b"open", &plan, 100, 1023)
 }
 
 // The marks of a cell of the serpentine: a tap, and the wire below is cut but at the row's end where the path turns.
@@ -112,13 +113,20 @@ fn winding() -> [u8; CELLS]
 }
 
 // From the path's first cell to its last: many short spans, then one long one.
-fn serpentine() -> bool {
+fn serpentine<W: Write>(out: &mut W) -> Result<()> {
     let plan = winding();
-    time(b"serpentine", &plan, 100, 992) && time(b"serpentine in one span", &plan, 30000, 992)
+    time(out, b"serpentine", &plan, 100, 992)?;
+    time(out, b"serpentine in one span", &plan, 30000, 992)
 }
 
-fn main() {
-    if !(open() && serpentine()) {
-        os::fail(b"route_speed: standard output");
+// All lines.
+fn all<W: Write>(out: &mut W) -> Result<()> {
+    open(out)?;
+    serpentine(out)
+}
+
+fn main(rt: HostRuntime) {
+    if let Err(error) = all(&mut rt.stdout()) {
+        fail(&mut rt.stderr(), b"route_speed: standard output", error);
     }
 }

@@ -37,7 +37,8 @@ use lines::write_too_long;
 use list_calls::LIST_WORDS;
 use play::play;
 use player::{SCRATCH_WORDS, UNUSED, VISIT_WORDS};
-use streams::read_input;
+use std::io::{Result, Write};
+use streams::{fail, read_input};
 
 // The longest plan and journal of a script, in bytes.
 const PLAN: usize = 1100;
@@ -47,8 +48,8 @@ const JOURNAL: usize = 1100;
 // What the bytes hold before the first call.
 const FILL: u8 = 7;
 
-// Plays on fresh bytes and words; whether all was written.
-fn played(text: &[u8]) -> bool {
+// Plays on fresh bytes and words.
+fn played<W: Write>(out: &mut W, text: &[u8]) -> Result<()> {
     let mut plan = [FILL; PLAN];
     let mut journal = [FILL; JOURNAL];
     let mut scratch = [UNUSED; SCRATCH_WORDS];
@@ -56,6 +57,7 @@ fn played(text: &[u8]) -> bool {
     let mut first = [UNUSED; LIST_WORDS];
     let mut second = [UNUSED; LIST_WORDS];
     play(
+        out,
         text,
         &mut plan,
         &mut journal,
@@ -66,20 +68,20 @@ fn played(text: &[u8]) -> bool {
     )
 }
 
-fn main() {
+fn main(rt: HostRuntime) {
     let mut text = io::large_buffer();
-    let input = read_input(&mut text);
-    if input.failed {
-        os::fail(b"session_player: standard input");
+    let input = read_input(&mut rt.stdin(), &mut text);
+    if let Some(error) = input.failed {
+        fail(&mut rt.stderr(), b"session_player: standard input", error);
         return;
     }
     let n = input.bytes;
     let written = if text.len() <= n {
-        write_too_long()
+        write_too_long(&mut rt.stdout())
     } else {
-        played(&text[..n])
+        played(&mut rt.stdout(), &text[..n])
     };
-    if !written {
-        os::fail(b"session_player: standard output");
+    if let Err(error) = written {
+        fail(&mut rt.stderr(), b"session_player: standard output", error);
     }
 }

@@ -4,11 +4,13 @@ use crate::lines::write_bad;
 use crossing_call::crossing;
 use explain_call::reason;
 use list_calls::{better, judge};
-use player::{Player, Turn, UNWRITTEN, lend, new_player};
+use player::{Player, Turn, lend, new_player};
 use script::{Cursor, is_word, line_of, skip, word_end};
+use std::io::{Result, Write};
 
 // A command on route lists, or one of the session.
-fn on_lists(
+fn on_lists<W: Write>(
+    out: &mut W,
     src: &[u8],
     start: usize,
     end: usize,
@@ -17,41 +19,43 @@ fn on_lists(
     journal: &mut [u8],
     first: &mut [u16],
     second: &mut [u16],
-) -> Turn {
+) -> Result<Turn> {
     let c = Cursor { at: end, bad: 0 };
     if is_word(src, start, end, b"judge") {
-        return judge(src, c, p, plan, first);
+        return judge(out, src, c, p, plan, first);
     }
     if is_word(src, start, end, b"better") {
-        return better(src, c, p, plan, first, second);
+        return better(out, src, c, p, plan, first, second);
     }
-    on_session(src, start, end, p, plan, journal)
+    on_session(out, src, start, end, p, plan, journal)
 }
 
 // A command of the session, whose word stands from `start` up to `end`, or one that calls nothing.
-fn on_session(
+fn on_session<W: Write>(
+    out: &mut W,
     src: &[u8],
     start: usize,
     end: usize,
     p: Player,
     plan: &mut [u8],
     journal: &mut [u8],
-) -> Turn {
+) -> Result<Turn> {
     let c = Cursor { at: end, bad: 0 };
     if is_word(src, start, end, b"move") {
-        return set_marks(src, c, p, plan, journal);
+        return set_marks(out, src, c, p, plan, journal);
     }
     if is_word(src, start, end, b"undo") {
-        return undo(c, p, plan, journal);
+        return undo(out, c, p, plan, journal);
     }
     if is_word(src, start, end, b"open") {
-        return open(src, c, p, plan, journal);
+        return open(out, src, c, p, plan, journal);
     }
-    lend(src, start, end, p, plan, journal)
+    Ok(lend(src, start, end, p, plan, journal))
 }
 
 // The command whose word starts at `start`.
-fn one_command(
+fn one_command<W: Write>(
+    out: &mut W,
     src: &[u8],
     start: usize,
     p: Player,
@@ -61,34 +65,32 @@ fn one_command(
     visits: &mut [u16],
     first: &mut [u16],
     second: &mut [u16],
-) -> Turn {
+) -> Result<Turn> {
     let end = word_end(src, start);
     let c = Cursor { at: end, bad: 0 };
     if is_word(src, start, end, b"route") {
-        return route(src, c, p, plan, scratch, visits);
+        return route(out, src, c, p, plan, scratch, visits);
     }
     if is_word(src, start, end, b"crossing") {
-        return crossing(src, c, p, plan, scratch, visits);
+        return crossing(out, src, c, p, plan, scratch, visits);
     }
     if is_word(src, start, end, b"reason") {
-        return reason(src, c, p, plan, scratch);
+        return reason(out, src, c, p, plan, scratch);
     }
     if is_word(src, start, end, b"show") {
-        return show(c, p, plan, journal, scratch, visits);
+        return show(out, c, p, plan, journal, scratch, visits);
     }
-    on_lists(src, start, end, p, plan, journal, first, second)
+    on_lists(out, src, start, end, p, plan, journal, first, second)
 }
 
-// How a play ends early: a line was not written, or the script is wrong.
-fn stopped(src: &[u8], c: Cursor) -> bool {
-    if c.bad == UNWRITTEN {
-        return false;
-    }
-    write_bad(line_of(src, c.at), c.bad)
+// How a play ends early: the script is wrong.
+fn stopped<W: Write>(out: &mut W, src: &[u8], c: Cursor) -> Result<()> {
+    write_bad(out, line_of(src, c.at), c.bad)
 }
 
-// Plays the script; whether all was written. Each turn reads a byte or more, so that there are no more turns than bytes.
-pub fn play(
+// Plays the script; a line that is not written ends the play. Each turn reads a byte or more, so that there are no more turns than bytes.
+pub fn play<W: Write>(
+    out: &mut W,
     src: &[u8],
     plan: &mut [u8],
     journal: &mut [u8],
@@ -96,23 +98,25 @@ pub fn play(
     visits: &mut [u16],
     first: &mut [u16],
     second: &mut [u16],
-) -> bool {
+) -> Result<()> {
     let mut at = skip(src, 0);
     let mut p = new_player();
     let mut turns = 0;
     while turns < src.len() {
         if src.len() <= at {
-            return true;
+            return Ok(());
         }
-        let t = one_command(src, at, p, plan, journal, scratch, visits, first, second);
+        let t = one_command(
+            out, src, at, p, plan, journal, scratch, visits, first, second,
+        )?;
         let cursor = t.cursor;
         if cursor.bad != 0 {
-            return stopped(src, cursor);
+            return stopped(out, src, cursor);
         }
         let q = t.player;
         p = q;
         at = skip(src, cursor.at);
         turns += 1;
     }
-    true
+    Ok(())
 }

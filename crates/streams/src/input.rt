@@ -1,52 +1,58 @@
-// Standard input, up to a lent room.
+// Input, up to a lent room.
+ghost use Rattle.std.specs.Prelude.{◌<◌, length, take, IfNone};
+ghost use Rattle.std.specs.Io.KnownBytes.{Consumes, IsAtEnd};
 ghost use Rattle.io.specs.Counts.{IsPrefixLen};
 
-use libc::{EINTR, STDIN_FILENO};
+use std::io::{Error, ErrorKind, Read};
 
 // So many reads may be interrupted before the input counts as failed.
 const INTERRUPTIONS: u32 = 1000000;
 
-// So many bytes stand at the start of the room; a failed read came after them.
+// So many bytes stand at the start of the room; a failed read, which had this error, came after them.
 #[derive(Clone, Copy)]
 pub struct Input {
     pub bytes: usize,
-    pub failed: bool,
+    pub failed: Option<Error>,
 }
 
 // Reads until the room is full or the input ends. A read may give fewer bytes than asked for; an interrupted one is tried again.
-pub fn read_input(space: &mut [u8]) -> Input
-    ensures { IsPrefixLen result.bytes space.new }
+pub fn read_input<R: Read>(input: &mut R, space: &mut [u8]) -> Input
+    ensures within { IsPrefixLen result.bytes space.new }
+    ensures bytes { Consumes (R.remaining input.old) (R.remaining input.new) (take result.bytes space.new) }
+    ensures end { IfNone result.failed (result.bytes < length space.new → IsAtEnd (R.remaining input.new)) }
 {
     let mut done = 0;
     let mut left = INTERRUPTIONS;
     while done < space.len() {
-        let got = libc::read(STDIN_FILENO, &mut space[done..]);
-        let more = io::count(got, &space[done..]);
-        if more == 0 {
-            if got == 0 {
-                return Input {
-                    bytes: done,
-                    failed: false,
-                };
+        match input.read(&mut space[done..]) {
+            Ok(more) => {
+                if more == 0 {
+                    return Input {
+                        bytes: done,
+                        failed: None,
+                    };
+                }
+                done += more;
             }
-            if os::errno() != EINTR {
-                return Input {
-                    bytes: done,
-                    failed: true,
-                };
+            Err(error) => {
+                if error.kind() != ErrorKind::Interrupted {
+                    return Input {
+                        bytes: done,
+                        failed: Some(error),
+                    };
+                }
+                if left == 0 {
+                    return Input {
+                        bytes: done,
+                        failed: Some(error),
+                    };
+                }
+                left -= 1;
             }
-            if left == 0 {
-                return Input {
-                    bytes: done,
-                    failed: true,
-                };
-            }
-            left -= 1;
         }
-        done += more;
     }
     Input {
         bytes: done,
-        failed: false,
+        failed: None,
     }
 }

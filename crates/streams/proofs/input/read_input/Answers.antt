@@ -1,20 +1,29 @@
-use Prim.Native.Nat.{◌-◌}
-use mathlib.Core.Logic.{⊎_elim}
-use native.Mathlib.Omega.{arith}
-use Rattle.streams.proofs.Counted.{counted}
+-- What a read gives follows what stood there.
+use Rattle.std.proofs.Common.{◌≡◌, ℕ, ◌+◌, ◌-◌, ◌≤◌, List, ◌++◌, rules, arith, length, take, slice_range, sym, ap, ◌∙◌, subst, le_refl, drop_at, length-take-le}
+use Rattle.std.proofs.lemmas.Slice.{take-put_mid_below}
+use Rattle.std.specs.Io.KnownBytes.{Consumes}
+use Rattle.std.proofs.KnownBytes.{Consumes-trans}
+use borrow.Rule.Slice.PartMut.{put_mid, post_of}
+use lib.Seq.{take-add, take-append-le}
 use Rattle.streams.proofs.input.read_input.Goals as goal
 
-pub returns-then-got-eq0 : goal.returns-then-got-eq0
-returns-then-got-eq0 c = counted _ _ (omega arith)
+take_split : (a b : ℕ) (old new : List ℕ) → a ≤ b → take a new ≡ take a old → take a old ++ slice_range new a b ≡ take b new
+take_split a b old new h front =
+    let same : a + (b - a) ≡ b = omega arith in
+    ap (λ l. l ++ slice_range new a b) (sym front) ∙ sym (take-add a (b - a) new) ∙ ap (λ n. take n new) same
 
-pub returns-then-errno-ne-EINTR : goal.returns-then-errno-ne-EINTR
-returns-then-errno-ne-EINTR c = counted _ _ (omega arith)
+slice_range-put_mid : (a k n : ℕ) (xs ys : List ℕ) → a ≤ length xs → n ≤ length ys → slice_range (put_mid a k xs ys) a (a + n) ≡ take n ys
+slice_range-put_mid a k n xs ys within fits =
+    let same : (a + n) - a ≡ n = omega arith in
+    let after = post_of a k xs in
+    ap (take ((a + n) - a)) (drop_at (take a xs) (ys ++ after) a (length-take-le a xs within)) ∙ ap (λ m. take m (ys ++ after)) same ∙ take-append-le n ys after fits
 
-pub returns-then-left-eq0 : goal.returns-then-left-eq0
-returns-then-left-eq0 c = counted _ _ (omega arith)
-
-pub loop-done-smaller : goal.loop-done-smaller
-loop-done-smaller c = ⊎_elim (λ w. omega arith) (λ w. omega arith) c.if-more-eq0.branch
-
-pub returns : goal.returns
-returns c = counted _ _ (omega arith)
+pub loop-done-preserved-in-Ok : goal.loop-done-preserved-in-Ok
+loop-done-preserved-in-Ok g c =
+    let from = c.loop-done.done in
+    let room = length c.loop-done.space - from in
+    let within = c.loop-done.invariant.1 in
+    let after = put_mid from room c.loop-done.space c.read.new.buf in
+    let part = slice_range-put_mid from room c.in-Ok.more c.loop-done.space c.read.new.buf within c.in-Ok.ensures.bound.0 in
+    let joined = take_split from (from + c.in-Ok.more) c.loop-done.space after (omega arith) (take-put_mid_below _ _ _ _ _ (le_refl _) within) in
+    (search rules, search rules, subst (Consumes _ _) (ap (λ l. take from c.loop-done.space ++ l) (sym part) ∙ joined) (Consumes-trans _ _ _ _ _ c.loop-done.invariant.2 c.in-Ok.ensures.bytes.0))

@@ -13,4 +13,4 @@ pub returns : goal.returns
 unfolding fault_with checked_list
 returns c =
     let checked = rw (c.read_list-read.ensures, c.list.ensures, c.tables.ensures) at c.check_tables-checked.ensures in
-    c.number.ensures ∙ ap fault_number (ap (λ (c.before.before.before : TablesCheck). c.before.before.before.fault) checked ∙ tables-fault _ _)
+    c.number.ensures ∙ ap fault_number (ap (λ (x : TablesCheck). x.fault) checked ∙ tables-fault _ _)
