@@ -50,7 +50,7 @@ loop-at-init c = λ v q.
     (emit-start _ (ready-lawful _ _ c.requires.ready) _ _ _ _ _ v x.before _ _ refl c.load-load.ensures c.start_delay-delay.ensures refl refl refl refl
     (record {
       in_plan = c.requires.ready.ready.sink;
-      light = omega (arith, c.load-load.ensures, w.load-load);
+      light = omega (arith, c.load-load.ensures, w.load);
       early = omega (arith, c.start_delay-delay.ensures, w.setup);
     })
     x c.requires.ahead)
@@ -83,7 +83,7 @@ choose-choice-requires c =
 
 -- the visit that was chosen
 abbrev words : In-Visit → List ℕ
-words c = c.load_layer-layers.new.1.0
+words c = c.load_layer-layers.new.scratch
 
 chosen : (c : In-Visit) → FirstVisit (R (goal.at.In-Visit c).At-loop-at) (length c.args.plan.now) (labels_for (length c.args.plan.now) c.loop-at.left.exits (words c)) (budget_of (length c.args.plan.now) (words c)) c.loop-at.at (λ cell. T ((R (goal.at.In-Visit c).At-loop-at).linked c.loop-at.at.cell cell)) c.in-Visit.code c.in-Visit.to
 chosen c =
