@@ -22,7 +22,7 @@ exists_with-requires c =
 
 -- what the search at the middle told, and what it left
 at-middle : (c : After-exists_with) → (c.exists_with.result ≡ routed_for c.args.p c.args.plan.now (c.loop-low.low + (c.loop-low.high - c.loop-low.low) / 2))
-    × ((length c.exists_with.new.1.0 ≡ length c.args.scratch.now) × KeptFrom (length c.args.plan.now * cell_words) c.args.scratch.now c.exists_with.new.1.0)
+    × ((length c.exists_with.new.scratch ≡ length c.args.scratch.now) × KeptFrom (length c.args.plan.now * cell_words) c.args.scratch.now c.exists_with.new.scratch)
 unfolding routed_for routed_at
 at-middle c =
     let inv = c.loop-low.invariant in

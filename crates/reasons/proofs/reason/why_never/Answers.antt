@@ -16,12 +16,12 @@ use Rattle.reasons.proofs.reason.why_never.Goals.{After-exists_with, After-exist
 
 -- what each pass told, and what both left
 
-untimed : (c : After-exists_with) → Told (routed (rules_of (plan_for c.args.p c.args.plan.now) (relaxed true c.args.p.elements) c.args.p.source c.args.p.sink)) (length c.args.plan.now) c.args.scratch.now c.exists_with.new.1.0 c.exists_with.result
+untimed : (c : After-exists_with) → Told (routed (rules_of (plan_for c.args.p c.args.plan.now) (relaxed true c.args.p.elements) c.args.p.source c.args.p.sink)) (length c.args.plan.now) c.args.scratch.now c.exists_with.new.scratch c.exists_with.result
 untimed c =
     let done = c.exists_with.ensures in
     record { told = rw c.relaxed.ensures at done.told; same = done.same; rest = done.rest }
 
-bare : (c : After-exists_with-2) → Told (routed (rules_of (plan_for c.args.p c.args.plan.now) (relaxed false c.args.p.elements) c.args.p.source c.args.p.sink)) (length c.args.plan.now) c.args.scratch.now c.exists_with-2.new.1.0 c.exists_with-2.result
+bare : (c : After-exists_with-2) → Told (routed (rules_of (plan_for c.args.p c.args.plan.now) (relaxed false c.args.p.elements) c.args.p.source c.args.p.sink)) (length c.args.plan.now) c.args.scratch.now c.exists_with-2.new.scratch c.exists_with-2.result
 bare c =
     let done = c.exists_with-2.ensures in
     let was = untimed (goal.at.After-exists_with-2 c).After-exists_with in

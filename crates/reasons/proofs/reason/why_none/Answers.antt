@@ -14,7 +14,7 @@ use Rattle.reasons.proofs.reason.why_none.Goals as goal
 use Rattle.reasons.proofs.reason.why_none.Goals.{After-exists_with, Start, Then-exists_with}
 
 -- what the search told, and what it left
-at-longest : (c : After-exists_with) → Told (routed_for c.args.p c.args.plan.now period_max) (length c.args.plan.now) c.args.scratch.now c.exists_with.new.1.0 c.exists_with.result
+at-longest : (c : After-exists_with) → Told (routed_for c.args.p c.args.plan.now period_max) (length c.args.plan.now) c.args.scratch.now c.exists_with.new.scratch c.exists_with.result
 unfolding routed_for routed_at
 at-longest c =
     let done = c.exists_with.ensures in

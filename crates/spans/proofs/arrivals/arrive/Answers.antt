@@ -2,7 +2,6 @@
 use mathlib.Core.Path.{sym, ◌∙◌}
 use mathlib.Core.Logic.{⊎_elim, inl, inr}
 use native.Mathlib.Omega.{arith}
-use borrow.Author.Tests.{not-true, not-false}
 use lib.Dec.{T_not}
 use Rattle.plan.proofs.Truth.{of-true, of-false}
 use Rattle.rules.specs.Rules.{register_code}
@@ -12,25 +11,25 @@ use Rattle.spans.specs.Opens.{MayClose}
 use Rattle.spans.proofs.Eases.{ground-space, limit-row}
 use Rattle.spans.proofs.Arriving.{source-named, passed-asks, Through, through-none, through-buffers, arrived-open, shut-asks, arrived-shut}
 use Rattle.spans.proofs.arrivals.arrive.Goals as goal
-use Rattle.spans.proofs.arrivals.arrive.Goals.{Joined-cell-p, Joined-takes_buffers}
+use Rattle.spans.proofs.arrivals.arrive.Goals.{Joined-cell-p, Joined-takes_buffers, then-takes_buffers, else-takes_buffers, then-cell-p+else-not-may_register, else-cell-p}
 
 -- passed and driven
-through : (c : Joined-takes_buffers) → let a = c.args in Through a.p a.plan.now a.period a.scratch-1.now a.count a.cell a.load.0 a.delay.0 c.requires c.if-takes_buffers.scratch c.if-takes_buffers.waiting
+through : (c : Joined-takes_buffers) → let a = c.args in Through a.p a.plan.now a.period a.scratch.now a.count a.cell a.load.0 a.delay.0 c.requires c.if-takes_buffers.scratch c.if-takes_buffers.waiting
 through c =
     let a = c.args in
     let eased = c.ease-waiting.ensures in
-    ⊎_elim
-    (λ w. rw (w.5, w.6) (through-buffers a.p a.plan.now a.period a.scratch-1.now a.count a.cell a.load.0 a.delay.0 c.requires _ _ eased _ _ w.2.ensures))
-    (λ w. rw (w.1, w.2) (through-none a.p a.plan.now a.period a.scratch-1.now a.count a.cell a.load.0 a.delay.0 c.requires _ _ eased (sym c.takes_buffers.ensures ∙ w.0.left)))
-    c.if-takes_buffers.branch
+    elim c.if-takes_buffers.branch [
+      | then-takes_buffers w ↦ rw (w.scratch-is, w.waiting-is) (through-buffers a.p a.plan.now a.period a.scratch.now a.count a.cell a.load.0 a.delay.0 c.requires _ _ eased _ _ w.ease_buffers-waiting.ensures)
+      | else-takes_buffers w ↦ rw (w.scratch-is, w.waiting-is) (through-none a.p a.plan.now a.period a.scratch.now a.count a.cell a.load.0 a.delay.0 c.requires _ _ eased (sym c.takes_buffers.ensures ∙ w.if-takes_buffers.false))
+    ]
 
 closes : (c : Joined-cell-p) → let a = c.args in MayClose (rules_for a.p a.plan.now) a.cell
 closes c =
     let a = c.args in
-    ⊎_elim
-    (λ w. inr (of-true (may_stand (rules_for a.p a.plan.now) a.cell register_code) (sym w.1.ensures ∙ not-false _ w.2.left)))
-    (λ w. inl (w.left ∙ sym (source-named a.p a.plan.now)))
-    c.if-cell-p.branch
+    elim c.if-cell-p.branch [
+      | then-cell-p+else-not-may_register w ↦ inr (of-true (may_stand (rules_for a.p a.plan.now) a.cell register_code) (sym w.may_register.ensures ∙ w.if-not-may_register.false))
+      | else-cell-p w ↦ inl (w.if-cell-p.false ∙ sym (source-named a.p a.plan.now))
+    ]
 
 pub ease-waiting-requires : goal.ease-waiting-requires
 ease-waiting-requires c =
@@ -40,7 +39,7 @@ ease-waiting-requires c =
 pub ease_buffers-waiting-requires : goal.ease_buffers-waiting-requires
 ease_buffers-waiting-requires c =
     let a = c.args in
-    (passed-asks a.p a.plan.now a.period a.scratch-1.now a.count a.cell a.load.0 a.delay.0 c.requires _ _ c.ease-waiting.ensures, sym c.takes_buffers.ensures ∙ c.if-takes_buffers.true)
+    (passed-asks a.p a.plan.now a.period a.scratch.now a.count a.cell a.load.0 a.delay.0 c.requires _ _ c.ease-waiting.ensures, sym c.takes_buffers.ensures ∙ c.if-takes_buffers.true)
 
 pub may_register-requires : goal.may_register-requires
 may_register-requires c = (c.requires.ground.ready, c.requires.inside)
@@ -52,17 +51,17 @@ pub returns-then-not-may_register : goal.returns-then-not-may_register
 returns-then-not-may_register c =
     let a = c.args in
     let may = may_stand (rules_for a.p a.plan.now) a.cell register_code in
-    arrived-open a.p a.plan.now a.period a.scratch-1.now a.count a.cell a.load.0 a.delay.0 c.requires _ _ (through (goal.at.returns-then-not-may_register c).Joined-takes_buffers) (⊎_elim (λ e. c.if-cell-p.true (e ∙ source-named a.p a.plan.now)) (λ t. T_not may (of-false may (sym c.may_register.ensures ∙ not-true _ c.if-not-may_register.true-raw)) t))
+    arrived-open a.p a.plan.now a.period a.scratch.now a.count a.cell a.load.0 a.delay.0 c.requires _ _ (through (goal.at.returns-then-not-may_register c).Joined-takes_buffers) (⊎_elim (λ e. c.if-cell-p.true (e ∙ source-named a.p a.plan.now)) (λ t. T_not may (of-false may (sym c.may_register.ensures ∙ c.if-not-may_register.true)) t))
 
 pub closing-closing-requires : goal.closing-closing-requires
 closing-closing-requires c =
     let v = c.requires.ground.ready.valid in
-    (v.register-1, (omega (arith, v.skew), (omega (arith, c.requires.light, v.limit), omega (arith, c.requires.early))))
+    (v.register, (omega (arith, v.skew), (omega (arith, c.requires.light, v.limit), omega (arith, c.requires.early))))
 
 pub shut-requires : goal.shut-requires
 shut-requires c =
     let a = c.args in
-    rw c.closing-closing.ensures (shut-asks a.p a.plan.now a.period a.scratch-1.now a.count a.cell a.load.0 a.delay.0 c.requires _ _ (through (goal.at.shut-requires c).Joined-takes_buffers) (closes (goal.at.shut-requires c).Joined-cell-p))
+    rw c.closing-closing.ensures (shut-asks a.p a.plan.now a.period a.scratch.now a.count a.cell a.load.0 a.delay.0 c.requires _ _ (through (goal.at.shut-requires c).Joined-takes_buffers) (closes (goal.at.shut-requires c).Joined-cell-p))
 
 pub shape_of-scratch : goal.shape_of-scratch
 shape_of-scratch c = c.shut.ensures.0.same ∙ (through (goal.at.shape_of-scratch c).Joined-takes_buffers).eases.same
@@ -70,4 +69,4 @@ shape_of-scratch c = c.shut.ensures.0.same ∙ (through (goal.at.shape_of-scratc
 pub returns : goal.returns
 returns c =
     let a = c.args in
-    arrived-shut a.p a.plan.now a.period a.scratch-1.now a.count a.cell a.load.0 a.delay.0 c.requires _ _ (through (goal.at.returns c).Joined-takes_buffers) _ _ (rw c.closing-closing.ensures at c.shut.ensures)
+    arrived-shut a.p a.plan.now a.period a.scratch.now a.count a.cell a.load.0 a.delay.0 c.requires _ _ (through (goal.at.returns c).Joined-takes_buffers) _ _ (rw c.closing-closing.ensures at c.shut.ensures)

@@ -2,7 +2,7 @@ use Prim.Native.Nat.{ℕ, ◌+◌, ◌-◌, ◌≤◌, ◌<◌}
 use mathlib.Core.Path.{◌≡◌, refl}
 use mathlib.Core.Bool.{true}
 use mathlib.Core.List.{List}
-use mathlib.Core.Logic.{⊎_elim, inl, inr}
+use mathlib.Core.Logic.{inl, inr}
 use native.Mathlib.Omega.{arith}
 use lib.ListN.{length, get_or}
 use Rattle.timing.specs.declared.elements.Elements.{Elements}
@@ -17,6 +17,7 @@ use Rattle.spans.proofs.Eases.{ground-space, limit-row}
 use Rattle.costs.proofs.Checked.{buffer-driver-fits}
 use Rattle.spans.proofs.Buffers.{driven_by, Driven, driven-none, driven-ground, driven-past, driven-more}
 use Rattle.spans.proofs.arrivals.ease_buffers.Goals as goal
+use Rattle.spans.proofs.arrivals.ease_buffers.Goals.{then-own-limit+then-after-le-LATEST, then-own-limit+else-after-le-LATEST, else-own-limit}
 
 pub loop-i-init : goal.loop-i-init
 loop-i-init c = (omega arith, λ p e asks takes. driven-none p _ _ _ _ _ _ _ asks)
@@ -32,12 +33,12 @@ pub ease-waiting-requires : goal.ease-waiting-requires
 ease-waiting-requires c =
     let loop = c.loop-i in
     let a = c.args in
-    let g = driven-ground a.p a.plan.now a.period a.scratch-1.now a.count a.cell a.load-own.0 a.delay.0 c.requires.0 loop.scratch-1 loop.waiting loop.i (loop.invariant.1 a.p refl c.requires.0 c.requires.1) in
+    let g = driven-ground a.p a.plan.now a.period a.scratch.now a.count a.cell a.load.0 a.delay.0 c.requires.0 loop.scratch loop.waiting loop.i (loop.invariant.1 a.p refl c.requires.0 c.requires.1) in
     (ground-space _ _ g, (g.queue, (g.falling, (c.requires.0.inside, (omega (arith, c.if-own-limit.true), limit-row _ _ g)))))
 
 -- one buffer more, of the loop's elements
-module _ (p : Problem) (marks : List ℕ) (t : ℕ) (old : List ℕ) (count cell load delay : ℕ) (asks : ArriveAsks p marks t old count cell load delay) (takes : takes_buffers (get_or marks cell 0) p cell ≡ true) (e : Elements) (same : p.elements-1 ≡ e) (words : List ℕ) (waiting i : ℕ) (d : Driven p marks t old count cell load delay asks words waiting i) (own after : ℕ) (isOwn : own ≡ buffer_load (buffer_at e i)) (isAfter : after ≡ delay + gate_delay (buffer_driver (buffer_at e i)) load) where
-  is_own' : own ≡ buffer_load (buffer_at p.elements-1 i)
+module _ (p : Problem) (marks : List ℕ) (t : ℕ) (old : List ℕ) (count cell load delay : ℕ) (asks : ArriveAsks p marks t old count cell load delay) (takes : takes_buffers (get_or marks cell 0) p cell ≡ true) (e : Elements) (same : p.elements ≡ e) (words : List ℕ) (waiting i : ℕ) (d : Driven p marks t old count cell load delay asks words waiting i) (own after : ℕ) (isOwn : own ≡ buffer_load (buffer_at e i)) (isAfter : after ≡ delay + gate_delay (buffer_driver (buffer_at e i)) load) where
+  is_own' : own ≡ buffer_load (buffer_at p.elements i)
   is_own' = rw same isOwn
 
   is_after' : after ≡ driven_by p load delay i
@@ -61,16 +62,15 @@ loop-i-preserved c =
     let e = a.p.elements in
     let own : c.load-own.result.0 ≡ buffer_load (buffer_at e loop.i) = c.load-own.ensures in
     let driver : c.driver.result ≡ buffer_driver (buffer_at e loop.i) = c.driver.ensures in
-    let after : c.after-after.result.0 ≡ a.delay.0 + gate_delay (buffer_driver (buffer_at e loop.i)) a.load-own.0 = rw driver at c.after-after.ensures in (
+    let after : c.after-after.result.0 ≡ a.delay.0 + gate_delay (buffer_driver (buffer_at e loop.i)) a.load.0 = rw driver at c.after-after.ensures in (
       omega (arith, c.loop-i-test.true),
       λ p same asks takes.
           let d = loop.invariant.1 p same asks takes in
-          ⊎_elim
-          (λ w. rw (w.6, w.7) (more p _ _ _ _ _ _ _ asks takes e same loop.scratch-1 loop.waiting loop.i d _ _ own after c.loop-i-test.true w.0.taken _ _ w.3.ensures))
-          (⊎_elim
-          (λ w. rw (w.2, w.3) (late p _ _ _ _ _ _ _ asks takes e same loop.scratch-1 loop.waiting loop.i d _ _ own after w.1.left))
-          (λ w. rw (w.1, w.2) (heavy p _ _ _ _ _ _ _ asks takes e same loop.scratch-1 loop.waiting loop.i d _ _ own after w.0.left)))
-          c.if-own-limit.branch,
+          elim c.if-own-limit.branch [
+            | then-own-limit+then-after-le-LATEST w ↦ rw (w.scratch-is, w.waiting-is) (more p _ _ _ _ _ _ _ asks takes e same loop.scratch loop.waiting loop.i d _ _ own after c.loop-i-test.true w.if-own-limit.true _ _ w.ease-waiting.ensures)
+            | then-own-limit+else-after-le-LATEST w ↦ rw (w.scratch-is, w.waiting-is) (late p _ _ _ _ _ _ _ asks takes e same loop.scratch loop.waiting loop.i d _ _ own after w.if-after-le-LATEST.false)
+            | else-own-limit w ↦ rw (w.scratch-is, w.waiting-is) (heavy p _ _ _ _ _ _ _ asks takes e same loop.scratch loop.waiting loop.i d _ _ own after w.if-own-limit.false)
+          ],
     )
 
 pub shape_of-scratch : goal.shape_of-scratch

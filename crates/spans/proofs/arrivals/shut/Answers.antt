@@ -47,50 +47,50 @@ module _ (p : Problem) (marks : List ℕ) (t : ℕ) (old : List ℕ) (count cell
 pub returns-then-closing-gt-LATEST : goal.returns-then-closing-gt-LATEST
 returns-then-closing-gt-LATEST c =
     let a = c.args in
-    still a.p a.plan.now a.period a.scratch-1.now a.count a.cell a.closing c.requires (λ k. absurd (omega (arith, c.if-closing-gt-LATEST.true)))
+    still a.p a.plan.now a.period a.scratch.now a.count a.cell a.closing c.requires (λ k. absurd (omega (arith, c.if-closing-gt-LATEST.true)))
 
 pub returns-then-scratch-n : goal.returns-then-scratch-n
 returns-then-scratch-n c =
     let a = c.args in
-    still a.p a.plan.now a.period a.scratch-1.now a.count a.cell a.closing c.requires (λ k. c.if-scratch-n.true)
+    still a.p a.plan.now a.period a.scratch.now a.count a.cell a.closing c.requires (λ k. c.if-scratch-n.true)
 
 pub bounds-scratch-n-then-period-close : goal.bounds-scratch-n-then-period-close
 bounds-scratch-n-then-period-close c =
     let a = c.args in
-    omega (arith, length-set a.scratch-1.now (length a.plan.now * closes_at + a.cell) a.closing, c.requires.ground.room, c.requires.inside)
+    omega (arith, length-set a.scratch.now (length a.plan.now * closes_at + a.cell) a.closing, c.requires.ground.room, c.requires.inside)
 
 pub bounds-scratch-n-then-close-scratch : goal.bounds-scratch-n-then-close-scratch
 bounds-scratch-n-then-close-scratch c =
     let a = c.args in
-    omega (arith, length-set a.scratch-1.now (length a.plan.now * closes_at + a.cell) a.closing, c.requires.ground.room, c.requires.inside)
+    omega (arith, length-set a.scratch.now (length a.plan.now * closes_at + a.cell) a.closing, c.requires.ground.room, c.requires.inside)
 
 pub returns-then-close-scratch : goal.returns-then-close-scratch
 returns-then-close-scratch c =
     let a = c.args in
-    ends a.p a.plan.now a.period a.scratch-1.now a.count a.cell a.closing c.requires c.if-closing-gt-LATEST.false c.if-scratch-n.false _ (closed-hint _ _ _ c.requires.inside _ _ a.closing (written a.p a.plan.now a.period a.scratch-1.now a.count a.cell a.closing c.requires c.if-closing-gt-LATEST.false c.if-scratch-n.false)) (λ k z. omega (arith, c.if-period-close.true))
+    ends a.p a.plan.now a.period a.scratch.now a.count a.cell a.closing c.requires c.if-closing-gt-LATEST.false c.if-scratch-n.false _ (closed-hint _ _ _ c.requires.inside _ _ a.closing (written a.p a.plan.now a.period a.scratch.now a.count a.cell a.closing c.requires c.if-closing-gt-LATEST.false c.if-scratch-n.false)) (λ k z. omega (arith, c.if-period-close.true))
 
 pub returns-else-close-scratch : goal.returns-else-close-scratch
 returns-else-close-scratch c =
     let a = c.args in
-    ends a.p a.plan.now a.period a.scratch-1.now a.count a.cell a.closing c.requires c.if-closing-gt-LATEST.false c.if-scratch-n.false _ (written a.p a.plan.now a.period a.scratch-1.now a.count a.cell a.closing c.requires c.if-closing-gt-LATEST.false c.if-scratch-n.false) (λ k z. omega (arith, c.if-period-close.true))
+    ends a.p a.plan.now a.period a.scratch.now a.count a.cell a.closing c.requires c.if-closing-gt-LATEST.false c.if-scratch-n.false _ (written a.p a.plan.now a.period a.scratch.now a.count a.cell a.closing c.requires c.if-closing-gt-LATEST.false c.if-scratch-n.false) (λ k z. omega (arith, c.if-period-close.true))
 
 pub returns-then-cell-p : goal.returns-then-cell-p
 returns-then-cell-p c =
     let a = c.args in
-    ends a.p a.plan.now a.period a.scratch-1.now a.count a.cell a.closing c.requires c.if-closing-gt-LATEST.false c.if-scratch-n.false _ (written a.p a.plan.now a.period a.scratch-1.now a.count a.cell a.closing c.requires c.if-closing-gt-LATEST.false c.if-scratch-n.false) (λ k z. z c.if-cell-p.true)
+    ends a.p a.plan.now a.period a.scratch.now a.count a.cell a.closing c.requires c.if-closing-gt-LATEST.false c.if-scratch-n.false _ (written a.p a.plan.now a.period a.scratch.now a.count a.cell a.closing c.requires c.if-closing-gt-LATEST.false c.if-scratch-n.false) (λ k z. z c.if-cell-p.true)
 
 pub start-requires : goal.start-requires
 start-requires c =
     let a = c.args in
-    let g = mid-ground a.p a.plan.now a.period a.scratch-1.now a.count a.cell a.closing c.requires c.if-closing-gt-LATEST.false c.if-scratch-n.false _ (written a.p a.plan.now a.period a.scratch-1.now a.count a.cell a.closing c.requires c.if-closing-gt-LATEST.false c.if-scratch-n.false) in
+    let g = mid-ground a.p a.plan.now a.period a.scratch.now a.count a.cell a.closing c.requires c.if-closing-gt-LATEST.false c.if-scratch-n.false _ (written a.p a.plan.now a.period a.scratch.now a.count a.cell a.closing c.requires c.if-closing-gt-LATEST.false c.if-scratch-n.false) in
     record { valid = g.ready.valid; space = ground-space _ _ g; queue = g.queue; falling = g.falling; inside = c.requires.inside; light = g.light }
 
 pub shape_of-scratch : goal.shape_of-scratch
 shape_of-scratch c =
     let a = c.args in
-    c.start.ensures.same ∙ length-set a.scratch-1.now (length a.plan.now * closes_at + a.cell) a.closing
+    c.start.ensures.same ∙ length-set a.scratch.now (length a.plan.now * closes_at + a.cell) a.closing
 
 pub returns : goal.returns
 returns c =
     let a = c.args in
-    goes a.p a.plan.now a.period a.scratch-1.now a.count a.cell a.closing c.requires c.if-closing-gt-LATEST.false c.if-scratch-n.false _ (written a.p a.plan.now a.period a.scratch-1.now a.count a.cell a.closing c.requires c.if-closing-gt-LATEST.false c.if-scratch-n.false) c.if-cell-p.false c.if-period-close.false _ _ c.start.ensures
+    goes a.p a.plan.now a.period a.scratch.now a.count a.cell a.closing c.requires c.if-closing-gt-LATEST.false c.if-scratch-n.false _ (written a.p a.plan.now a.period a.scratch.now a.count a.cell a.closing c.requires c.if-closing-gt-LATEST.false c.if-scratch-n.false) c.if-cell-p.false c.if-period-close.false _ _ c.start.ensures
