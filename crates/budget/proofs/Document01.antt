@@ -8,7 +8,7 @@ use Rattle.plan.specs.Plan.{Plan}
 use Rattle.timing.specs.declared.elements.Elements.{Elements}
 use Rattle.timing.specs.declared.clocks.Clocks.{Clocks}
 use Rattle.timing.specs.Valid.{Valid}
-use Rattle.timing.specs.Clocks.{one_clock, ValidClocks}
+use Rattle.timing.specs.Clocks.{one_clock}
 use Rattle.timing.proofs.OneClock.{one-valid}
 use Rattle.rules.specs.Rules.{Rules, rules_of}
 use Rattle.rules.specs.Ranking.{registers}

@@ -1,5 +1,5 @@
 -- Emission: with the least figures to go, the visits that go on are those that begin an ending with these figures, and the first of them begins the first ending.
-use Prim.Native.Nat.{ℕ, suc, ◌+◌, ◌-◌, ◌≤◌, ◌<◌}
+use Prim.Native.Nat.{ℕ, suc, ◌+◌, ◌≤◌, ◌<◌}
 use mathlib.Core.Path.{◌≡◌, refl}
 use mathlib.Core.Bool.{◌&&◌, not}
 use mathlib.Core.List.{[], ◌∷◌}

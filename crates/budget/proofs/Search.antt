@@ -12,7 +12,7 @@ use Rattle.rules.specs.Ranking.{weigh}
 use Rattle.plan.proofs.Truth.{both, fst, snd, or_left, or_right, or_cases, eq→eqb, split, three-way, decided}
 use Rattle.rules.proofs.View.{ClosingVisit, Ending, ending-test, closing-codes, register-closing, side_same, none_open}
 use Rattle.rules.proofs.Figures.{weigh-closed, weigh-kept}
-use Rattle.budget.specs.Table.{Table, Represents, Step, load_at, delay_at, buffer_cost, load_of, close_cost, layer}
+use Rattle.budget.specs.Table.{Table, Represents, Step, load_at, delay_at, buffer_cost, load_of, close_cost}
 use Rattle.budget.specs.Done.{NotAfter, Open, After, Labels, Covers, Labelled, Lawful, seed_at}
 use Rattle.budget.specs.Search.{Next, Relabelled}
 use Rattle.budget.proofs.Layer.{layer-represents}

@@ -1,6 +1,6 @@
 -- The rules of a net: each field that the clocks change, as an equation; with one clock they are the problem's.
-use Prim.Native.Nat.{ℕ, ◌+◌, ◌*◌, ◌≤◌, ◌<◌}
-use mathlib.Core.Path.{◌≡◌, refl, sym, ◌∙◌}
+use Prim.Native.Nat.{ℕ, ◌+◌, ◌*◌, ◌≤◌}
+use mathlib.Core.Path.{◌≡◌, refl, sym}
 use mathlib.Core.Bool.{Bool, true, false, cond}
 use mathlib.Core.List.{List}
 use native.Mathlib.Omega.{arith}
@@ -11,12 +11,11 @@ use Rattle.timing.specs.declared.elements.Elements.{Elements}
 use Rattle.timing.specs.declared.clocks.Clocks.{Clocks}
 use Rattle.timing.specs.Elements.{RegisterInRange}
 use Rattle.timing.specs.Formulas.{skewed, register_driver, register_load, setup_delay}
-use Rattle.timing.specs.Clocks.{one_clock}
 use Rattle.timing.proofs.OneClock.{one-valid}
 use Rattle.rules.specs.Rules.{Rules, register_code, fifo_code, rules_of}
 use Rattle.rules.specs.Legal.{may_stand}
 use Rattle.rules.specs.Crossing.{is_fifo, gate_for, period_on, rules_between}
-use Rattle.rules.proofs.Clocks.{one-clock, gate-register, gate-fifo, period-sink, weight-one, weight-two, stands_alike, fifo-stands, fifo-nowhere}
+use Rattle.rules.proofs.Clocks.{one-clock, stands_alike, fifo-stands, fifo-nowhere}
 use Rattle.problem.specs.declared.Problem.{Problem}
 use Rattle.problem.specs.declared.net.Net.{Net}
 use Rattle.problem.specs.Problem.{plan_for, rules_for, Ready}

@@ -1,20 +1,17 @@
 -- The rules with any clocks, `rules_between`: each field as an equation, and which gate may stand where. With one clock they are document 01's.
-use Prim.Native.Nat.{ℕ, ◌+◌, ◌*◌, ◌-◌, ◌≤◌, ◌<◌}
-use mathlib.Core.Bool.{Bool, true, false, ◌&&◌, ◌||◌, cond, not, or-false, and-false}
-use mathlib.Core.Path.{◌≡◌, refl, sym, ◌∙◌, ap}
-use mathlib.Core.Logic.{◌⊎◌, inl, inr}
+use Prim.Native.Nat.{ℕ, ◌+◌, ◌*◌, ◌≤◌}
+use mathlib.Core.Bool.{Bool, true, false, ◌&&◌, ◌||◌, cond, or-false, and-false}
+use mathlib.Core.Path.{◌≡◌, refl}
 use native.Mathlib.Omega.{arith}
 use borrow.Author.Tests.{le-leb, lt-leb, eq-eqb, ne_eqb}
 use lib.Dec.{T, leb, eqb}
-use lib.ListN.{get_or}
 use Rattle.plan.specs.Plan.{Plan, cells, marks_at, takes_register}
 use Rattle.plan.specs.Joined.{joined}
 use Rattle.timing.specs.declared.elements.Elements.{Elements}
 use Rattle.timing.specs.declared.clocks.Clocks.{Clocks}
 use Rattle.timing.specs.Clocks.{one_clock}
 use Rattle.timing.specs.Ranges.{buffers_max}
-use Rattle.timing.specs.Formulas.{register_driver, register_load, setup_delay}
-use Rattle.rules.specs.Rules.{Rules, no_gate, register_code, fifo_code, is_closing, site_of, wire_between, rules_of}
+use Rattle.rules.specs.Rules.{Rules, no_gate, register_code, fifo_code, site_of, rules_of}
 use Rattle.rules.specs.Legal.{is_end, may_stand}
 use Rattle.rules.specs.Crossing.{is_fifo, gate_for, period_on, rules_between}
 use Rattle.rules.proofs.Document01.{site-register, site-refused}

@@ -13,7 +13,7 @@ use Rattle.rules.specs.Rules.{Stage, Rules, register_code, fifo_code, is_closing
 use Rattle.rules.specs.Legal.{Visit, Route}
 use Rattle.rules.specs.Ranking.{code_sevens, weigh}
 use Rattle.rules.specs.Crossing.{sink_side, source_side, sink_registers, source_registers, crossing_latency}
-use Rattle.rules.proofs.View.{FirstVisit, Ending, ends, passes, buffers, closes, LegalRoute, closing-codes, register-closing, fifo-closing, none_open, side_same, side-fifo, side-kept}
+use Rattle.rules.proofs.View.{FirstVisit, Ending, ends, passes, buffers, closes, closing-codes, register-closing, fifo-closing, none_open, side_same, side-fifo}
 use Rattle.rules.proofs.Figures.{weigh-none, weigh-closed, weigh-kept, sevens-none, sevens-more, sevens-kept}
 
 sides-fifo : (v : Visit) (vs : Route) → v.code ≡ fifo_code → (sink_side (v ∷ vs) ≡ []) × (source_side (v ∷ vs) ≡ vs)

@@ -1,4 +1,3 @@
-use Prim.Native.Nat.{◌-◌}
 use mathlib.Core.Path.{◌∙◌}
 use native.Mathlib.Omega.{arith}
 use borrow.Author.Tests.{le-leb, lt-leb}
@@ -22,8 +21,8 @@ loop-l-preserved c =
     let limit = c.args.limit in
     written-more loop.invariant _ (omega arith)
     (elim c.if-l-limit.branch [
-      then-l-limit w ↦ simp (le-leb loop.l limit (omega arith)) (w.row-is ∙ c.delay.ensures)
-    | else-l-limit w ↦ simp (lt-leb loop.l limit (omega arith)) w.row-is
+      | then-l-limit w ↦ simp (le-leb loop.l limit (omega arith)) (w.row-is ∙ c.delay.ensures)
+      | else-l-limit w ↦ simp (lt-leb loop.l limit (omega arith)) w.row-is
     ])
 
 pub returns : goal.returns

@@ -1,4 +1,3 @@
-use Prim.Native.Nat.{◌-◌}
 use native.Mathlib.Omega.{arith}
 use borrow.Author.Tests.{le-leb, lt-leb}
 use Rattle.costs.specs.Costs.{limit_cost}
@@ -16,8 +15,8 @@ loop-l-preserved c =
     let limit = c.args.limit in
     written-more loop.invariant _ (omega arith)
     (elim c.if-l-limit.branch [
-      then-l-limit w ↦ simp (le-leb loop.l limit (omega arith)) w.row-is
-    | else-l-limit w ↦ simp (lt-leb loop.l limit (omega arith)) w.row-is
+      | then-l-limit w ↦ simp (le-leb loop.l limit (omega arith)) w.row-is
+      | else-l-limit w ↦ simp (lt-leb loop.l limit (omega arith)) w.row-is
     ])
 
 pub returns : goal.returns

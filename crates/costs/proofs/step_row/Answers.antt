@@ -1,4 +1,4 @@
-use Prim.Native.Nat.{◌+◌, ◌-◌}
+use Prim.Native.Nat.{◌+◌}
 use mathlib.Core.Path.{◌∙◌}
 use native.Mathlib.Omega.{arith}
 use borrow.Author.Tests.{le-leb, lt-leb}
@@ -24,8 +24,8 @@ loop-l-preserved c =
     written-more loop.invariant _ (omega arith)
     (rw (← load.ensures)
     (elim c.if-l-step.branch [
-      then-l-step w ↦ simp (le-leb (loop.l + load.result.0) limit (omega arith)) (w.row-is ∙ c.delay.ensures)
-    | else-l-step w ↦ simp (lt-leb (loop.l + load.result.0) limit (omega arith)) w.row-is
+      | then-l-step w ↦ simp (le-leb (loop.l + load.result.0) limit (omega arith)) (w.row-is ∙ c.delay.ensures)
+      | else-l-step w ↦ simp (lt-leb (loop.l + load.result.0) limit (omega arith)) w.row-is
     ]))
 
 pub returns : goal.returns
