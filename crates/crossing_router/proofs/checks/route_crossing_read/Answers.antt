@@ -36,12 +36,6 @@ costs_of-costs-requires c = handed-valid (hands (goal.at.costs_of-costs-requires
 pub crossing_ready-requires : goal.crossing_ready-requires
 crossing_ready-requires c = two-asks (hands (goal.at.crossing_ready-requires c).After-check_with-checked c.in-Passes.is) _ _ c.if-scratch-plan.false c.costs_of-costs.ensures
 
-pub shape_of-scratch-in-Passes : goal.shape_of-scratch-in-Passes
-shape_of-scratch-in-Passes c = c.crossing_ready.auto.1.0
-
-pub shape_of-visits-in-Passes : goal.shape_of-visits-in-Passes
-shape_of-visits-in-Passes c = c.crossing_ready.auto.1.1.1.1.0
-
 pub returns-in-Passes : goal.returns-in-Passes
 returns-in-Passes c =
     handed-routed (hands (goal.at.returns-in-Passes c).After-check_with-checked c.in-Passes.is) _ _ c.if-scratch-plan.false _ _ _ c.crossing_ready.ensures

@@ -15,10 +15,10 @@ use Rattle.crossing_router.proofs.sides.crossing_ready.Goals as goal
 use Rattle.crossing_router.proofs.sides.crossing_ready.Goals.{After-search_anew-reached}
 
 -- both searches keep the words past their own
-same : (c : After-search_anew-reached) → length c.search_anew-reached.new.1.0 ≡ length c.args.scratch.now
+same : (c : After-search_anew-reached) → length c.search_anew-reached.new.scratch ≡ length c.args.scratch.now
 same c = c.search_anew-reached.ensures.same ∙ c.search_far-far.ensures.same
 
-kept : (c : After-search_anew-reached) → KeptFrom (length c.args.plan.now * crossing_words) c.args.scratch.now c.search_anew-reached.new.1.0
+kept : (c : After-search_anew-reached) → KeptFrom (length c.args.plan.now * crossing_words) c.args.scratch.now c.search_anew-reached.new.scratch
 kept c i h = c.search_anew-reached.ensures.beyond.rest i (omega arith) ∙ c.search_far-far.ensures.rest i h
 
 pub search_anew-reached-requires : goal.search_anew-reached-requires
@@ -32,12 +32,6 @@ write_crossing-requires c =
       record { ready = c.requires.ready; two = c.requires.two; room = omega (arith, c.requires.room, same (goal.at.write_crossing-requires c).After-search_anew-reached); costed = c.requires.costed },
       (reached-sink found.done _ _ _ c.in-Sink.is, aside-kept c.search_far-far.ensures.aside found.same found.beyond.rest),
     )
-
-pub shape_of-scratch-in-Sink : goal.shape_of-scratch-in-Sink
-shape_of-scratch-in-Sink c = c.write_crossing.auto.1.0 ∙ same (goal.at.shape_of-scratch-in-Sink c).After-search_anew-reached
-
-pub shape_of-visits-in-Sink : goal.shape_of-visits-in-Sink
-shape_of-visits-in-Sink c = c.write_crossing.auto.1.1.1.1.0
 
 pub returns-in-Sink : goal.returns-in-Sink
 returns-in-Sink c =

@@ -46,7 +46,7 @@ overflow_mul-n-in-Nothing-2 c = omega (arith, few (goal.at.overflow_mul-n-in-Not
 
 pub copy_set-requires : goal.copy_set-requires
 copy_set-requires c =
-    let long : length c.search_anew-reached.new.1.0 ≡ length c.args.scratch.now = c.search_anew-reached.ensures.same ∙ c.clear.ensures.same in
+    let long : length c.search_anew-reached.new.scratch ≡ length c.args.scratch.now = c.search_anew-reached.ensures.same ∙ c.clear.ensures.same in
     record {
       source = record { small = few (goal.at.copy_set-requires c).Start; low = omega (arith, few (goal.at.copy_set-requires c).Start); room = omega (arith, c.requires.room, long) };
       target = record { small = few (goal.at.copy_set-requires c).Start; low = omega (arith, few (goal.at.copy_set-requires c).Start); room = omega (arith, c.requires.room, long) };

@@ -34,12 +34,6 @@ route_ready-requires c =
     let f = told-passes (question_of c.args.plan.now c.args.width c.args.height c.args.tables c.args.read.list c.args.source c.args.sink) _ c.check_question-checked.ensures c.in-Passes.is in
     (rw f.1 (passed-ready (question_of c.args.plan.now c.args.width c.args.height c.args.tables c.args.read.list c.args.source c.args.sink) passes f.0), (c.if-scratch-plan.false, c.costs_of-costs.ensures))
 
-pub shape_of-scratch-in-Passes : goal.shape_of-scratch-in-Passes
-shape_of-scratch-in-Passes c = c.route_ready.auto.1.0
-
-pub shape_of-visits-in-Passes : goal.shape_of-visits-in-Passes
-shape_of-visits-in-Passes c = c.route_ready.auto.1.1.1.1.0
-
 pub returns-in-Passes : goal.returns-in-Passes
 returns-in-Passes c =
     let f = told-passes (question_of c.args.plan.now c.args.width c.args.height c.args.tables c.args.read.list c.args.source c.args.sink) _ c.check_question-checked.ensures c.in-Passes.is in

@@ -11,7 +11,7 @@ use Rattle.router.proofs.BestRoute.{BestIs, best-is, best-is-none}
 use Rattle.router.proofs.OneClock.{one-rest, net-ready, net-costed, one_side, one-searched}
 use Rattle.router.proofs.Searched.{reached-sink, reached-nothing}
 use Rattle.router.proofs.least.least_ready.Goals as goal
-use Rattle.router.proofs.least.least_ready.Goals.{In-Sink-2}
+use Rattle.router.proofs.least.least_ready.Goals.{In-Sink}
 
 least-is : {R : Rules} {period k s : ℕ} → BestIs R period k s → Least.Of k s ≡ least_of (best R)
 unfolding least_of
@@ -27,12 +27,12 @@ search_anew-reached-requires c =
     (net-ready _ _ one _ c.requires.0, (c.requires.1.0, (one_side _ _ one _ _, net-costed _ _ one _ c.requires.1.1)))
 
 -- the figures, where the sink was reached
-figures : (c : In-Sink-2) → BestIs (rules_for c.args.p c.args.plan.now) c.args.p.elements.period c.in-Sink.weight c.in-Sink.steps
+figures : (c : In-Sink) → BestIs (rules_for c.args.p c.args.plan.now) c.args.p.elements.period c.in-Sink.weight c.in-Sink.steps
 figures c =
     best-is _ _ c.requires.0 _ _ _ _ _ _ (reached-sink (one-searched _ _ c.one_clock-net.ensures _ c.search_anew-reached.ensures).done _ _ _ c.in-Sink.is)
 
 pub overflow_cast-result : goal.overflow_cast-result
-overflow_cast-result c = omega (arith, (figures (goal.at.overflow_cast-result c).In-Sink-2).registers_fit)
+overflow_cast-result c = omega (arith, (figures (goal.at.overflow_cast-result c).In-Sink).registers_fit)
 
 pub shape_of-scratch-in-Sink : goal.shape_of-scratch-in-Sink
 shape_of-scratch-in-Sink c = c.search_anew-reached.ensures.same
@@ -41,7 +41,7 @@ pub returns-in-Sink : goal.returns-in-Sink
 returns-in-Sink c =
     let found = c.search_anew-reached.ensures in
     record {
-      least = least-is (figures (goal.at.returns-in-Sink c).In-Sink-2);
+      least = least-is (figures (goal.at.returns-in-Sink c).In-Sink);
       same = found.same;
       rest = one-rest found.beyond;
     }

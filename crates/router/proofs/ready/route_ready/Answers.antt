@@ -21,12 +21,6 @@ pub write_route-requires : goal.write_route-requires
 write_route-requires c =
     (c.requires.0, (omega (arith, c.requires.1.0, c.search_anew-reached.ensures.same), (reached-sink (one-searched _ _ c.one_clock-net.ensures _ c.search_anew-reached.ensures).done _ _ _ c.in-Sink.is, c.requires.1.1)))
 
-pub shape_of-scratch-in-Sink : goal.shape_of-scratch-in-Sink
-shape_of-scratch-in-Sink c = c.write_route.auto.1.0 ∙ c.search_anew-reached.ensures.same
-
-pub shape_of-visits-in-Sink : goal.shape_of-visits-in-Sink
-shape_of-visits-in-Sink c = c.write_route.auto.1.1.1.1.0
-
 pub returns-in-Sink : goal.returns-in-Sink
 returns-in-Sink c =
     let w = c.write_route.ensures in

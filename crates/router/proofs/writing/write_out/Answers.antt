@@ -29,7 +29,7 @@ taken c =
     omega (arith, length-take c.words_for-room.result c.args.visits.now, room_most (room (goal.at.After-emit-arg-2-1 c).After-words_for-room))
 
 -- and after emission as many
-left : (c : After-emit-told) → length c.emit-told.new.1.1.1.1.1.1.1.1.0 ≡ c.words_for-room.result
+left : (c : After-emit-told) → length c.emit-told.new.visits ≡ c.words_for-room.result
 left c = c.emit-told.ensures.kept ∙ taken (goal.at.After-emit-told c).After-emit-arg-2-1
 
 pub overflow_add-steps : goal.overflow_add-steps
@@ -65,7 +65,7 @@ shape_of-scratch c = c.clear.ensures.same ∙ c.emit-told.ensures.same
 
 pub shape_of-visits : goal.shape_of-visits
 shape_of-visits c =
-    kept-length c.args.visits.now c.emit-told.new.1.1.1.1.1.1.1.1.0 c.words_for-room.result (left (goal.at.shape_of-visits c).After-emit-told) (room_most (room (goal.at.shape_of-visits c).After-words_for-room))
+    kept-length c.args.visits.now c.emit-told.new.visits c.words_for-room.result (left (goal.at.shape_of-visits c).After-emit-told) (room_most (room (goal.at.shape_of-visits c).After-words_for-room))
 
 pub returns : goal.returns
 returns c =
