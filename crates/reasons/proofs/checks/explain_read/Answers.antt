@@ -31,7 +31,7 @@ reason_ready-requires c =
     (rw f.1 (passed-ready (question_of c.args.plan.now c.args.width c.args.height c.args.tables c.args.read.list c.args.source c.args.sink) passes f.0), c.if-scratch-plan.false)
 
 pub shape_of-scratch-in-Passes : goal.shape_of-scratch-in-Passes
-shape_of-scratch-in-Passes c = c.reason_ready.auto.1.0
+shape_of-scratch-in-Passes c = c.reason_ready.auto.scratch
 
 pub returns-in-Passes : goal.returns-in-Passes
 returns-in-Passes c =

@@ -11,7 +11,7 @@ use Rattle.reasons.proofs.Order.{timed-routed, light-routed}
 use Rattle.reasons.proofs.Periods.{smallest-most, below-longest, no-smallest}
 use Rattle.reasons.proofs.Values.{reason-period}
 use Rattle.reasons.proofs.reason.why_none.Goals as goal
-use Rattle.reasons.proofs.reason.why_none.Goals.{After-exists_with, Start, Then-exists_with}
+use Rattle.reasons.proofs.reason.why_none.Goals.{After-exists_with, Then-exists_with}
 
 -- what the search told, and what it left
 at-longest : (c : After-exists_with) → Told (routed_for c.args.p c.args.plan.now period_max) (length c.args.plan.now) c.args.scratch.now c.exists_with.new.scratch c.exists_with.result
@@ -25,37 +25,30 @@ exists_with-requires c =
     (c.requires.0, (c.requires.1.0, rw c.at_period.ensures (period-valid _ _ c.requires.0.valid (omega arith) (omega arith))))
 
 -- a route at the longest period
-module _ (c : Then-exists_with) where
-  abbrev told : After-exists_with
-  told = c.before.before.before
-
-  abbrev s : Start
-  s = start told
-
-  longest : routed_for s.args.p s.args.plan.now period_max ≡ true
-  longest = sym (at-longest told).told ∙ c.if-exists_with.true
+longest : (c : Then-exists_with) → routed_for c.args.p c.args.plan.now period_max ≡ true
+longest c = sym (at-longest (goal.at.Then-exists_with c).After-exists_with).told ∙ c.if-exists_with.true
 
 pub smallest_period-period-requires : goal.smallest_period-period-requires
 unfolding routed_for
 smallest_period-period-requires c =
-    let probe = told c.before in
-    let at = s c.before in
-    let ready = at.requires.0 in
-    let own = at.requires.1.1 in
-    (ready, (omega (arith, (at-longest probe).same, at.requires.1.0), (ready.valid.least, (below-longest _ _ _ _ ready.valid _ ready.valid.most own (longest c.before), (omega arith, (own, longest c.before))))))
+    let long = longest (goal.at.smallest_period-period-requires c).Then-exists_with in
+    let ready = c.requires.0 in
+    let own = c.requires.1.1 in
+    (ready, (omega (arith, (at-longest (goal.at.smallest_period-period-requires c).After-exists_with).same, c.requires.1.0), (ready.valid.least, (below-longest _ _ _ _ ready.valid _ ready.valid.most own long, (omega arith, (own, long))))))
 
 pub shape_of-scratch-then-exists_with : goal.shape_of-scratch-then-exists_with
-shape_of-scratch-then-exists_with c = c.smallest_period-period.ensures.same ∙ (at-longest (told c.before.before.before.before)).same
+shape_of-scratch-then-exists_with c = c.smallest_period-period.ensures.same ∙ (at-longest (goal.at.shape_of-scratch-then-exists_with c).After-exists_with).same
 
 pub returns-then-exists_with : goal.returns-then-exists_with
 unfolding reason_of smallest_for routed_for
 returns-then-exists_with c =
-    let valid = (s c.before.before.before.before).requires.0.valid in
-    let was = at-longest (told c.before.before.before.before) in
+    let valid = c.requires.0.valid in
+    let was = at-longest (goal.at.returns-then-exists_with c).After-exists_with in
     let done = c.smallest_period-period.ensures in
-    let light = timed-routed _ _ _ _ valid period_max (omega arith) (omega arith) (longest c.before.before.before.before) in
+    let long = longest (goal.at.returns-then-exists_with c).Then-exists_with in
+    let light = timed-routed _ _ _ _ valid period_max (omega arith) (omega arith) long in
     record {
-      told = sym (reason-period _ _ _ _ (light-routed _ _ _ _ valid light) light _ done.told (omega (arith, done.told, smallest-most _ _ _ _ valid (longest c.before.before.before.before))));
+      told = sym (reason-period _ _ _ _ (light-routed _ _ _ _ valid light) light _ done.told (omega (arith, done.told, smallest-most _ _ _ _ valid long)));
       same = done.same ∙ was.same;
       rest = λ k h. done.rest k h ∙ was.rest k h;
     }
