@@ -9,7 +9,7 @@ use Rattle.answers.specs.declared.tables.ElementFault.{ElementFault}
 use Rattle.answers.specs.declared.answer.Refusal.{Refusal}
 use Rattle.answers.proofs.FirstCrossing.{crossing-valid, crossing-fault, crossing-clean}
 use Rattle.problem.specs.Problem.{Ready}
-use Rattle.question.specs.Question.{Question, Check, passes, fails, cells_asked}
+use Rattle.question.specs.Question.{Check, passes, fails, cells_asked}
 use Rattle.question.specs.Checked.{problem_asked, checked_with}
 use Rattle.question.specs.Crossing.{CrossingQuestion, crossing_checks, crossing_checked}
 use Rattle.question.specs.declared.Checked.{Checked}

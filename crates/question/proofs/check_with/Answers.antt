@@ -3,9 +3,7 @@ use mathlib.Core.Path.{◌≡◌, sym, ◌∙◌}
 use Rattle.plan.specs.Plan.{plan_of}
 use Rattle.plan.specs.Check.{checked_plan}
 use Rattle.plan.specs.declared.PlanCheck.{PlanCheck}
-use Rattle.answers.specs.declared.records.Tables.{Tables}
-use Rattle.answers.specs.declared.records.BufferList.{BufferList}
-use Rattle.question.specs.Question.{Question, question_of, passes}
+use Rattle.question.specs.Question.{question_of, passes}
 use Rattle.question.proofs.Checks.{fails-grid, fails-length, fails-mark, checked-fails}
 use Rattle.question.proofs.check_with.Goals as goal
 use Rattle.question.proofs.check_with.Goals.{After-check_plan-grid}
