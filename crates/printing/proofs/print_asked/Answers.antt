@@ -11,9 +11,9 @@ slice_bounds-route_with-end c =
     sym (length-take-le (c.args.asked.width * c.args.asked.height) c.args.plan.now (omega (arith, c.requires.0)))
 
 pub put_answer-requires : goal.put_answer-requires
-put_answer-requires c = (within-answer _ _ _ _ _ c.route_with-answer.ensures.answer c.route_with-answer.auto.1.1.1.1.1.1.1.1.0, omega (arith, c.route_with-answer.auto.1.1.1.1.1.1.1.1.0, c.requires.1.1.1.1.0, c.requires.1.1.1.1.1))
+put_answer-requires c = (within-answer _ _ _ _ _ c.route_with-answer.ensures.answer c.route_with-answer.auto.visits, omega (arith, c.route_with-answer.auto.visits, c.requires.1.1.1.1.0, c.requires.1.1.1.1.1))
 
 pub returns : goal.returns
 returns c = let a = c.args in
-    rw (asked-text a.plan.now a.scratch-1.now a.visits-1.now a.asked a.count _ _ _ c.buffers_of-list.ensures c.requires.1.1.1.0 c.requires.1.1.1.1.0 c.route_with-answer.ensures.answer c.route_with-answer.ensures.visits_left)
+    rw (asked-text a.plan.now a.scratch.now a.visits.now a.asked a.count _ _ _ c.buffers_of-list.ensures c.requires.1.1.1.0 c.requires.1.1.1.1.0 c.route_with-answer.ensures.answer c.route_with-answer.ensures.visits_left)
     at c.put_answer.ensures

@@ -5,7 +5,7 @@ use Rattle.printing.proofs.print_job.Goals as goal
 
 pub print_asked-requires : goal.print_asked-requires
 print_asked-requires c = let small = small_count _ _ _ _ (asks-small _ _ _ _ c.read_job-read.ensures _ _ c.in-Asks.is) in
-    (small.0, (small.1, omega (arith, c.read_job-read.auto.1.0, c.read_job-read.auto.1.1.0, c.requires)))
+    (small.0, (small.1, omega (arith, c.read_job-read.auto.plan, c.read_job-read.auto.words, c.requires)))
 
 pub returns-in-Refused : goal.returns-in-Refused
 returns-in-Refused c = put-prints _ c.put_refusal.ensures (refused-text _ _ _ _ c.read_job-read.ensures _ c.in-Refused.is)

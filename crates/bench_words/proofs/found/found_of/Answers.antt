@@ -8,7 +8,7 @@ use Rattle.bench_words.proofs.found.found_of.Goals as goal
 
 pub returns-in-Accepted : goal.returns-in-Accepted
 returns-in-Accepted c =
-    let own = to_z-of_z {w = w32} {z = c.in-Accepted.z} (record { sfits = c.known_told-1.given.0.1 }) in
+    let own = to_z-of_z {w = w32} {z = c.in-Accepted.z} (record { sfits = c.in-Accepted.known_told-1-own.given.0.1 }) in
     rw (c.slack_magnitude.ensures ∙ ap magnitude own) (sym (ap found_of c.in-Accepted.is))
 
 pub returns-in-AtFault : goal.returns-in-AtFault

@@ -8,5 +8,5 @@ use Rattle.bench_words.proofs.found.miss_of.Goals as goal
 
 pub returns-in-Period : goal.returns-in-Period
 returns-in-Period c =
-    let own = to_z-of_z {w = w32} {z = c.in-Period.z} (record { sfits = c.known_told-1.given.0.1 }) in
+    let own = to_z-of_z {w = w32} {z = c.in-Period.z} (record { sfits = c.in-Period.known_told-1-own.given.0.1 }) in
     c.slack_magnitude.ensures ∙ (ap magnitude own ∙ sym (ap miss_of c.in-Period.is))

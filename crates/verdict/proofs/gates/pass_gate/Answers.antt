@@ -28,15 +28,14 @@ pub returns-then-code-eq7 : goal.returns-then-code-eq7
 returns-then-code-eq7 c = rw c.if-code-eq7.true c.close_span.ensures
 
 pub drive-requires : goal.drive-requires
-drive-requires c =
-    (
-      record {
-        valid = c.requires.valid;
-        light = leb-true _ _ (sym c.at_most.ensures ∙ not-false _ c.if-not-at_most.false-raw);
-        early = c.requires.early;
-      },
-      (omega (arith, c.if-code-eq0.false), (between c.args.last c.args.code c.args.elements c.if-code-eq7.false c.requires.codes).1),
-    )
+drive-requires c = (
+  record {
+    valid = c.requires.valid;
+    light = leb-true _ _ (sym c.at_most.ensures ∙ not-false _ c.if-not-at_most.false-raw);
+    early = c.requires.early;
+  },
+  (omega (arith, c.if-code-eq0.false), (between c.args.last c.args.code c.args.elements c.if-code-eq7.false c.requires.codes).1),
+)
 
 pub returns : goal.returns
 returns c =
