@@ -10,7 +10,6 @@ use Rattle.timing.specs.Ranges.{period_min, period_max}
 use Rattle.timing.specs.Relaxed.{at_period, relaxed}
 use Rattle.timing.specs.Valid.{Valid}
 use Rattle.timing.proofs.Relaxed.{own-period, period-valid, relaxed-valid}
-use Rattle.rules.specs.Rules.{Rules, rules_of}
 use Rattle.rules.specs.Legal.{Route, legal}
 use Rattle.rules.specs.Relaxed.{fits, Chain, HasRoute}
 use Rattle.rules.proofs.LeftOut.{fits-untimed, legal-later, chain-bare, route-chain}

@@ -1,10 +1,8 @@
 -- `queue::join`: a state that waits only moves; any other takes the place after the last, for which there is room.
 use Prim.Native.Nat.{◌+◌, ◌*◌, ◌<◌}
-use mathlib.Core.Logic.{⊎_elim}
 use native.Mathlib.Omega.{arith}
 use lib.ListN.{length-set}
 use Rattle.costs.specs.Costs.{row_words}
-use Rattle.layout.specs.Layout.{places_at}
 use Rattle.queue.specs.Queue.{Waits, Joined}
 use Rattle.queue.proofs.Queue.{stored, space-kept, queue-room, queue-room-for, joined-waiting, joined-new, joined-then}
 use Rattle.queue.proofs.join.Goals as goal

@@ -1,5 +1,4 @@
-use Prim.Native.Nat.{◌-◌, ◌<◌}
-use mathlib.Core.Logic.{⊎_elim}
+use Prim.Native.Nat.{◌<◌}
 use native.Mathlib.Omega.{arith}
 use Rattle.queue.proofs.Queue.{queue-room, requeued-self, two-slots, requeued-more}
 use Rattle.queue.proofs.sift.Goals as goal

@@ -1,4 +1,3 @@
-use Prim.Native.Nat.{◌-◌}
 use native.Mathlib.Omega.{arith}
 use Rattle.earliest.proofs.Parts.{starting-none, starting-asks, starting-more, starting-end}
 use Rattle.earliest.proofs.turns.start_all.Goals as goal
