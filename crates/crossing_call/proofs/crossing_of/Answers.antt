@@ -7,4 +7,4 @@ pub returns : goal.returns
 returns c =
     let a = c.args in
     c.route_crossing_with.ensures.answer
-    ∙ rw (lent _ c.smaller-n.result a.plan.now c.smaller-n.ensures, lent _ c.smaller-s.result a.scratch-1.now c.smaller-s.ensures, lent _ c.smaller-v.result a.visits-1.now c.smaller-v.ensures)
+    ∙ rw (lent _ c.smaller-n.result a.plan.now c.smaller-n.ensures, lent _ c.smaller-s.result a.scratch.now c.smaller-s.ensures, lent _ c.smaller-v.result a.visits.now c.smaller-v.ensures)

@@ -8,4 +8,4 @@ returns c =
     let a = c.args in
     let s = c.smaller-s in
     let v = c.smaller-v in
-    c.route_with.ensures.answer ∙ rw (lent _ s.result a.scratch-1.now s.ensures, lent _ v.result a.visits-1.now v.ensures)
+    c.route_with.ensures.answer ∙ rw (lent _ s.result a.scratch.now s.ensures, lent _ v.result a.visits.now v.ensures)
