@@ -12,7 +12,7 @@ import os
 import re
 import sys
 
-from port_names import mapping, turn
+from port_names import files, mapping, turn
 
 NAME = r"[A-Za-z_ℕ][\w'′]*"
 WORDS = {"getD": ["get_or", "slice_index_or", "slice_index"], "r": ["result", "r"], "entry": ["old", "now", "entry"]}
@@ -125,14 +125,20 @@ def written(triples):
     return "\n".join(lines) + "\n"
 
 
-def misfits(triples, folder):
-    """Why an edit can't be applied to today's files, or nothing."""
+def words(text):
+    return set(re.findall(r"(?<![\w'])[^\W\d][\w'-]*", text))
+
+
+def misfits(triples, folder, known):
+    """Why an edit can't be applied to today's files, or a word of it that no file has, or nothing."""
     now = {}
     for file, old, new in triples:
         text = now.setdefault(file, read(f"{folder}/{file}"))
         if text.count(old) != 1:
             return f"in {file} {text.count(old)} times: {old}"
         now[file] = text.replace(old, new)
+        if words(new) - known:
+            return f"unknown: {' '.join(sorted(words(new) - known))}"
     if not any(text != read(f"{folder}/{file}") for file, text in now.items()):
         return "changes nothing"
     return ""
@@ -150,6 +156,7 @@ def edits(root):
 def main(argv):
     before, only_check = argv[0], argv[1:] == ["--check"]
     names = mapping(before)
+    known = set().union(*(words(read(path)) for path in files(".", (".rt", ".antt"))))
     left = [f"{c} {n}: gone" for c, n in edits(before) if not os.path.exists(f"crates/{c}/must-fail/{n}")]
     for crate, name in edits("."):
         path, folder = f"crates/{crate}/must-fail/{name}", f"crates/{crate}"
@@ -158,7 +165,7 @@ def main(argv):
             if found:
                 with open(path, "w", encoding="utf-8") as f:
                     f.write(written(found))
-        why = misfits(parts(read(path)), folder)
+        why = misfits(parts(read(path)), folder, known)
         if why:
             left.append(f"{crate} {name}: {why}")
     print("\n".join(left + [f"{len(left)} left"]))
