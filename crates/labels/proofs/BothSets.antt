@@ -1,19 +1,17 @@
 -- Labels of registers, and then those of FIFOs, become seeds.
 use Prim.Native.Nat.{ℕ, ◌+◌, ◌*◌, ◌≤◌, ◌<◌}
 use mathlib.Core.Path.{◌≡◌, refl, sym, ◌∙◌}
-use mathlib.Core.Logic.{◌⊎◌, inl, inr}
+use mathlib.Core.Logic.{inl, inr}
 use mathlib.Core.List.{List}
 use native.Mathlib.Omega.{arith}
 use lib.Dec.{T}
-use lib.ListN.{length, get_or}
-use Rattle.rules.specs.Rules.{register_code, fifo_code, is_closing}
+use lib.ListN.{get_or}
+use Rattle.rules.specs.Rules.{register_code, fifo_code}
 use Rattle.rules.proofs.View.{register-closing, fifo-closing}
-use Rattle.layout.specs.Layout.{labels_at, exits_at, aside_at, order_in, label_words, active_at, trail_at}
-use Rattle.lists.specs.Lists.{flag_of}
-use Rattle.table.specs.Problem.{seed_of}
-use Rattle.labels.specs.Labels.{known_of, order_of, ListedOr, LabelBy, LabelAfter, SameLabel, ArriveAsks, Arrived, ArrivedAll}
+use Rattle.layout.specs.Layout.{labels_at, exits_at, order_in}
+use Rattle.labels.specs.Labels.{known_of, order_of, ListedOr, LabelBy, LabelAfter, SameLabel, ArriveAsks, ArrivedAll}
 use Rattle.labels.specs.declared.both.Idle.{Idle}
-use Rattle.labels.specs.Both.{OrderAsks, BothAsk, Comes, ArrivedBoth}
+use Rattle.labels.specs.Both.{BothAsk, ArrivedBoth}
 use Rattle.labels.proofs.Labels.{known-below, label_kept, known_kept, set-in, set_apart, exits-in, exits-apart}
 
 -- what `arrive` asks of a set

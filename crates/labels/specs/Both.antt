@@ -1,5 +1,5 @@
 -- Labels of both sets become seeds: those of registers, with the source's, and those of FIFOs.
-use Rattle.std.specs.Prelude.{ℕ, ◌*◌, ◌≤◌, ◌<◌, ◌≡◌, ◌⊎◌, List, T, length, get_or}
+use Rattle.std.specs.Prelude.{ℕ, ◌*◌, ◌≤◌, ◌<◌, ◌≡◌, List, T, length, get_or}
 use Rattle.rules.specs.Rules.{register_code, fifo_code}
 use Rattle.layout.specs.Layout.{labels_at, exits_at, aside_at, active_at, next_at, listed_at, trail_at}
 use Rattle.lists.specs.Lists.{flag_of, Listed}

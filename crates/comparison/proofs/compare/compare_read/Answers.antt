@@ -25,8 +25,8 @@ returns-then-bad_list c =
     sym
     (refused-list (question_of c.args.plan.now c.args.width c.args.height c.args.tables c.args.read.list c.args.source c.args.sink) c.args.a.now c.args.b.now (passed (goal.at.returns-then-bad_list c).In-Passes).0
     (elim c.then-bad_list.branch [
-      then-bad_list-via-then-bad_list w ↦ rw (sym c.bad_list.ensures ∙ w.if-bad_list.true)
-    | then-bad_list-via-else-bad_list+then-bad_list-2 w ↦ simp (sym w.bad_list-else-bad_list.ensures ∙ w.if-bad_list-2.true, or-true)
+      | then-bad_list-via-then-bad_list w ↦ rw (sym c.bad_list.ensures ∙ w.if-bad_list.true)
+      | then-bad_list-via-else-bad_list+then-bad_list-2 w ↦ simp (sym w.bad_list-else-bad_list.ensures ∙ w.if-bad_list-2.true, or-true)
     ]))
 
 pub compare_ready-requires : goal.compare_ready-requires

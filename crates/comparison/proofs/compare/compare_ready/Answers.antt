@@ -13,9 +13,9 @@ pub returns-then-first : goal.returns-then-first
 returns-then-first c =
     let first = sym c.legal_ready-first.ensures ∙ c.if-first.true in
     elim c.else-second.branch [
-      else-second-via-then-second+else-ranks_before w ↦
-        known _ _ _ true true false first (sym c.legal_ready-second.ensures ∙ w.if-second.true) (sym w.ranks_before.ensures ∙ w.if-ranks_before.false)
-    | else-second-via-else-second w ↦ known _ _ _ true false _ first (sym c.legal_ready-second.ensures ∙ w.if-second.false) refl
+      | else-second-via-then-second+else-ranks_before w ↦
+          known _ _ _ true true false first (sym c.legal_ready-second.ensures ∙ w.if-second.true) (sym w.ranks_before.ensures ∙ w.if-ranks_before.false)
+      | else-second-via-else-second w ↦ known _ _ _ true false _ first (sym c.legal_ready-second.ensures ∙ w.if-second.false) refl
     ]
 
 pub returns-then-second-2 : goal.returns-then-second-2

@@ -1,4 +1,3 @@
-use Prim.Native.Nat.{◌-◌}
 use mathlib.Core.Path.{◌≡◌}
 use native.Mathlib.Omega.{arith}
 use Rattle.rules.specs.Ranking.{code_sevens, registers}
@@ -15,8 +14,8 @@ loop-i-preserved c =
     let so = c.loop-i.invariant.1 in (
       omega arith,
       elim c.if-words-i-eq7.branch [
-        then-words-i-eq7 w ↦ rw w.count-is (counted-register _ _ _ so (omega arith) w.if-words-i-eq7.true)
-      | else-words-i-eq7 w ↦ rw w.count-is (counted-other _ _ _ so (omega arith) w.if-words-i-eq7.false)
+        | then-words-i-eq7 w ↦ rw w.count-is (counted-register _ _ _ so (omega arith) w.if-words-i-eq7.true)
+        | else-words-i-eq7 w ↦ rw w.count-is (counted-other _ _ _ so (omega arith) w.if-words-i-eq7.false)
       ],
     )
 
