@@ -84,7 +84,7 @@ fn written_right(a: &Ours, p: &Problem, answer: Answer) -> bool {
 }
 
 /// Whether both agree on all of them. Of ours the written route is checked by the rules of documents 01 and 02 as well,
-/// that the same figures come with no visits lent, and that the scratch words used end as zeros.
+/// that the same figures come with no visits lent and by the search alone, and that the scratch words used end as zeros.
 pub fn run(count: u64, seed: u64) -> bool {
     let (mut a, mut b, mut c) = (Ours::new(), Plain::new(), Tuned::new());
     let mut x = Random::new(seed);
@@ -111,6 +111,13 @@ pub fn run(count: u64, seed: u64) -> bool {
         let no_room = a.no_room(&p);
         if no_room != ours::without_room(answer) {
             println!("plan {i} of seed {seed}: {answer:?}, with no visits lent {no_room:?}");
+            return false;
+        }
+        let search = a.search(&p);
+        if search != ours::searched(answer) || a.scratch[used] != 9 {
+            println!(
+                "plan {i} of seed {seed}: {answer:?}, by the search alone {search:?}, or a word not its own is written"
+            );
             return false;
         }
         match got {

@@ -26,6 +26,15 @@ pub fn version(p: &Problem) -> Problem {
     if joined(p) { at_period(p, 1) } else { p.clone() }
 }
 
+/// The least period with a route, where the period alone stands in the way of one.
+pub fn least_period(ours: &mut Ours, p: &Problem) -> u16 {
+    let p = at_period(p, 1);
+    ours.load(&p);
+    let [reason, period, ..] = ours.explain(&p).words;
+    assert_eq!(reason, PERIOD, "no period has a route, or T 1 has");
+    period as u16
+}
+
 /// Plans beside the table's.
 pub fn more() -> Vec<(&'static str, Problem)> {
     let mut light = plans::open(FULL, 250);

@@ -1,21 +1,22 @@
 //! Our route call against the published algorithm, on the same plans in the same run; the verdict against a plain judge.
 //!
-//!     route_bench                          the table, with the geometric means; then why there is no route, and the same
-//!                                          plans as nets between two clocks
-//!     route_bench growth                   how the times grow with cells, buffers and load limit
+//!     route_bench                          the table, with the geometric means; the ladders by their own search; then why
+//!                                          there is no route, and the same plans as nets between two clocks
+//!     route_bench growth                   how the times grow with cells, buffers and load limit; the ladder by side
 //!     route_bench agree [N] [SEED]         N small random plans on which all must agree
 //!     route_bench crossing                 nets between two clocks: several pairs of periods, two FIFOs
 //!     route_bench agree-crossing [N] [SEED]    N small random nets between two clocks on which all must agree
 //!     route_bench verdict                  the verdict on lists of up to a million visits, and a plain judge on the same
 //!     route_bench stack                    bytes of stack that a call takes
 //!     route_bench names                    the names of the table's plans
-//!     route_bench once PLAN SIDE [N]       N calls of a side (ours, noroom, peer, tuned, explain, exists), for a profiler
+//!     route_bench once PLAN SIDE [N]       N calls of a side (ours, noroom, search, peer, tuned, explain, exists), for a
+//!                                          profiler
 //!     route_bench judge LIST VISITS SIDE [N]    N verdicts of a side (ours, peer) on a list by its place, for a profiler
 //!     route_bench once-crossing PLAN PAIR FIFO SIDE [N]    N calls of a side (ours, noroom, peer, tuned) on a net between
 //!                                          two clocks, its pair by its place, its FIFO like or unlike
 //!
 //! The status is not 0 where the two differ in the number of registers or in the latency, a figure, a verdict or a reason
-//! is not what it must be, or a verdict, a reason or a net between two clocks takes too long.
+//! is not what it must be, or a verdict, a reason, a ladder or a net between two clocks takes too long.
 
 mod agree;
 mod agree_crossing;
@@ -24,18 +25,21 @@ mod explain;
 mod front;
 mod gals;
 mod judge;
+mod ladders;
 mod lists;
 mod nets;
 mod ours;
 mod peer;
 mod plans;
 mod problem;
+mod processor;
 mod queues;
 mod stack;
 mod verdict;
 mod walks;
 
 use judge::{Legal, judge};
+use ladders::Line;
 use ours::{Answer, Ours};
 use peer::{Plain, Tuned};
 use plans::{FULL, Size};
@@ -54,8 +58,17 @@ enum Group {
     Ordinary,
     Corridor,
     Hard,
-    /// the worst known
+    /// the worst known but the ladders
     Worst,
+    /// held to a limit of their own: `ladders`
+    Ladder,
+}
+
+impl Group {
+    /// Whether a net between two clocks is held to the limits of `crossing`.
+    fn held(self) -> bool {
+        !matches!(self, Group::Worst | Group::Ladder)
+    }
 }
 
 struct Plan {
@@ -64,7 +77,7 @@ struct Plan {
     problem: Problem,
 }
 
-/// The table's plans. The periods are chosen for the registers that the names say.
+/// The table's plans but the other ladders. The periods are chosen for the registers that the names say.
 fn table_plans() -> Vec<Plan> {
     use Group::*;
     let plan = |group, name, problem| Plan { group, name, problem };
@@ -81,10 +94,15 @@ fn table_plans() -> Vec<Plan> {
         plan(Hard, "comb, buffer sites at tips", plans::buffer_comb(FULL, 29000)),
         plan(Hard, "comb, taps at tips", plans::tap_comb(FULL, 600)),
         plan(Worst, "comb, every tip needed", plans::long_comb(FULL, 28000)),
-        plan(Worst, "ladder, L 8, five buffers", plans::ladder(32, 23856)),
+        plan(Ladder, "ladder, L 8, five buffers", plans::ladder(plans::LADDER_8, 32, 23856)),
         plan(Hard, "serpentine cut at the sink", plans::broken_serpentine(FULL, 100, true)),
         plan(Hard, "serpentine cut at the source", plans::broken_serpentine(FULL, 100, false)),
     ]
+}
+
+/// All plans of the table.
+fn all_plans() -> Vec<Plan> {
+    table_plans().into_iter().chain(ladders::more()).collect()
 }
 
 struct Sides {
@@ -107,9 +125,8 @@ impl Sides {
         Sides { ours: Ours::new(), peer: Plain::new(), tuned: Tuned::new() }
     }
 
-    /// Least times over several repetitions. None where the sides differ in the registers, our route is not legal or a
-    /// figure is wrong.
-    fn measure(&mut self, p: &Problem, budget: Duration) -> Option<Measured> {
+    /// Our answer. None where the sides differ in the registers, our route is not legal or a figure is wrong.
+    fn answer(&mut self, p: &Problem) -> Option<Answer> {
         self.ours.load(p);
         let answer = self.ours.route(p);
         let (got, peer, tuned) = (ours::registers(answer), self.peer.route(p), self.tuned.route(p));
@@ -130,8 +147,18 @@ impl Sides {
             println!("MISMATCH: {answer:?}, with no visits lent {no_room:?}");
             return None;
         }
+        let search = self.ours.search(p);
+        if search != ours::searched(answer) {
+            println!("MISMATCH: {answer:?}, by the search alone {search:?}");
+            return None;
+        }
+        Some(answer)
+    }
+
+    /// Least times over several repetitions. None where something is wrong.
+    fn measure(&mut self, p: &Problem, budget: Duration) -> Option<Measured> {
         let m = Measured {
-            answer,
+            answer: self.answer(p)?,
             ours: least(budget, || self.ours.route(black_box(p))),
             no_room: least(budget, || self.ours.no_room(black_box(p))),
             peer: least(budget, || self.peer.route(black_box(p))),
@@ -191,7 +218,7 @@ fn summary(ratios: &[f64]) -> (f64, f64) {
 
 fn table(budget: Duration) -> bool {
     let mut sides = Sides::new();
-    let plans = table_plans();
+    let plans = all_plans();
     let mut measured = Vec::new();
     for (i, plan) in plans.iter().enumerate() {
         eprintln!("plan {} of {}: {}", i + 1, plans.len(), plan.name);
@@ -221,8 +248,11 @@ fn table(budget: Duration) -> bool {
     let ratios: Vec<f64> = routed.map(|(_, m)| m.ratio_no_room()).collect();
     let (mean, most) = summary(&ratios);
     println!("no room / ours, {} plans with a route: geometric mean {mean:.2}, largest {most:.2}", ratios.len());
+    let ladders = measured.iter().filter(|(p, _)| p.group == Group::Ladder);
+    let lines = ladders.map(|(p, m)| Line::of(p.name, &p.problem, m.answer.steps, &mut sides.ours, budget));
+    let ladders = ladders::report(&lines.collect::<Vec<_>>());
     let why = explain::run(&plans.iter().map(|p| (p.name, &p.problem)).collect::<Vec<_>>(), Duration::from_millis(400));
-    crossing::run(plans, false, budget) && why
+    crossing::run(table_plans(), false, budget) && why && ladders
 }
 
 type Shape = (&'static str, fn(Size) -> Problem);
@@ -258,13 +288,13 @@ fn growth(budget: Duration) -> bool {
             println!("| {name} | {} | {} | {} | {}", s.side, s.buffers, s.limit, m.columns());
         }
     }
-    true
+    ladders::growth(&mut sides, budget)
 }
 
 /// Calls of one side on one plan of the table, for a profiler. explain: why there is no route, on its version without one
 /// or on one of the plans beside the table; exists: the same question on the plan as it is, where a route exists.
 fn once(name: &str, side: &str, count: u64) -> bool {
-    let mut all = table_plans().into_iter().map(|p| (p.name, p.problem)).collect::<Vec<_>>();
+    let mut all = all_plans().into_iter().map(|p| (p.name, p.problem)).collect::<Vec<_>>();
     if side == "explain" {
         all.iter_mut().for_each(|(_, p)| *p = explain::version(p));
         all.extend(explain::more());
@@ -287,6 +317,7 @@ fn once(name: &str, side: &str, count: u64) -> bool {
             "peer" => drop(black_box(sides.peer.route(p))),
             "tuned" => drop(black_box(sides.tuned.route(p))),
             "noroom" => drop(black_box(sides.ours.no_room(p))),
+            "search" => drop(black_box(sides.ours.search(p))),
             _ => drop(black_box(sides.ours.route(p))),
         }
     }
@@ -294,7 +325,7 @@ fn once(name: &str, side: &str, count: u64) -> bool {
 }
 
 fn names() -> bool {
-    table_plans().iter().for_each(|p| println!("{}", p.name));
+    all_plans().iter().for_each(|p| println!("{}", p.name));
     true
 }
 

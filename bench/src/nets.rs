@@ -1,5 +1,6 @@
-//! The nets between two clocks of the benchmark: the table's plans with pairs of periods and FIFOs.
+//! The nets between two clocks of the benchmark: the table's plans with pairs of periods and FIFOs; ladders with one tap.
 
+use crate::plans::{self, LADDER_8};
 use crate::problem::{BLOCKED, Crossing, Problem, Register, TAP};
 use crate::{Group, Plan};
 
@@ -21,6 +22,9 @@ pub const PAIRS: [Pair; 4] = [
 
 /// The pair of the plain table: as many latencies as can be, and the side that is searched first has the longer spans.
 const ALONE: usize = 3;
+
+/// The pair of a plan with one tap: the long span is as tight as the plan's own period makes it, on either side.
+const ONE_TAP: usize = 0;
 
 /// A greater period without a common divisor, about half as much again.
 fn co_prime(t: u16) -> u16 {
@@ -75,13 +79,33 @@ pub fn plans(mut table: Vec<Plan>) -> Vec<Plan> {
         problem.marks.iter_mut().filter(|m| **m & BLOCKED == 0).for_each(|m| *m |= TAP);
         table.insert(at + 1, Plan { group: table[at].group, name, problem });
     }
+    table.extend(one_tap());
     table
 }
 
-/// The nets of a plan: all pairs and both FIFOs, or one alone. The worst plans, which may take seconds, have one.
+/// The ladder with L 8 and one tap, next to the sink or to the source: the span before the FIFO or the one after it is the
+/// whole ladder, at the least periods with a route, and 2 % above.
+fn one_tap() -> Vec<Plan> {
+    let ladder = |name, near: fn(&Problem) -> usize, period| {
+        let mut problem = plans::ladder(LADDER_8, 32, period);
+        let cell = near(&problem) - 1;
+        problem.marks[cell] |= TAP;
+        Plan { group: Group::Ladder, name, problem }
+    };
+    vec![
+        ladder("ladder before the FIFO", |p| p.sink, 23856),
+        ladder("ladder before the FIFO, T 2 % above", |p| p.sink, 24333),
+        ladder("ladder after the FIFO", |p| p.source, 23856),
+        ladder("ladder after the FIFO, T 2 % above", |p| p.source, 24333),
+    ]
+}
+
+/// The nets of a plan: all pairs and both FIFOs, or one alone. The worst plans and the ladders, which may take seconds,
+/// have one.
 pub fn nets(plan: &Plan, all: bool) -> Vec<Net<'_>> {
-    if !all || plan.group == Group::Worst {
-        return vec![Net::new(plan, PAIRS[ALONE], true)];
+    if !all || !plan.group.held() {
+        let taps = plan.problem.marks.iter().filter(|m| **m & TAP != 0).count();
+        return vec![Net::new(plan, PAIRS[if taps == 1 { ONE_TAP } else { ALONE }], true)];
     }
     [true, false].into_iter().flat_map(|like| PAIRS.map(|pair| Net::new(plan, pair, like))).collect()
 }

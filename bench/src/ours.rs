@@ -1,5 +1,5 @@
-//! The proved route calls, verdict and reasons: `bench_entry`, `bench_crossing`, `bench_judge` and `bench_explain` of
-//! crates/bench_entry, linked from target/staticlib/libbench_entry.a.
+//! The proved route calls, search, verdict and reasons: `bench_entry`, `bench_crossing`, `bench_search`, `bench_judge` and
+//! `bench_explain` of crates/bench_entry, linked from target/staticlib/libbench_entry.a.
 
 use crate::problem::{Crossing, Problem};
 
@@ -41,6 +41,23 @@ unsafe extern "C" {
         scratch_len: usize,
         visits: *mut u16,
         visits_len: usize,
+        figures: *mut u32,
+        figures_len: usize,
+    ) -> u16;
+
+    fn bench_search(
+        plan: *const u8,
+        plan_len: usize,
+        width: u16,
+        height: u16,
+        tables: *const u16,
+        tables_len: usize,
+        buffers: *const u16,
+        buffers_len: usize,
+        source: u16,
+        sink: u16,
+        scratch: *mut u16,
+        scratch_len: usize,
         figures: *mut u32,
         figures_len: usize,
     ) -> u16;
@@ -175,6 +192,31 @@ impl Ours {
         &self.visits[..2 * (steps as usize + 1)]
     }
 
+    /// By the search alone, no route made: registers and steps, the other figures 0. It leaves the scratch words as it
+    /// has used them.
+    pub fn search(&mut self, p: &Problem) -> Answer {
+        let mut figures = [9u32; 5];
+        let number = unsafe {
+            bench_search(
+                p.marks.as_ptr(),
+                p.marks.len(),
+                p.width as u16,
+                p.height as u16,
+                self.tables.as_ptr(),
+                self.tables.len(),
+                self.buffers.as_ptr(),
+                self.buffers.len(),
+                p.source as u16,
+                p.sink as u16,
+                self.scratch.as_mut_ptr(),
+                self.scratch.len(),
+                figures.as_mut_ptr(),
+                figures.len(),
+            )
+        };
+        answer(number, figures)
+    }
+
     /// The verdict on a list.
     pub fn judge(&self, p: &Problem, list: &[u16]) -> Found {
         let mut words = [9u64; 5];
@@ -245,7 +287,7 @@ impl Ours {
                 figures.len(),
             )
         };
-        Answer { number, registers: figures[0], steps: figures[1], latency: figures[2], slack: figures[4] }
+        answer(number, figures)
     }
 
     fn call_crossing(&mut self, p: &Problem, room: usize) -> Crossed {
@@ -277,6 +319,11 @@ impl Ours {
     }
 }
 
+/// The answer that an entry has told in five words.
+fn answer(number: u16, [registers, steps, latency, _, slack]: [u32; 5]) -> Answer {
+    Answer { number, registers, steps, latency, slack }
+}
+
 /// The registers, or none; any other refusal is a fault of the benchmark.
 pub fn registers(a: Answer) -> Option<u32> {
     match a.number {
@@ -303,6 +350,11 @@ fn number_without_room(number: u16) -> u16 {
 /// The same answer where no visits are lent.
 pub fn without_room(a: Answer) -> Answer {
     Answer { number: number_without_room(a.number), ..a }
+}
+
+/// What the search alone tells of it.
+pub fn searched(a: Answer) -> Answer {
+    Answer { latency: 0, slack: 0, ..a }
 }
 
 pub fn crossing_without_room(a: Crossed) -> Crossed {

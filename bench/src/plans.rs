@@ -163,10 +163,25 @@ pub fn long_comb(size: Size, period: u16) -> Problem {
     p
 }
 
+/// What the ladders differ in.
+#[derive(Clone, Copy)]
+pub struct Ladder {
+    /// of load, and what a step down weighs
+    pub limit: u16,
+    /// the register's resistance
+    pub register: u16,
+    /// the load of the buffer without resistance
+    pub strongest: u16,
+}
+
+pub const LADDER_16: Ladder = Ladder { limit: 16, register: 0, strongest: 8 };
+pub const LADDER_8: Ladder = Ladder { limit: 8, register: 16, strongest: 7 };
+pub const LADDER_63: Ladder = Ladder { limit: 63, ..LADDER_8 };
+
 /// Pairs of columns: buffer sites on the left, blocked cells on the right, rungs between them, one way on to the next pair,
 /// at the bottom and at the top in turn. Each step down a column weighs as much as the load limit, so that a buffer of no
 /// load must stand before it, and each chain of buffers that is two steps longer is a little cheaper.
-pub fn ladder(side: usize, period: u16) -> Problem {
+pub fn ladder(of: Ladder, side: usize, period: u16) -> Problem {
     let end = |pair: usize| if pair % 2 == 0 { 0 } else { side - 1 };
     let marks = (0..side * side)
         .map(|cell| {
@@ -180,11 +195,11 @@ pub fn ladder(side: usize, period: u16) -> Problem {
         })
         .collect();
     let source = end((side - 1) / 2) * side + side - 1;
-    let mut p = problem(Size { side, buffers: 6, limit: 8 }, period, marks, source, (side - 1) * side + 1);
-    p.register = Register { r: 16, k: 0, c: 8, setup: 0 };
+    let mut p = problem(Size { side, buffers: 6, limit: of.limit }, period, marks, source, (side - 1) * side + 1);
+    p.register = Register { r: of.register, k: 0, c: 8, setup: 0 };
     p.horizontal = Wire { r: 0, c: 0 };
-    p.vertical = Wire { r: 0, c: 8 };
-    p.buffers = [(0, 7), (1, 4), (3, 2), (7, 1), (15, 0)].map(|(r, c)| Buffer { r, k: 0, c }).to_vec();
+    p.vertical = Wire { r: 0, c: of.limit };
+    p.buffers = [(0, of.strongest), (1, 4), (3, 2), (7, 1), (15, 0)].map(|(r, c)| Buffer { r, k: 0, c }).to_vec();
     p
 }
 

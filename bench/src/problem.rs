@@ -60,6 +60,19 @@ impl Problem {
         self.marks[cell] & (TAP | BLOCKED) == TAP
     }
 
+    /// The same with all wires of the sink cut.
+    pub fn sink_walled_off(&self) -> Problem {
+        let mut p = self.clone();
+        let marks = [CUT_BELOW, CUT_RIGHT, CUT_RIGHT, CUT_BELOW];
+        for (joined, mark) in self.neighbours(self.sink).into_iter().zip(marks) {
+            // the mark stands at the left or upper cell of the wire
+            if let Some(cell) = joined {
+                p.marks[cell.min(self.sink)] |= mark;
+            }
+        }
+        p
+    }
+
     /// The neighbours of a cell over uncut wires: up, left, right, down.
     pub fn neighbours(&self, cell: usize) -> [Option<usize>; 4] {
         let (w, row, column) = (self.width, cell / self.width, cell % self.width);

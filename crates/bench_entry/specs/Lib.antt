@@ -3,3 +3,4 @@ pub mod Effect
 pub mod Judged
 pub mod Explained
 pub mod Crossed
+pub mod Searched

@@ -1,4 +1,4 @@
-// The benchmark's own entries to the route calls of one clock and of two, to the verdict and to the reasons, on numbers and lent words; not offered to anyone else.
+// The benchmark's own entries to the route calls of one clock and of two, to the search without a route, to the verdict and to the reasons, on numbers and lent words; not offered to anyone else.
 // Each has the whole promise of its call. That the areas lent are as long as said and lie apart is the caller's duty.
 #![tactic(auto)]
 
@@ -15,10 +15,12 @@ use router::route_with;
 mod crossing;
 mod explain;
 mod judge;
+mod least;
 
 pub use crossing::bench_crossing;
 pub use explain::bench_explain;
 pub use judge::bench_judge;
+pub use least::bench_search;
 
 // The best route. Returns document 01's number, 0 to 8. `tables` holds eleven words: register R K C setup, horizontal R C,
 // vertical R C, T, skew, L. `buffers` holds R K C of each. `figures` gets registers, steps, latency, the fault of refusal 4 and the spare half-ticks.
