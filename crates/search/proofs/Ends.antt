@@ -8,7 +8,7 @@ use lib.ListN.{length, get_or}
 use Rattle.rules.specs.Rules.{Rules, fifo_code}
 use Rattle.budget.specs.Done.{After}
 use Rattle.plan.proofs.Truth.{split}
-use Rattle.layout.specs.Layout.{labels_at, exits_at, trail_at}
+use Rattle.layout.specs.Layout.{trail_at}
 use Rattle.labels.specs.Labels.{order_of, LabelBy}
 use Rattle.labels.specs.declared.both.Idle.{Idle}
 use Rattle.labels.specs.Both.{Comes, ArrivedBoth}

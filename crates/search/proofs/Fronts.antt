@@ -9,9 +9,9 @@ use lib.ListN.{length, get_or}
 use Rattle.rules.specs.Rules.{Rules, register_code, fifo_code, is_closing, side_after}
 use Rattle.rules.specs.Legal.{may_stand}
 use Rattle.plan.proofs.Truth.{split}
-use Rattle.rules.proofs.View.{closing-codes, register-closing, fifo-closing, side_same, side-fifo}
+use Rattle.rules.proofs.View.{register-closing, fifo-closing, side_same, side-fifo}
 use Rattle.budget.specs.Table.{Represents}
-use Rattle.budget.specs.Done.{Open, After, Labels, Covers, Labelled, Lawful}
+use Rattle.budget.specs.Done.{Open, After, Labels, Covers, Lawful}
 use Rattle.budget.specs.Search.{Searching, Relabelled}
 use Rattle.budget.specs.Colours.{InStep}
 use Rattle.budget.proofs.Done.{none_before, not-after-trans}
@@ -19,7 +19,7 @@ use Rattle.budget.proofs.Search.{same-table, next-table}
 use Rattle.budget.proofs.Turns.{search-start, layer-turn}
 use Rattle.budget.proofs.HandOver.{Watched, watch-start, watch-layer}
 use Rattle.budget.proofs.Colours.{label-in-step}
-use Rattle.layout.specs.Layout.{arrival_at, labels_at, exits_at, aside_at, weight_high, order_in, label_words, active_at, listed_at, seeds_at, trail_at}
+use Rattle.layout.specs.Layout.{arrival_at, labels_at, exits_at, aside_at, weight_high, label_words, active_at, listed_at, seeds_at, trail_at}
 use Rattle.lists.specs.Lists.{flag_of}
 use Rattle.lists.proofs.Lists.{listed_kept, listed-count}
 use Rattle.rows.specs.Words.{Kept, KeptFrom}
@@ -33,12 +33,11 @@ use Rattle.labels.specs.Labels.{known_of, weight_of, steps_of, weight_word, labe
 use Rattle.labels.specs.Additions.{LabelsAdded}
 use Rattle.labels.specs.declared.both.Idle.{Idle}
 use Rattle.labels.specs.Idle.{IdleRight}
-use Rattle.labels.specs.Both.{BothAsk, Comes, ArrivedBoth}
-use Rattle.labels.proofs.Labels.{LabelsKept, known-below, by-kept, ordered-none, ordered-count, ordered-kept, word-unknown, unknown-not, labels-register, labels-fifo, labels-renewed, labelled-kept, fifos-kept}
+use Rattle.labels.specs.Both.{BothAsk, ArrivedBoth}
+use Rattle.labels.proofs.Labels.{known-below, by-kept, ordered-none, ordered-count, ordered-kept, word-unknown, unknown-not, labels-register, labels-fifo, labels-renewed, labelled-kept, fifos-kept}
 use Rattle.labels.proofs.Additions.{labels-relabelled, labels-last}
-use Rattle.labels.proofs.Seeds.{order_same}
 use Rattle.labels.proofs.Arriving.{coloured-arrived, active-kept, active-arrived, cleared-table, cleared-seed, cleared-active}
-use Rattle.search.specs.Front.{Queued, Exits, Watching, Standing, Waiting, Front}
+use Rattle.search.specs.Front.{Queued, Watching, Standing, Waiting, Front}
 use Rattle.search.specs.Search.{Blank, SideAsks, Sourced}
 use Rattle.search.specs.Ask.{WatchDone}
 use Rattle.search.proofs.Queue.{queue-jump, queue-kept, late-kept, queue-added, queue-arrived, late-arrived, arrives-now}

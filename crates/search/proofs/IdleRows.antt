@@ -5,7 +5,6 @@ use mathlib.Core.Bool.{Bool, true, false, cond}
 use mathlib.Core.List.{List}
 use native.Mathlib.Omega.{arith}
 use borrow.Author.Tests.{le-leb}
-use lib.Dec.{T}
 use lib.ListN.{get_or}
 use Rattle.timing.specs.declared.elements.Driver.{Driver}
 use Rattle.timing.specs.Formulas.{wire_load, gate_delay, register_driver}
@@ -25,7 +24,7 @@ use Rattle.problem.specs.Problem.{plan_for}
 use Rattle.table.specs.Problem.{net_rules}
 use Rattle.labels.specs.declared.both.Idle.{Idle}
 use Rattle.labels.specs.Idle.{NoQuicker, IdleRight}
-use Rattle.search.specs.Idle.{NoLess, IdleFrom}
+use Rattle.search.specs.Idle.{IdleFrom}
 
 gate-cost : (g : Driver) (limit l : ℕ) → l ≤ limit → gate_cost g limit l ≡ gate_delay g l
 unfolding gate_cost

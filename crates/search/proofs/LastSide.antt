@@ -8,7 +8,7 @@ use Rattle.rules.specs.Rules.{Rules, fifo_code}
 use Rattle.budget.specs.Done.{Labels, After, Covers}
 use Rattle.budget.proofs.HandOver.{no-exits}
 use Rattle.layout.specs.Layout.{exits_at, aside_at}
-use Rattle.labels.specs.Labels.{no_labels, labels_for}
+use Rattle.labels.specs.Labels.{no_labels}
 use Rattle.labels.proofs.Labels.{labels-no-fifo}
 use Rattle.search.specs.Search.{SideAsks}
 

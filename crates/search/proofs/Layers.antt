@@ -1,18 +1,17 @@
 -- A layer of the search on the scratch words: the sink's least figures, the next label after a quiet layer, or the end.
 use Prim.Native.Nat.{ℕ, suc, ◌+◌, ◌*◌, ◌≤◌, ◌<◌}
 use mathlib.Core.Path.{◌≡◌, refl, sym, subst, ◌∙◌}
-use mathlib.Core.Bool.{false}
 use mathlib.Core.Logic.{◌⊎◌, inl, inr}
 use mathlib.Core.List.{List}
 use native.Mathlib.Omega.{arith}
-use lib.Dec.{T, T_not, not_T}
+use lib.Dec.{T, not_T}
 use lib.ListN.{get_or}
 use Rattle.rules.specs.Rules.{Rules, register_code, fifo_code, is_closing}
 use Rattle.rules.proofs.View.{closing-codes, register-closing, fifo-closing}
 use Rattle.plan.proofs.Truth.{split, is_false}
 use Rattle.budget.specs.Done.{NotAfter, Done, Open, Least, After, Labels, Covers, Labelled, Lawful, seed_at}
-use Rattle.budget.specs.Search.{FromSink, Searching, Next, IdleUntil, AllSeeds}
-use Rattle.budget.proofs.Done.{not-after-trans, after-before}
+use Rattle.budget.specs.Search.{Searching, Next, IdleUntil, AllSeeds}
+use Rattle.budget.proofs.Done.{not-after-trans}
 use Rattle.budget.proofs.Active as pushes
 use Rattle.budget.proofs.Search.{same-table}
 use Rattle.budget.proofs.Turns.{layer-least, jump-turn, all-turn, all-labels}
@@ -27,7 +26,7 @@ use Rattle.table.specs.Layer.{Grew, Layered}
 use Rattle.table.proofs.Views.{budget-outside, seeds-kept}
 use Rattle.table.proofs.Colours.{coloured-none}
 use Rattle.labels.specs.Labels.{known_of, weight_of, steps_of, labels_of, labels_for, order_of, LabelBy, LabelAfter}
-use Rattle.labels.proofs.Labels.{LabelsKept, by-kept, covers_kept, ordered-kept, labelled-kept, labels-register, labels-fifo, labels-no-fifo, label-code}
+use Rattle.labels.proofs.Labels.{by-kept, covers_kept, ordered-kept, labelled-kept, labels-register, labels-fifo, labels-no-fifo, label-code}
 use Rattle.labels.proofs.Seeds.{layer-seeds}
 use Rattle.search.specs.Front.{total, HeadFrom, Queued, Exits, Watching, Standing, Waiting, Front}
 use Rattle.search.specs.Turn.{Reaching, Ended}

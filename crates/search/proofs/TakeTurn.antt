@@ -6,17 +6,16 @@ use mathlib.Core.List.{List}
 use native.Mathlib.Omega.{arith}
 use native.Mathlib.Numerals.{add-one}
 use lib.Dec.{T}
-use lib.ListN.{get_or}
 use Rattle.rules.specs.Rules.{Rules, register_code}
 use Rattle.budget.specs.Done.{Lawful}
 use Rattle.budget.proofs.Done.{not-after-refl, not-after-trans, after-before}
-use Rattle.layout.specs.Layout.{labels_at, exits_at, aside_at, trail_at}
+use Rattle.layout.specs.Layout.{labels_at, exits_at, trail_at}
 use Rattle.rows.specs.Words.{KeptFrom}
 use Rattle.table.specs.Problem.{budget_of}
 use Rattle.trail.specs.Trail.{no_trail}
 use Rattle.table.specs.declared.pushes.Grown.{Grown}
 use Rattle.table.specs.Layer.{Layered}
-use Rattle.labels.specs.Labels.{known_of, weight_of, steps_of, order_of, LabelBy, Ordered}
+use Rattle.labels.specs.Labels.{known_of, order_of, LabelBy, Ordered}
 use Rattle.labels.specs.Additions.{LabelsAdded}
 use Rattle.search.specs.declared.turns.Progress.{Progress}
 use Rattle.search.specs.declared.turns.Turn.{Turn}

@@ -1,5 +1,5 @@
 -- What the functions of a turn ask, and what the smaller ones leave.
-use Rattle.std.specs.Prelude.{ℕ, ◌+◌, ◌*◌, ◌≤◌, ◌<◌, ◌≡◌, Bool, true, false, List, T, length, get_or}
+use Rattle.std.specs.Prelude.{ℕ, ◌*◌, ◌≤◌, ◌<◌, ◌≡◌, Bool, true, false, List, T, length, get_or}
 use Rattle.timing.specs.Formulas.{register_load, setup_delay}
 use Rattle.rules.specs.Rules.{Rules, fifo_code}
 use Rattle.costs.specs.Costs.{CostsOf}
