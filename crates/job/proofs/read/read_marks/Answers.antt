@@ -6,7 +6,7 @@ use Rattle.job.proofs.Stages.{run-told, run-bad, marks-refused, marks-more, mark
 use Rattle.job.proofs.read.read_marks.Goals as goal
 
 pub copy_marks-requires : goal.copy_marks-requires
-copy_marks-requires c = record { n_in_bounds = (omega arith, omega arith); by_index = marks-small _ _ _ _ _ (run-told _ _ _ _ _ c.read_series-marks.ensures c.in-Read.is); }
+copy_marks-requires c = record { n_in_bounds = (omega arith, omega arith); by_index = marks-small _ _ _ _ _ (run-told _ _ _ _ _ c.read_series-marks.ensures c.in-Read.is) }
 
 pub returns-in-Refused : goal.returns-in-Refused
 returns-in-Refused c = marks-refused _ _ [] _ _ _ _ (run-bad _ _ _ _ _ c.read_series-marks.ensures c.in-Refused.is)
