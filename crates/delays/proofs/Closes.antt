@@ -26,3 +26,8 @@ module _ (n : ℕ) (words : List ℕ) (bound : ℕ) where
       below_more (λ c. bound < closes_of n words c → closes_of n words m ≤ closes_of n words c) m (λ c k a. omega (arith, near.0 c k a)) (λ a. omega arith),
       inr (after, record { cell = m; inside = h; is = refl }),
     )
+
+    -- the cell is looked at
+    pub nearest-next : m < n → (next : ℕ) → ((bound < closes_of n words m) × ((closes_of n words m < close) × (next ≡ closes_of n words m))) ⊎ ((bound < closes_of n words m → close ≤ closes_of n words m) × (next ≡ close)) → Nearest n words bound (m + 1) next
+    nearest-next h next (inl w) = rw w.1.1 (nearest-falls h w.0 w.1.0)
+    nearest-next h next (inr w) = rw w.1 (nearest-stays w.0)

@@ -1,13 +1,13 @@
+use Rattle.std.proofs.lemmas.Grind.{common_steps}
 use mathlib.Core.Path.{◌≡◌}
 use mathlib.Core.Bool.{false}
-use mathlib.Core.Logic.{inl, inr}
 use native.Mathlib.Omega.{arith}
 use Rattle.plan.proofs.Truth.{of-true}
 use Rattle.queue.specs.Queue.{Slot}
 use Rattle.queue.proofs.Queue.{queue-slot}
-use Rattle.delays.proofs.Idles.{idle-at, none_more}
+use Rattle.delays.proofs.Idles.{none-next}
 use Rattle.delays.proofs.none_before.Goals as goal
-use Rattle.delays.proofs.none_before.Goals.{In-loop-i, then-delay-close+else-state-eq0+else-delay-scratch, else-delay-close}
+use Rattle.delays.proofs.none_before.Goals.{In-loop-i}
 
 -- the place that is looked at
 slot : (c : In-loop-i) → let a = c.args in Slot a.n a.scratch.now c.loop-i.i
@@ -51,8 +51,7 @@ loop-i-preserved c =
     let loop = c.loop-i in
     let a = c.args in (
       omega arith,
-      none_more a.n a.scratch.now loop.i a.close loop.invariant.1
-          (elim c.if-delay-close.branch [ then-delay-close+else-state-eq0+else-delay-scratch w ↦ inr (idle-at _ _ w.if-state-eq0.false (omega arith)) | else-delay-close w ↦ inl (omega arith) ]),
+      none-next a.n a.scratch.now loop.i a.close loop.invariant.1 (grind (arith, common_steps)),
     )
 
 pub returns : goal.returns

@@ -1,8 +1,9 @@
+use Rattle.std.proofs.lemmas.Grind.{common_steps}
 use Prim.Native.Nat.{ℕ, ◌+◌, ◌≤◌, ◌<◌}
 use mathlib.Core.Path.{◌≡◌, refl}
 use mathlib.Core.Bool.{true}
 use mathlib.Core.List.{List}
-use mathlib.Core.Logic.{inl, inr}
+use mathlib.Core.Logic.{◌⊎◌, inl, inr}
 use native.Mathlib.Omega.{arith}
 use lib.ListN.{length, get_or}
 use Rattle.timing.specs.declared.elements.Elements.{Elements}
@@ -17,7 +18,6 @@ use Rattle.spans.proofs.Eases.{ground-space, limit-row}
 use Rattle.costs.proofs.Checked.{buffer-driver-fits}
 use Rattle.spans.proofs.Buffers.{driven_by, Driven, driven-none, driven-ground, driven-past, driven-more}
 use Rattle.spans.proofs.arrivals.ease_buffers.Goals as goal
-use Rattle.spans.proofs.arrivals.ease_buffers.Goals.{then-own-limit+then-after-le-LATEST, then-own-limit+else-after-le-LATEST, else-own-limit}
 
 pub loop-i-init : goal.loop-i-init
 loop-i-init c = (omega arith, λ p e asks takes. driven-none p _ _ _ _ _ _ _ asks)
@@ -54,6 +54,12 @@ module _ (p : Problem) (marks : List ℕ) (t : ℕ) (old : List ℕ) (count cell
   late : latest < after → Driven p marks t old count cell load delay asks words waiting (i + 1)
   late h = driven-past p marks t old count cell load delay asks words waiting i d (inr (rw (← is_after') h))
 
+  -- it is eased, or is too heavy or too late
+  one-more : i < e.count → (new : List ℕ) (next : ℕ) → ((own ≤ e.limit.0) × Eased (length marks) e.limit.0 cell own after words waiting new next) ⊎ (((e.limit.0 < own) ⊎ (latest < after)) × ((new ≡ words) × (next ≡ waiting))) → Driven p marks t old count cell load delay asks new next (i + 1)
+  one-more h new next (inl x) = more h x.0 new next x.1
+  one-more h new next (inr (inl x, same)) = rw (same.0, same.1) (heavy x)
+  one-more h new next (inr (inr x, same)) = rw (same.0, same.1) (late x)
+
 pub loop-i-preserved : goal.loop-i-preserved
 unfolding buffer_at buffer_of driver_of
 loop-i-preserved c =
@@ -66,11 +72,7 @@ loop-i-preserved c =
       omega (arith, c.loop-i-test.true),
       λ p same asks takes.
           let d = loop.invariant.1 p same asks takes in
-          elim c.if-own-limit.branch [
-            | then-own-limit+then-after-le-LATEST w ↦ rw (w.scratch-is, w.waiting-is) (more p _ _ _ _ _ _ _ asks takes e same loop.scratch loop.waiting loop.i d _ _ own after c.loop-i-test.true w.if-own-limit.true _ _ w.ease-waiting.ensures)
-            | then-own-limit+else-after-le-LATEST w ↦ rw (w.scratch-is, w.waiting-is) (late p _ _ _ _ _ _ _ asks takes e same loop.scratch loop.waiting loop.i d _ _ own after w.if-after-le-LATEST.false)
-            | else-own-limit w ↦ rw (w.scratch-is, w.waiting-is) (heavy p _ _ _ _ _ _ _ asks takes e same loop.scratch loop.waiting loop.i d _ _ own after w.if-own-limit.false)
-          ],
+          one-more p _ _ _ _ _ _ _ asks takes e same loop.scratch loop.waiting loop.i d _ _ own after c.loop-i-test.true c.if-own-limit.scratch c.if-own-limit.waiting (grind (arith, common_steps)),
     )
 
 pub shape_of-scratch : goal.shape_of-scratch
