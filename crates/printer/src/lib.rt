@@ -1,9 +1,11 @@
 // A job from an input, and the text of its answer on an output.
 #![tactic(auto)]
 
-ghost use Rattle.std.specs.Prelude.{◌≡◌, length};
+ghost use Rattle.std.specs.Prelude.{◌≡◌, ◌<◌, length, take, IfNone, OnOk};
+ghost use Rattle.std.specs.Io.KnownBytes.{Appends, Consumes, IsAtEnd};
 ghost use Rattle.io.specs.Counts.{IsPrefixLen};
 ghost use Rattle.job.specs.Job.{job_bytes};
+ghost use Rattle.printing.specs.Printed.{printed};
 
 use printing::print_job;
 use std::io::{Read, Result, Write};
@@ -22,13 +24,17 @@ const TEXT: usize = 12334;
 // Reads a job. The room has the bytes that decide what is printed, whatever follows them (printing/proofs/Decides: `printed-decided`).
 pub fn read_deciding<R: Read>(input: &mut R, space: &mut [u8]) -> Input
     requires { length space.old ≡ job_bytes }
-    ensures { IsPrefixLen result.bytes space.new }
+    ensures within { IsPrefixLen result.bytes space.new }
+    ensures bytes { Consumes (R.remaining input.old) (R.remaining input.new) (take result.bytes space.new) }
+    ensures end { IfNone result.failed (result.bytes < length space.new → IsAtEnd (R.remaining input.new)) }
 {
     read_input(input, space)
 }
 
 // Writes `printed` of the job's bytes (crates/printing).
-pub fn write_answer<W: Write>(out: &mut W, job: &[u8]) -> Result<()> {
+pub fn write_answer<W: Write>(out: &mut W, job: &[u8]) -> Result<()>
+    ensures { OnOk result (Appends (W.contents out.old) (W.contents out.new) (printed job.now)) }
+{
     let mut plan = [0u8; CELLS];
     let mut scratch = [0u16; SCRATCH];
     let mut visits = [0u16; VISITS];
