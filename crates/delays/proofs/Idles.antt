@@ -10,12 +10,12 @@ use Rattle.costs.specs.Costs.{row_words}
 use Rattle.queue.specs.Queue.{slot_of}
 use Rattle.delays.specs.Delays.{Idle, NoneBefore}
 
-idle-at : (words : List ℕ) (s : ℕ) → (s % row_words ≡ 0 → ⊥) → get_or words (s - 1) 0 ≤ get_or words s 0 → Idle words s
+pub idle-at : (words : List ℕ) (s : ℕ) → (s % row_words ≡ 0 → ⊥) → get_or words (s - 1) 0 ≤ get_or words s 0 → Idle words s
 idle-at words s some early =
     let e : s / row_words * row_words + (s % row_words - 1) ≡ s - 1 = omega arith in
     record { cell = s / row_words; load = s % row_words - 1; light = omega arith; is = omega arith; early = rw e early }
 
-none_more : (n : ℕ) (words : List ℕ) (count close : ℕ) → NoneBefore n words count close → (close ≤ get_or words (slot_of n words count) 0) ⊎ Idle words (slot_of n words count) → NoneBefore n words (count + 1) close
+pub none_more : (n : ℕ) (words : List ℕ) (count close : ℕ) → NoneBefore n words count close → (close ≤ get_or words (slot_of n words count) 0) ⊎ Idle words (slot_of n words count) → NoneBefore n words (count + 1) close
 none_more n words count close = below_more (λ i. (close ≤ get_or words (slot_of n words i) 0) ⊎ Idle words (slot_of n words i)) count
 
 -- the place is looked at

@@ -22,7 +22,7 @@ use Rattle.plan.proofs.Truth.{equal, decided}
 use Rattle.rules.proofs.Slack.{least-none}
 use Rattle.budget.specs.Table.{Table}
 use Rattle.budget.specs.Done.{Least, After, Labels, Covers, Labelled, Lawful}
-use Rattle.budget.specs.Emission.{after_load, after_delay, after_weight, FirstEnding, FirstViable, visit}
+use Rattle.budget.specs.Emission.{FirstEnding, FirstViable, visit}
 use Rattle.budget.proofs.Done.{done-steps}
 use Rattle.budget.proofs.Emission.{least-exact, first-goes-on, first-last, least-after, first_more, least-goes-on, viable-goes-on, closes-known}
 use Rattle.budget.proofs.Visit.{after-lighter}
@@ -30,9 +30,9 @@ use Rattle.budget.proofs.HandOver.{no-exits}
 use Rattle.rows.specs.Words.{Filled}
 use Rattle.rows.proofs.Words.{filled_none, filled_more, filled-as}
 use Rattle.table.specs.Problem.{budget_of}
-use Rattle.layout.specs.Layout.{labels_at, aside_at, order_in, label_words, cell_words}
-use Rattle.labels.specs.Labels.{no_labels, labels_of, labels_for, Ordered}
-use Rattle.labels.proofs.Labels.{LabelsKept, labelled-kept, covers_kept, covers-moved, ordered-kept, ordered-moved, labels-register, labels-no-fifo, label-code}
+use Rattle.layout.specs.Layout.{labels_at, aside_at, label_words, cell_words}
+use Rattle.labels.specs.Labels.{no_labels, labels_for}
+use Rattle.labels.proofs.Labels.{labelled-kept, covers_kept, covers-moved, ordered-kept, ordered-moved, labels-register, labels-no-fifo, label-code}
 use Rattle.search.specs.Turn.{Reaching}
 use Rattle.choice.specs.declared.State.{State}
 use Rattle.choice.specs.declared.Choice.{Choice}

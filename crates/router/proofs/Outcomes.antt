@@ -6,7 +6,7 @@ use mathlib.Core.List.{List}
 use lib.Dec.{leb}
 use lib.ListN.{length}
 use Rattle.rules.specs.Rules.{Rules}
-use Rattle.rules.specs.Ranking.{registers, steps, latency}
+use Rattle.rules.specs.Ranking.{steps, latency}
 use Rattle.rules.specs.Slack.{least_slack}
 use Rattle.best.specs.Best.{none, best}
 use Rattle.answers.specs.declared.answer.Figures.{Figures}

@@ -4,7 +4,6 @@ use mathlib.Core.Path.{◌≡◌}
 use mathlib.Core.List.{List}
 use native.Mathlib.Omega.{arith}
 use Rattle.rules.specs.Rules.{Rules}
-use Rattle.budget.specs.Search.{FromSink}
 use Rattle.search.specs.declared.loops.Reached.{Reached}
 use Rattle.search.specs.Turn.{Reaching, Ended}
 use Rattle.search.specs.Search.{SearchDone}

@@ -1,6 +1,6 @@
 -- The reference model of a session: document 01, "The ledger of a session". It is fed the opening plan and then the calls in their order; it sees no answer, no record, no journal and no later plan.
 -- It holds the opening plan and the standing moves. Here the list of moves has its last one first.
-use Rattle.std.specs.Prelude.{ℕ, ◌+◌, ◌*◌, ◌-◌, ◌/◌, ◌%◌, cond, List, [], ◌∷◌, ◌++◌, eqb, leb, length, get_or, set, replicate}
+use Rattle.std.specs.Prelude.{ℕ, ◌*◌, ◌-◌, ◌/◌, ◌%◌, cond, List, [], ◌∷◌, ◌++◌, eqb, leb, length, get_or, set, replicate}
 use Rattle.plan.specs.Plan.{Plan, cells}
 use Rattle.plan.specs.Check.{invalid_mark}
 use Rattle.session.specs.Journal.{journal_bytes, entry_bytes, depth_max}

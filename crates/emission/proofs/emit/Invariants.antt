@@ -1,5 +1,5 @@
 -- `emission::emit` meets its contract: the loop keeps `Emitting`, by proofs/Visits.
-use Prim.Native.Nat.{ℕ, ◌-◌}
+use Prim.Native.Nat.{ℕ}
 use mathlib.Core.Path.{◌≡◌}
 use mathlib.Core.List.{List}
 use lib.ListN.{length, set}

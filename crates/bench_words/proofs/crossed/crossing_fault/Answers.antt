@@ -1,9 +1,6 @@
 -- The refusal's fault, and 0 for every other answer.
 use mathlib.Core.Path.{sym, ap, ◌∙◌}
 use Rattle.bench_words.specs.Crossed.{crossing_answer_fault}
-use Rattle.bench_words.proofs.crossed.crossing_fault.Reads as reads
-use Rattle.bench_words.proofs.crossed.crossing_fault.Lts as lts
-use Rattle.bench_words.proofs.faults.refusal_fault.Reads as refusal-fault-reads
 use Rattle.bench_words.proofs.crossed.crossing_fault.Goals as goal
 
 pub returns-in-Refused : goal.returns-in-Refused

@@ -6,9 +6,6 @@ use mir.Facts.{to_z-of_z}
 use mir.Syntax.{w32}
 use Rattle.timing.specs.Slack.{magnitude}
 use Rattle.bench_words.proofs.Told.{crossed-stored}
-use Rattle.bench_words.proofs.crossed.write_crossed.Reads as reads
-use Rattle.bench_words.proofs.crossed.write_crossed.Lts as lts
-use Rattle.bench_words.proofs.crossed.crossing_fault.Reads as crossing-fault-reads
 use Rattle.bench_words.proofs.crossed.write_crossed.Goals as goal
 
 pub bounds-figures-4 : goal.bounds-figures-4

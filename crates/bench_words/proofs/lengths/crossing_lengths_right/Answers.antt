@@ -1,9 +1,6 @@
 -- The clocks' words, the results and the rest, one after the other.
 use borrow.Author.Tests.{eq-eqb, ne_eqb}
 use Rattle.bench_words.specs.Crossed.{crossing_lengths_right}
-use Rattle.bench_words.proofs.lengths.crossing_lengths_right.Reads as reads
-use Rattle.bench_words.proofs.lengths.crossing_lengths_right.Lts as lts
-use Rattle.bench_words.proofs.lengths.inputs_right.Reads as inputs-right-reads
 use Rattle.bench_words.proofs.lengths.crossing_lengths_right.Goals as goal
 
 pub returns-then-clocks-ne-CLOCK_NUMBERS : goal.returns-then-clocks-ne-CLOCK_NUMBERS

@@ -1,8 +1,6 @@
 -- Both tests, one after the other.
 use borrow.Author.Tests.{eq-eqb, ne_eqb}
 use Rattle.bench_words.specs.Words.{inputs_right}
-use Rattle.bench_words.proofs.lengths.inputs_right.Reads as reads
-use Rattle.bench_words.proofs.lengths.inputs_right.Lts as lts
 use Rattle.bench_words.proofs.lengths.inputs_right.Goals as goal
 
 pub returns-then-tables-ne-TABLE_NUMBERS : goal.returns-then-tables-ne-TABLE_NUMBERS
