@@ -1,16 +1,15 @@
 -- The effect of the search without the route, once its checks are known.
 use Prim.Native.Nat.{ℕ, ◌*◌, ◌≤◌}
-use mathlib.Core.Path.{◌≡◌, ◌∙◌, ap}
+use mathlib.Core.Path.{◌≡◌, ap}
 use mathlib.Core.List.{List, []}
 use lib.ListN.{length}
 use Rattle.answers.specs.declared.answer.Answer.{Answer}
 use Rattle.answers.specs.declared.answer.Refusal.{Refusal}
-use Rattle.best.specs.Best.{best}
 use Rattle.question.specs.Checked.{problem_asked}
-use Rattle.question.specs.Question.{Question, passes, fails, rules_asked, question_checks}
+use Rattle.question.specs.Question.{Question, passes, fails, question_checks}
 use Rattle.question.proofs.Checks.{cells-asked, rules-asked}
 use Rattle.router.specs.Route.{cell_words, checks}
-use Rattle.router.specs.Least.{least_of, Searched}
+use Rattle.router.specs.Least.{Searched}
 use Rattle.router.specs.declared.least.Least.{Least}
 use Rattle.router.proofs.Refusals.{all-passed}
 use Rattle.bench_entry.specs.Searched.{least_answer, searched_after, searched_of, WordsAfter, Searching}
