@@ -5,6 +5,7 @@ use Rattle.std.specs.Io.KnownBytes.{Consumes}
 use Rattle.std.proofs.KnownBytes.{Consumes-trans}
 use borrow.Rule.Slice.PartMut.{put_mid, post_of}
 use lib.Seq.{take-add, take-append-le}
+use Rattle.streams.proofs.Counted.{counted}
 use Rattle.streams.proofs.input.read_input.Goals as goal
 
 take_split : (a b : ℕ) (old new : List ℕ) → a ≤ b → take a new ≡ take a old → take a old ++ slice_range new a b ≡ take b new
@@ -27,3 +28,15 @@ loop-done-preserved-in-Ok g c =
     let part = slice_range-put_mid from room c.in-Ok.more c.loop-done.space c.read.new.buf within c.in-Ok.ensures.bound.0 in
     let joined = take_split from (from + c.in-Ok.more) c.loop-done.space after (omega arith) (take-put_mid_below _ _ _ _ _ (le_refl _) within) in
     (search rules, search rules, subst (Consumes _ _) (ap (λ l. take from c.loop-done.space ++ l) (sym part) ∙ joined) (Consumes-trans _ _ _ _ _ c.loop-done.invariant.2 c.in-Ok.ensures.bytes.0))
+
+pub returns-clause-within : goal.returns-clause-within
+returns-clause-within g c = counted _ _ (search rules)
+
+pub returns-then-more-eq0-clause-within : goal.returns-then-more-eq0-clause-within
+returns-then-more-eq0-clause-within g c = counted _ _ (search rules)
+
+pub returns-then-ne-clause-within : goal.returns-then-ne-clause-within
+returns-then-ne-clause-within g c = counted _ _ (search rules)
+
+pub returns-then-left-eq0-clause-within : goal.returns-then-left-eq0-clause-within
+returns-then-left-eq0-clause-within g c = counted _ _ (search rules)
