@@ -26,7 +26,7 @@
 //
 // A failed read or write ends the program with a line on standard error. A script whose read fails is not played.
 //
-// The calls are the covered functions below `planner`'s: a caller of those would be a walk too. `tests/calls` runs those.
+// The calls are the functions below `planner`'s; `tests/calls` runs `planner`'s own.
 #![tactic(auto)]
 
 mod calls;
