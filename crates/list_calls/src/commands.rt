@@ -1,4 +1,4 @@
-// The commands. The calls are the covered functions below `planner`'s judge, compare and better.
+// The commands. The calls are the functions below `planner`'s judge, compare and better.
 use crate::lines::{write_better, write_verdict};
 use crate::words::read_words;
 use comparison::{better_with, compare_with};
