@@ -16,7 +16,7 @@ use Rattle.timing.proofs.Checked.{wire-in, in-wire, buffer-in, in_buffer, regist
 use Rattle.answers.specs.declared.records.BufferRecord.{BufferRecord}
 use Rattle.answers.specs.declared.records.BufferList.{BufferList}
 use Rattle.answers.specs.declared.records.Tables.{Tables}
-use Rattle.answers.specs.declared.answer.Fault.{Fault}
+use Rattle.answers.specs.declared.refusal.Fault.{Fault}
 use Rattle.answers.specs.declared.tables.ElementFault.{ElementFault}
 use Rattle.answers.specs.declared.tables.ElementFault.TheVariants.{Nothing, At}
 use Rattle.answers.specs.declared.tables.BuffersRead.{BuffersRead}

@@ -13,7 +13,7 @@ use Rattle.timing.specs.Ranges.{buffers_max}
 use Rattle.timing.specs.Elements.{buffer_of}
 use Rattle.timing.specs.declared.elements.Buffer.{Buffer}
 use Rattle.answers.specs.declared.records.BufferList.{BufferList}
-use Rattle.answers.specs.declared.answer.Fault.{Fault}
+use Rattle.answers.specs.declared.refusal.Fault.{Fault}
 use Rattle.answers.specs.declared.tables.ElementFault.{ElementFault}
 use Rattle.answers.specs.Lists.{no_buffer}
 use Rattle.answers.specs.Tables.{buffer_ok, buffer_fault, buffers_fault, buffer_from, listed_buffer, six_places, no_buffers}

@@ -14,7 +14,7 @@ use Rattle.answers.specs.declared.records.RegisterRecord.{RegisterRecord}
 use Rattle.answers.specs.declared.records.BufferRecord.{BufferRecord}
 use Rattle.answers.specs.declared.records.Tables.{Tables}
 use Rattle.answers.specs.declared.records.BufferList.{BufferList}
-use Rattle.answers.specs.declared.answer.Fault.{Fault}
+use Rattle.answers.specs.declared.refusal.Fault.{Fault}
 use Rattle.answers.specs.declared.tables.ElementFault.{ElementFault}
 use Rattle.answers.specs.declared.tables.ElementFault.TheVariants.{Nothing, At}
 use Rattle.answers.specs.declared.tables.BuffersRead.{BuffersRead}

@@ -1,45 +1,16 @@
-// The answer of a route call. `refusal_number`, `answer_number` and `answer_figures` give document 01's numbers and figures.
-ghost use Rattle.std.specs.Prelude.{◌≡◌};
-ghost use Rattle.answers.specs.Numbers.{refusal_number, answer_number, answer_figures};
+// The answer of a route call, with one clock or two. `route_number` gives its number, `answer_figures` and `crossing_figures` its figures.
+ghost use Rattle.std.specs.Prelude.{◌≡◌, ℕ};
+ghost use Rattle.answers.specs.declared.answer.RouteAnswer.{RouteAnswer};
+ghost use Rattle.answers.specs.Numbers.{no_figures, no_crossing, answer_figures, crossing_figures, filled_words, crossed_words, route_number, FiguresLaws, figures-laws, crossing-laws};
 
-// Refusal 4: which number was at fault. Buffer holds the buffer's place, from 1.
-// With one clock T is `Period`; between two clocks `SourcePeriod` and `SinkPeriod` stand in its place, and `Fifo` after `Register`. `Skew` is document 02's, C-16.
-#[derive(Clone, Copy)]
-pub enum Fault {
-    // T
-    Period,
-    SourcePeriod,
-    SinkPeriod,
-    Skew,
-    // L
-    Limit,
-    Horizontal,
-    Vertical,
-    Register,
-    Fifo,
-    Count,
-    Buffer(u16),
-}
+use crate::refusal::{Numbered, Refusal};
 
-// The refusals that have no figures.
 #[derive(Clone, Copy)]
-pub enum Refusal {
-    Grid,
-    // plan length
-    Length,
-    // stray mark
-    Mark,
-    Element(Fault),
-    Ends,
-    // bench
-    Scratch,
-    NoRoute,
-    // a route list of odd length or under two visits
-    RouteList,
-    // neither of two lists is legal
-    NoneLegal,
-    // asked why there is no route, but there is one
-    RouteExists,
+pub enum RouteAnswer<F> {
+    Found(F),
+    // sheet: the visits need more words than were lent
+    NoRoom(F),
+    Refused(Refusal),
 }
 
 #[derive(Clone, Copy)]
@@ -51,59 +22,126 @@ pub struct Figures {
     pub slack: i32,
 }
 
+// Of a net between two clocks: document 02, C-15.
 #[derive(Clone, Copy)]
-pub enum Answer {
-    Found(Figures),
-    // sheet: the visits need more words than were lent
-    NoRoom(Figures),
-    Refused(Refusal),
+pub struct CrossingFigures {
+    // registers on the source's side of the FIFO; neither the FIFO nor an end is among them
+    pub source: u32,
+    // those on the sink's side
+    pub sink: u32,
+    pub steps: u32,
+    pub latency: u32,
+    // the smallest spare figure over the spans, each by its own period, in half-ticks
+    pub slack: i32,
 }
 
-impl Refusal {
-    // Document 01's number, 1 to 7, or document 02's, 17 to 19.
-    pub fn number(self) -> u16
-        ensures { result ≡ refusal_number self }
-    {
+pub type Answer = RouteAnswer<Figures>;
+
+pub type CrossingAnswer = RouteAnswer<CrossingFigures>;
+
+// Figures of routes of one kind: what is handed back for an answer, and the visit words that it fills, two a visit.
+pub trait RouteFigures: Copy {
+    ghost nothing: { Self };
+
+    ghost steps_of: { Self → ℕ };
+
+    ghost figures_of: { RouteAnswer Self → Self };
+
+    ghost words_of: { RouteAnswer Self → ℕ };
+
+    // All zeros.
+    fn none() -> Self
+        ensures { result ≡ nothing };
+
+    fn steps(self) -> u32
+        ensures { result ≡ steps_of self };
+
+    ghost laws: { FiguresLaws nothing steps_of figures_of words_of };
+}
+
+impl RouteFigures for Figures {
+    ghost nothing = { no_figures };
+
+    ghost steps_of = { λ f. f.steps };
+
+    ghost figures_of = { answer_figures };
+
+    ghost words_of = { filled_words };
+
+    fn none() -> Figures {
+        Figures {
+            registers: 0,
+            steps: 0,
+            latency: 0,
+            slack: 0,
+        }
+    }
+
+    fn steps(self) -> u32 {
+        self.steps
+    }
+
+    ghost laws = { figures-laws };
+}
+
+impl RouteFigures for CrossingFigures {
+    ghost nothing = { no_crossing };
+
+    ghost steps_of = { λ f. f.steps };
+
+    ghost figures_of = { crossing_figures };
+
+    ghost words_of = { crossed_words };
+
+    fn none() -> CrossingFigures {
+        CrossingFigures {
+            source: 0,
+            sink: 0,
+            steps: 0,
+            latency: 0,
+            slack: 0,
+        }
+    }
+
+    fn steps(self) -> u32 {
+        self.steps
+    }
+
+    ghost laws = { crossing-laws };
+}
+
+impl<F: Copy> Numbered for RouteAnswer<F> {
+    ghost number_of = { route_number };
+
+    fn number(self) -> u16 {
         match self {
-            Refusal::Grid => 1,
-            Refusal::Length => 2,
-            Refusal::Mark => 3,
-            Refusal::Element(_) => 4,
-            Refusal::Ends => 5,
-            Refusal::Scratch => 6,
-            Refusal::NoRoute => 7,
-            Refusal::RouteList => 17,
-            Refusal::NoneLegal => 18,
-            Refusal::RouteExists => 19,
+            RouteAnswer::Found(_) => 0,
+            RouteAnswer::NoRoom(_) => 8,
+            RouteAnswer::Refused(r) => r.number(),
         }
     }
 }
 
-impl Answer {
-    // Document 01's number, 0 to 8.
-    pub fn number(self) -> u16
-        ensures { result ≡ answer_number self }
-    {
-        match self {
-            Answer::Found(_) => 0,
-            Answer::NoRoom(_) => 8,
-            Answer::Refused(r) => r.number(),
-        }
-    }
-
+impl<F: RouteFigures> RouteAnswer<F> {
     // The figures handed back: zeros for every refusal but 8.
-    pub fn figures(self) -> Figures
-        ensures { result ≡ answer_figures self }
+    pub fn figures(self) -> F
+        ensures { result ≡ F.figures_of self }
     {
         match self {
-            Answer::Found(f) => f,
-            Answer::NoRoom(f) => f,
-            Answer::Refused(_) => Figures {
-                registers: 0,
-                steps: 0,
-                latency: 0,
-                slack: 0,
-            },
+            RouteAnswer::Found(f) => f,
+            RouteAnswer::NoRoom(f) => f,
+            RouteAnswer::Refused(_) => F::none(),
+        }
+    }
+
+    // The visit words that the answer fills: two a visit.
+    pub fn filled(self) -> usize
+        ensures { result ≡ F.words_of self }
+    {
+        match self {
+            RouteAnswer::Found(f) => 2 * (f.steps() as usize + 1),
+            RouteAnswer::NoRoom(_) => 0,
+            RouteAnswer::Refused(_) => 0,
         }
     }
 }

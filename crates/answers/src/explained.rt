@@ -1,8 +1,5 @@
-// The answer about a net that has no route: document 02, C-13. `explained_number` gives its number.
-ghost use Rattle.std.specs.Prelude.{◌≡◌};
-ghost use Rattle.answers.specs.Numbers.{explained_number};
-
-use crate::answer::Refusal;
+// The answer about a net that has no route: document 02, C-13.
+use crate::refusal::Refusal;
 
 // Why there is no route.
 #[derive(Clone, Copy)]
@@ -17,20 +14,4 @@ pub enum Reason {
     TooShort,
 }
 
-#[derive(Clone, Copy)]
-pub enum Explained {
-    Because(Reason),
-    Refused(Refusal),
-}
-
-impl Explained {
-    // 0 where a reason is given.
-    pub fn number(self) -> u16
-        ensures { result ≡ explained_number self }
-    {
-        match self {
-            Explained::Because(_) => 0,
-            Explained::Refused(r) => r.number(),
-        }
-    }
-}
+pub type Explained = Result<Reason, Refusal>;

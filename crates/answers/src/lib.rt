@@ -3,20 +3,20 @@
 #![tactic(auto)]
 
 mod answer;
-mod crossing;
 mod ends;
 mod explained;
 mod records;
+mod refusal;
 mod tables;
 mod verdicts;
 
-pub use answer::{Answer, Fault, Figures, Refusal};
-pub use crossing::{CrossingAnswer, CrossingFigures};
+pub use answer::{Answer, CrossingAnswer, CrossingFigures, Figures, RouteAnswer, RouteFigures};
 pub use ends::ends_fault;
 pub use explained::{Explained, Reason};
 pub use records::{BufferList, BufferRecord, Crossing, RegisterRecord, Tables, WireRecord};
+pub use refusal::{Fault, Numbered, Refusal};
 pub use tables::{
     BuffersRead, CrossingCheck, ElementFault, TablesCheck, check_crossing, check_tables,
     no_elements, read_list,
 };
-pub use verdicts::{Comparison, Verdict, VisitFault};
+pub use verdicts::{Comparison, Finding, Verdict, VisitFault, Which};

@@ -1,9 +1,5 @@
 // The answers about route lists from outside: the verdict on one list, and which of two is the better. Document 02, C-11.
-// `verdict_number` and `comparison_number` give their numbers.
-ghost use Rattle.std.specs.Prelude.{◌≡◌};
-ghost use Rattle.answers.specs.Numbers.{verdict_number, comparison_number};
-
-use crate::answer::Refusal;
+use crate::refusal::Refusal;
 
 // What is wrong with a visit, in the order of the tests.
 #[derive(Clone, Copy)]
@@ -20,45 +16,22 @@ pub enum VisitFault {
     Period(i32),
 }
 
+// What the tests say of a list that is not refused; an illegal one is answered, too.
 #[derive(Clone, Copy)]
-pub enum Verdict {
+pub enum Finding {
     // the smallest spare figure over the spans
     Accepted(i32),
     // the first visit at fault, from 0, and the fault there
     AtFault(usize, VisitFault),
-    Refused(Refusal),
 }
+
+pub type Verdict = Result<Finding, Refusal>;
 
 // Which of two lists is the better.
 #[derive(Clone, Copy)]
-pub enum Comparison {
+pub enum Which {
     First,
     Second,
-    Refused(Refusal),
 }
 
-impl Verdict {
-    // 0 for an illegal list too: it is answered, not refused.
-    pub fn number(self) -> u16
-        ensures { result ≡ verdict_number self }
-    {
-        match self {
-            Verdict::Accepted(_) => 0,
-            Verdict::AtFault(_, _) => 0,
-            Verdict::Refused(r) => r.number(),
-        }
-    }
-}
-
-impl Comparison {
-    // 0 where one of the lists is handed back.
-    pub fn number(self) -> u16
-        ensures { result ≡ comparison_number self }
-    {
-        match self {
-            Comparison::First => 0,
-            Comparison::Second => 0,
-            Comparison::Refused(r) => r.number(),
-        }
-    }
-}
+pub type Comparison = Result<Which, Refusal>;

@@ -3,8 +3,8 @@ use Prim.Native.Nat.{ℕ, ◌*◌, ◌≤◌}
 use mathlib.Core.Path.{◌≡◌, ap}
 use mathlib.Core.List.{List, []}
 use lib.ListN.{length}
-use Rattle.answers.specs.declared.answer.Answer.{Answer}
-use Rattle.answers.specs.declared.answer.Refusal.{Refusal}
+use Rattle.answers.specs.Numbers.{Answer}
+use Rattle.answers.specs.declared.refusal.Refusal.{Refusal}
 use Rattle.question.specs.Checked.{problem_asked}
 use Rattle.question.specs.Question.{Question, passes, fails, question_checks}
 use Rattle.question.proofs.Checks.{cells-asked, rules-asked}
@@ -13,10 +13,11 @@ use Rattle.router.specs.Least.{Searched}
 use Rattle.router.specs.declared.least.Least.{Least}
 use Rattle.router.proofs.Refusals.{all-passed}
 use Rattle.bench_entry.specs.Searched.{least_answer, searched_after, searched_of, WordsAfter, Searching}
+use Rattle.answers.specs.declared.answer.RouteAnswer.{RouteAnswer}
 
 module _ (q : Question) (scratch : List ℕ) where
   -- a refusal leaves everything as it is
-  pub refused : (r : Refusal) → checks q (length scratch) ≡ fails r → Searching q scratch scratch (Answer.Refused r)
+  pub refused : (r : Refusal) → checks q (length scratch) ≡ fails r → Searching q scratch scratch (RouteAnswer.Refused r)
   unfolding searched_of searched_after WordsAfter
   refused r e = record { answer = rw e; scratch_left = rw e }
 

@@ -2,8 +2,8 @@
 -- It rests on what no call can test: the areas lent are as long as the caller says, and lie apart from one another.
 use Rattle.std.specs.Prelude.{ℕ, ◌*◌, Bool, true, false, ◌≡◌, List, pos, length}
 use Rattle.answers.specs.Numbers.{answer_number}
-use Rattle.answers.specs.declared.answer.Refusal.{Refusal}
-use Rattle.answers.specs.declared.answer.Answer.{Answer}
+use Rattle.answers.specs.declared.refusal.Refusal.{Refusal}
+use Rattle.answers.specs.Numbers.{Answer}
 use Rattle.best.specs.Best.{best}
 use Rattle.rows.specs.Words.{KeptFrom}
 use Rattle.question.specs.Question.{Question, Check, passes, fails, rules_asked, cells_asked}
@@ -13,16 +13,17 @@ use Rattle.router.specs.declared.least.Least.{Least}
 use Rattle.router.specs.declared.least.Least.TheVariants.{Of, Nothing}
 use Rattle.bench_words.specs.Figures.{figure_words}
 use Rattle.bench_entry.specs.Explained.{Unexplained}
+use Rattle.answers.specs.declared.answer.RouteAnswer.{RouteAnswer}
 
 -- registers and steps alone
 abbrev pub least_answer : Least → Answer
-least_answer (Of k s) = Answer.Found (record { registers = k; steps = s; latency = 0; slack = pos 0 })
-least_answer Nothing = Answer.Refused Refusal.NoRoute
+least_answer (Of k s) = RouteAnswer.Found (record { registers = k; steps = s; latency = 0; slack = pos 0 })
+least_answer Nothing = RouteAnswer.Refused Refusal.NoRoute
 
 -- the best route's, by the route call's checks
 unfoldable pub searched_after : Check → Question → Answer
 searched_after passes q = least_answer (least_of (best (rules_asked q)))
-searched_after (fails r) q = Answer.Refused r
+searched_after (fails r) q = RouteAnswer.Refused r
 
 unfoldable pub searched_of : Question → ℕ → Answer
 searched_of q scratch = searched_after (checks q scratch) q

@@ -7,7 +7,7 @@ ghost use Rattle.bench_words.specs.Words.{lengths_right, result_numbers};
 ghost use Rattle.bench_entry.specs.Question.{bench_question};
 ghost use Rattle.bench_entry.specs.Searched.{least_answer, Searching, BenchSearched, SearchEffect};
 
-use answers::{Answer, BuffersRead, Figures, Refusal, Tables, read_list};
+use answers::{Answer, BuffersRead, Figures, Numbered, Refusal, Tables, read_list};
 use bench_words::{WRONG_LENGTH, lengths_right, read_buffers, write_figures};
 use costs::costs_of;
 use job::tables_of;

@@ -8,9 +8,9 @@ use lib.Dec.{eqb}
 use lib.ListN.{length, set}
 use borrow.Author.Tests.{eqb-true}
 use Rattle.answers.specs.declared.answer.Figures.{Figures}
-use Rattle.answers.specs.declared.answer.Answer.{Answer}
-use Rattle.answers.specs.declared.crossing.CrossingFigures.{CrossingFigures}
-use Rattle.answers.specs.declared.crossing.CrossingAnswer.{CrossingAnswer}
+use Rattle.answers.specs.Numbers.{Answer}
+use Rattle.answers.specs.declared.answer.CrossingFigures.{CrossingFigures}
+use Rattle.answers.specs.Numbers.{CrossingAnswer}
 use Rattle.answers.specs.Numbers.{answer_figures, crossing_figures}
 use Rattle.timing.specs.Slack.{magnitude}
 use Rattle.job.specs.Fields.{table_numbers}

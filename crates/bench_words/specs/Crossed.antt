@@ -2,8 +2,8 @@
 use Rattle.std.specs.Prelude.{ℕ, Bool, ◌&&◌, List, [], ◌∷◌, eqb, get_or}
 use Rattle.answers.specs.Numbers.{crossing_figures}
 use Rattle.answers.specs.declared.records.Crossing.{Crossing}
-use Rattle.answers.specs.declared.crossing.CrossingAnswer.{CrossingAnswer}
-use Rattle.answers.specs.declared.crossing.CrossingAnswer.TheVariants.{Found, NoRoom, Refused}
+use Rattle.answers.specs.Numbers.{CrossingAnswer}
+use Rattle.answers.specs.declared.answer.RouteAnswer.TheVariants.{Found, NoRoom, Refused}
 use Rattle.timing.specs.Slack.{magnitude}
 use Rattle.bench_words.specs.Words.{inputs_right, refusal_fault}
 

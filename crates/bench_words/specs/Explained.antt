@@ -2,8 +2,8 @@
 use Rattle.std.specs.Prelude.{ℕ, List, [], ◌∷◌}
 use Rattle.answers.specs.declared.explained.Reason.{Reason}
 use Rattle.answers.specs.declared.explained.Reason.TheVariants.{WalledOff, Load, Period, TooShort}
-use Rattle.answers.specs.declared.explained.Explained.{Explained}
-use Rattle.answers.specs.declared.explained.Explained.TheVariants.{Because, Refused}
+use Rattle.answers.specs.Numbers.{Explained}
+use Rattle.std.specs.Prelude.{Ok, Err}
 use Rattle.bench_words.specs.Words.{refusal_fault}
 use Rattle.bench_words.specs.declared.why.Why.{Why}
 
@@ -23,8 +23,8 @@ period_told TooShort = 0
 
 -- what is told
 abbrev pub why_of : Explained → Why
-why_of (Because reason) = record { reason = reason_place reason; period = period_told reason; element = 0 }
-why_of (Refused r) = record { reason = 0; period = 0; element = refusal_fault 1 r }
+why_of (Ok reason) = record { reason = reason_place reason; period = period_told reason; element = 0 }
+why_of (Err r) = record { reason = 0; period = 0; element = refusal_fault 1 r }
 
 unfoldable pub why_words : Why → List ℕ
 why_words w = w.reason ∷ w.period ∷ w.element ∷ 0 ∷ 0 ∷ []

@@ -1,8 +1,8 @@
 -- The words that tell an answer of the route call.
 use Rattle.std.specs.Prelude.{ℕ, List, [], ◌∷◌}
 use Rattle.answers.specs.Numbers.{answer_figures}
-use Rattle.answers.specs.declared.answer.Answer.{Answer}
-use Rattle.answers.specs.declared.answer.Answer.TheVariants.{Found, NoRoom, Refused}
+use Rattle.answers.specs.Numbers.{Answer}
+use Rattle.answers.specs.declared.answer.RouteAnswer.TheVariants.{Found, NoRoom, Refused}
 use Rattle.timing.specs.Slack.{magnitude}
 use Rattle.bench_words.specs.Words.{refusal_fault}
 

@@ -2,8 +2,10 @@
 use Rattle.std.specs.Prelude.{ℕ, List, [], ◌∷◌}
 use Rattle.answers.specs.declared.verdicts.VisitFault.{VisitFault}
 use Rattle.answers.specs.declared.verdicts.VisitFault.TheVariants.{Cell, Wire, Site, Load, Period}
-use Rattle.answers.specs.declared.verdicts.Verdict.{Verdict}
-use Rattle.answers.specs.declared.verdicts.Verdict.TheVariants.{Accepted, AtFault, Refused}
+use Rattle.answers.specs.Numbers.{Verdict}
+use Rattle.std.specs.Prelude.{Ok, Err}
+use Rattle.answers.specs.declared.verdicts.Finding.{Finding}
+use Rattle.answers.specs.declared.verdicts.Finding.TheVariants.{Accepted, AtFault}
 use Rattle.timing.specs.Slack.{magnitude}
 use Rattle.bench_words.specs.Words.{refusal_fault}
 use Rattle.bench_words.specs.declared.found.Found.{Found}
@@ -26,9 +28,9 @@ miss_of (Period z) = magnitude z
 
 -- what is told of a verdict
 abbrev pub found_of : Verdict → Found
-found_of (Accepted z) = record { accepted = 1; visit = 0; fault = 0; element = 0; slack = magnitude z }
-found_of (AtFault i f) = record { accepted = 0; visit = i; fault = visit_fault_place f; element = 0; slack = miss_of f }
-found_of (Refused r) = record { accepted = 0; visit = 0; fault = 0; element = refusal_fault 1 r; slack = 0 }
+found_of (Ok (Accepted z)) = record { accepted = 1; visit = 0; fault = 0; element = 0; slack = magnitude z }
+found_of (Ok (AtFault i f)) = record { accepted = 0; visit = i; fault = visit_fault_place f; element = 0; slack = miss_of f }
+found_of (Err r) = record { accepted = 0; visit = 0; fault = 0; element = refusal_fault 1 r; slack = 0 }
 
 unfoldable pub found_words : Found → List ℕ
 found_words f = f.accepted ∷ f.visit ∷ f.fault ∷ f.element ∷ f.slack ∷ []

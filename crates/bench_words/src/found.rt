@@ -4,7 +4,7 @@ ghost use Rattle.bench_words.specs.Words.{result_numbers};
 ghost use Rattle.bench_words.specs.Judged.{visit_fault_place, miss_of, found_of, found_words};
 
 use crate::faults::refusal_fault;
-use answers::{Verdict, VisitFault};
+use answers::{Finding, Verdict, VisitFault};
 use timing::slack_magnitude;
 
 // What is told, in the order of the words.
@@ -50,21 +50,21 @@ pub fn found_of(verdict: Verdict) -> Found
     ensures { result ≡ found_of verdict }
 {
     match verdict {
-        Verdict::Accepted(z) => Found {
+        Ok(Finding::Accepted(z)) => Found {
             accepted: 1,
             visit: 0,
             fault: 0,
             element: 0,
             slack: slack_magnitude(z) as u64,
         },
-        Verdict::AtFault(i, f) => Found {
+        Ok(Finding::AtFault(i, f)) => Found {
             accepted: 0,
             visit: i as u64,
             fault: visit_fault_number(f),
             element: 0,
             slack: miss_of(f),
         },
-        Verdict::Refused(r) => Found {
+        Err(r) => Found {
             accepted: 0,
             visit: 0,
             fault: 0,

@@ -43,12 +43,12 @@ pub fn why_of(explained: Explained) -> Why
     ensures { result ≡ why_of explained }
 {
     match explained {
-        Explained::Because(reason) => Why {
+        Ok(reason) => Why {
             reason: reason_number(reason),
             period: period_of(reason),
             element: 0,
         },
-        Explained::Refused(r) => Why {
+        Err(r) => Why {
             reason: 0,
             period: 0,
             element: refusal_fault(r, 1),

@@ -1,4 +1,5 @@
 -- What the calls on two lists answer and hand back, of a question: refusals 1 to 5, then 17, then the comparison by document 01's rules.
+use Rattle.std.specs.Prelude.{Ok, Err}
 use Prim.Native.Nat.{ℕ}
 use mathlib.Core.Bool.{true, false, ◌||◌}
 use mathlib.Core.List.{List, []}
@@ -7,9 +8,9 @@ use mathlib.Core.Path.{◌≡◌, refl, ap}
 use native.Mathlib.Omega.{arith}
 use denote.Ref.{Bor}
 use lib.Dec.{T}
-use Rattle.answers.specs.declared.answer.Refusal.{Refusal}
-use Rattle.answers.specs.declared.verdicts.Comparison.{Comparison}
-use Rattle.answers.specs.declared.verdicts.Comparison.TheVariants.{First, Second, Refused}
+use Rattle.answers.specs.declared.refusal.Refusal.{Refusal}
+use Rattle.answers.specs.Numbers.{Comparison}
+use Rattle.answers.specs.declared.verdicts.Which.TheVariants.{First, Second}
 use Rattle.rules.specs.Rules.{Rules}
 use Rattle.rules.specs.Legal.{Route, legal}
 use Rattle.rules.specs.Ranking.{registers, ranks_before}
@@ -23,11 +24,11 @@ use Rattle.comparison.proofs.Better.{better-first, better-second, better-none, B
 -- The better of two routes by document 01's rules
 pub record Ranked (R : Rules) (a b : Route) (answer : Comparison) : Type 0 where
   -- the first: it is legal, and the second is not or does not rank before it
-  pub first : (answer ≡ First) ↔ (T (legal R a) × (T (legal R b) → T (ranks_before registers b a) → ⊥))
+  pub first : (answer ≡ Ok First) ↔ (T (legal R a) × (T (legal R b) → T (ranks_before registers b a) → ⊥))
   -- the second: it is legal, and the first is not or the second ranks before it
-  pub second : (answer ≡ Second) ↔ (T (legal R b) × (T (legal R a) → T (ranks_before registers b a)))
+  pub second : (answer ≡ Ok Second) ↔ (T (legal R b) × (T (legal R a) → T (ranks_before registers b a)))
   -- 18: neither is legal
-  pub neither : (answer ≡ Refused Refusal.NoneLegal) ↔ ((T (legal R a) → ⊥) × (T (legal R b) → ⊥))
+  pub neither : (answer ≡ Err Refusal.NoneLegal) ↔ ((T (legal R a) → ⊥) × (T (legal R b) → ⊥))
 
 -- One of the two lists, the caller's own words: its route is legal, no legal one of the two ranks before it, and of equal lists it is the first.
 pub record BetterOf (R : Rules) (a b r : Bor (List ℕ)) : Type 0 where
@@ -37,14 +38,14 @@ pub record BetterOf (R : Rules) (a b r : Bor (List ℕ)) : Type 0 where
 
 -- What is handed back: an empty part if the call is refused, or else the better list
 pub data HandedBack (q : Question) (a b r : Bor (List ℕ)) : Type 0 where
-  refused : (k : Refusal) → comparison_of q a.now b.now ≡ Refused k → r.now ≡ [] → HandedBack q a b r
+  refused : (k : Refusal) → comparison_of q a.now b.now ≡ Err k → r.now ≡ [] → HandedBack q a b r
   answered : BetterOf (rules_asked q) a b r → HandedBack q a b r
 
 -- All that the calls on two lists answer and hand back
 pub record BetterRanks (q : Question) (a b : Bor (List ℕ)) : Type 0 where
   -- 1 to 5 come first, then 17 for either list
-  pub five : (k : Refusal) → question_checks q passes ≡ fails k → comparison_of q a.now b.now ≡ Refused k
-  pub lists : question_checks q passes ≡ passes → (bad_list a.now || bad_list b.now) ≡ true → comparison_of q a.now b.now ≡ Refused Refusal.RouteList
+  pub five : (k : Refusal) → question_checks q passes ≡ fails k → comparison_of q a.now b.now ≡ Err k
+  pub lists : question_checks q passes ≡ passes → (bad_list a.now || bad_list b.now) ≡ true → comparison_of q a.now b.now ≡ Err Refusal.RouteList
   -- where these pass, the ranking decides
   pub ranked : question_checks q passes ≡ passes → bad_list a.now ≡ false → bad_list b.now ≡ false → Ranked (rules_asked q) (route_in a.now) (route_in b.now) (comparison_of q a.now b.now)
   pub handed : (r : Bor (List ℕ)) → Handed (comparison_of q a.now b.now) a b r → HandedBack q a b r
@@ -53,13 +54,13 @@ pub record BetterRanks (q : Question) (a b : Bor (List ℕ)) : Type 0 where
 
 module _ (q : Question) (a b : List ℕ) where
   -- 1 to 5
-  pub refused-five : (k : Refusal) → question_checks q passes ≡ fails k → comparison_of q a b ≡ Refused k
+  pub refused-five : (k : Refusal) → question_checks q passes ≡ fails k → comparison_of q a b ≡ Err k
   unfolding comparison_of comparison_after
   refused-five k e = rw (five-fail q k _ e, comparison_after)
 
   module _ (five : question_checks q passes ≡ passes) where
     -- 17: either list
-    pub refused-list : (bad_list a || bad_list b) ≡ true → comparison_of q a b ≡ Refused Refusal.RouteList
+    pub refused-list : (bad_list a || bad_list b) ≡ true → comparison_of q a b ≡ Err Refusal.RouteList
     unfolding comparison_of comparison_after
     refused-list e = rw (first-five q _ five, e, comparison_after)
 
@@ -68,13 +69,13 @@ module _ (q : Question) (a b : List ℕ) where
     compared e f = rw (first-five q _ five, e, f, comparison_after)
 
 -- a list is handed back only by the comparison of two routes
-by-check : (k : Check) (q : Question) (a b : List ℕ) (x : Comparison) → comparison_after k (rules_asked q) a b ≡ x → ((j : Refusal) → Refused j ≡ x → ⊥) → comparison_for (rules_asked q) (route_in a) (route_in b) ≡ x
+by-check : (k : Check) (q : Question) (a b : List ℕ) (x : Comparison) → comparison_after k (rules_asked q) a b ≡ x → ((j : Refusal) → Err j ≡ x → ⊥) → comparison_for (rules_asked q) (route_in a) (route_in b) ≡ x
 unfolding comparison_after
 by-check passes q a b x e n = e
 by-check (fails j) q a b x e n = absurd (n j e)
 
 module _ (q : Question) (a b : Bor (List ℕ)) where
-  by-rules : (x : Comparison) → comparison_of q a.now b.now ≡ x → ((j : Refusal) → Refused j ≡ x → ⊥) → comparison_for (rules_asked q) (route_in a.now) (route_in b.now) ≡ x
+  by-rules : (x : Comparison) → comparison_of q a.now b.now ≡ x → ((j : Refusal) → Err j ≡ x → ⊥) → comparison_for (rules_asked q) (route_in a.now) (route_in b.now) ≡ x
   unfolding comparison_of
   by-rules x e n = by-check (question_checks q (or_else (bad_list a.now || bad_list b.now) Refusal.RouteList passes)) q a.now b.now x e n
 
@@ -91,22 +92,22 @@ module _ (q : Question) (a b : Bor (List ℕ)) where
       w = route_in b.now
 
       go : (x : Comparison) → comparison_of q a.now b.now ≡ x → Handed x a b r → HandedBack q a b r
-      go First e is =
-          let f : comparison_for R v w ≡ First = by-rules First e (λ j g. let z : ◌≡◌ {A = ℕ} 0 1 = cc in omega arith) in
+      go (Ok First) e is =
+          let f : comparison_for R v w ≡ Ok First = by-rules (Ok First) e (λ j g. let z : ◌≡◌ {A = ℕ} 0 1 = cc in omega arith) in
           answered (record {
             own = inl is;
             best = handed-best R a b r (rw f is) (inl ((better-first R v w).0 f).0);
             equal = λ same. is;
           })
-      go Second e is =
-          let f : comparison_for R v w ≡ Second = by-rules Second e (λ j g. let z : ◌≡◌ {A = ℕ} 0 1 = cc in omega arith) in
+      go (Ok Second) e is =
+          let f : comparison_for R v w ≡ Ok Second = by-rules (Ok Second) e (λ j g. let z : ◌≡◌ {A = ℕ} 0 1 = cc in omega arith) in
           let s = (better-second R v w).0 f in
           answered (record {
             own = inr is;
             best = handed-best R a b r (rw f is) (inr s.0);
             equal = λ same. absurd (ranks-irreflexive registers w (rw (ap route_in same) at (s.1 (rw (ap route_in same) s.0))));
           })
-      go (Refused k) e is = refused k e is
+      go (Err k) e is = refused k e is
 
 pub better-ranks : (q : Question) (a b : Bor (List ℕ)) → BetterRanks q a b
 better-ranks q a b =

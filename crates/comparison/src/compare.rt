@@ -8,7 +8,7 @@ ghost use Rattle.verdict.specs.Verdict.{route_in, bad_list};
 ghost use Rattle.comparison.specs.Better.{comparison_for, comparison_of};
 
 use crate::ranks::ranks_before;
-use answers::{BufferList, BuffersRead, Comparison, Refusal, Tables, Verdict, read_list};
+use answers::{BufferList, BuffersRead, Comparison, Finding, Refusal, Tables, Which, read_list};
 use problem::Problem;
 use question::{Checked, check_question};
 use verdict::{bad_list, judge_ready};
@@ -18,11 +18,9 @@ fn legal_ready(plan: &[u8], p: Problem, words: &[u16]) -> bool
     requires { Ready p plan.now × (bad_list words.now ≡ false) }
     ensures { result ≡ legal (rules_for p plan.now) (route_in words.now) }
 {
-    let verdict = judge_ready(plan, p, words);
-    match verdict {
-        Verdict::Accepted(_) => true,
-        Verdict::AtFault(_, _) => false,
-        Verdict::Refused(_) => false,
+    match judge_ready(plan, p, words) {
+        Finding::Accepted(_) => true,
+        Finding::AtFault(_, _) => false,
     }
 }
 
@@ -35,14 +33,14 @@ fn compare_ready(plan: &[u8], p: Problem, a: &[u16], b: &[u16]) -> Comparison
     let second = legal_ready(plan, p, b);
     if first {
         if second && ranks_before(b, a) {
-            return Comparison::Second;
+            return Ok(Which::Second);
         }
-        return Comparison::First;
+        return Ok(Which::First);
     }
     if second {
-        return Comparison::Second;
+        return Ok(Which::Second);
     }
-    Comparison::Refused(Refusal::NoneLegal)
+    Err(Refusal::NoneLegal)
 }
 
 // The comparison with a list of buffers that was read and checked.
@@ -64,11 +62,11 @@ pub fn compare_read(
     let outcome = checked.outcome;
     match outcome {
         Checked::Fails(r) => {
-            return Comparison::Refused(r);
+            return Err(r);
         }
         Checked::Passes => {
             if bad_list(a) || bad_list(b) {
-                return Comparison::Refused(Refusal::RouteList);
+                return Err(Refusal::RouteList);
             }
             let p = checked.problem;
             return compare_ready(plan, p, a, b);

@@ -5,7 +5,7 @@ ghost use Rattle.question.specs.Question.{question_of};
 ghost use Rattle.comparison.specs.Better.{comparison_of, Handed};
 
 use crate::compare::compare_read;
-use answers::{BufferList, BuffersRead, Comparison, Tables, read_list};
+use answers::{BufferList, BuffersRead, Tables, Which, read_list};
 
 // The better list, with a list of buffers that was read and checked.
 pub fn better_read<'a>(
@@ -24,9 +24,9 @@ pub fn better_read<'a>(
 {
     let comparison = compare_read(plan, width, height, tables, read, source, sink, a, b);
     match comparison {
-        Comparison::First => a,
-        Comparison::Second => b,
-        Comparison::Refused(_) => &a[..0],
+        Ok(Which::First) => a,
+        Ok(Which::Second) => b,
+        Err(_) => &a[..0],
     }
 }
 

@@ -5,7 +5,7 @@ ghost use Rattle.std.specs.Prelude.{◌≡◌, take};
 ghost use Rattle.question.specs.Crossing.{crossing_of};
 ghost use Rattle.crossing_router.specs.Route.{crossing_answer_of};
 
-use answers::CrossingAnswer;
+use answers::{CrossingAnswer, Numbered};
 use crossing_router::route_crossing_with;
 use player::{Net, Player, Turn, VISIT_WORDS, ended, next, read_net, refill};
 use report::{

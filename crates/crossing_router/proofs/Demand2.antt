@@ -17,8 +17,8 @@ use Rattle.budget.proofs.Clocks.{period-most}
 use Rattle.best.specs.Best.{Outcome, found, none, best}
 use Rattle.answers.specs.Tables.{elements_of}
 use Rattle.answers.specs.Crossing.{clocks_of}
-use Rattle.answers.specs.declared.answer.Refusal.{Refusal}
-use Rattle.answers.specs.declared.crossing.CrossingAnswer.{CrossingAnswer}
+use Rattle.answers.specs.declared.refusal.Refusal.{Refusal}
+use Rattle.answers.specs.Numbers.{CrossingAnswer}
 use Rattle.problem.specs.Problem.{plan_for}
 use Rattle.problem.specs.Net.{net_rules}
 use Rattle.problem.proofs.Clocks.{net-bound}
@@ -26,15 +26,16 @@ use Rattle.question.specs.Checked.{problem_asked}
 use Rattle.crossing_router.specs.Route.{CrossingQuestion, rules_crossed, checks, passes, figures_of, figures_crossed, latency_crossed, answer_for, answer_after, crossing_answer_of, visits_for, visits_after, crossing_visits_of}
 use Rattle.crossing_router.proofs.Refusals.{net_asked}
 use Rattle.crossing_router.proofs.Passed.{passed-ready, asked-best, asked-none}
+use Rattle.answers.specs.declared.answer.RouteAnswer.{RouteAnswer}
 
 -- what demand 2 asks of an answer and of the visits afterwards
 pub data Demand2Crossing (c : CrossingQuestion) (visits after : List ℕ) : CrossingAnswer → Type 0 where
   -- the best legal route, with its figures counted off it, written into the visits
-  is_found : (r : Route) → IsBest (latency_crossed c) (rules_crossed c) r → Smallest (figures_crossed c r).slack (slacks (rules_crossed c) r) → 2 * (steps r + 1) ≤ length visits → after ≡ written r ++ drop (length (written r)) visits → Demand2Crossing c visits after (CrossingAnswer.Found (figures_crossed c r))
+  is_found : (r : Route) → IsBest (latency_crossed c) (rules_crossed c) r → Smallest (figures_crossed c r).slack (slacks (rules_crossed c) r) → 2 * (steps r + 1) ≤ length visits → after ≡ written r ++ drop (length (written r)) visits → Demand2Crossing c visits after (RouteAnswer.Found (figures_crossed c r))
   -- 8: its figures are the best route's, and the visits stay
-  no_room : (r : Route) → IsBest (latency_crossed c) (rules_crossed c) r → Smallest (figures_crossed c r).slack (slacks (rules_crossed c) r) → length visits < 2 * (steps r + 1) → after ≡ visits → Demand2Crossing c visits after (CrossingAnswer.NoRoom (figures_crossed c r))
+  no_room : (r : Route) → IsBest (latency_crossed c) (rules_crossed c) r → Smallest (figures_crossed c r).slack (slacks (rules_crossed c) r) → length visits < 2 * (steps r + 1) → after ≡ visits → Demand2Crossing c visits after (RouteAnswer.NoRoom (figures_crossed c r))
   -- 7: no legal route exists, and the visits stay
-  no_route : ((r : Route) → T (legal (rules_crossed c) r) → ⊥) → after ≡ visits → Demand2Crossing c visits after (CrossingAnswer.Refused Refusal.NoRoute)
+  no_route : ((r : Route) → T (legal (rules_crossed c) r) → ⊥) → after ≡ visits → Demand2Crossing c visits after (RouteAnswer.Refused Refusal.NoRoute)
 
 module _ (c : CrossingQuestion) (scratch visits : List ℕ) (pass : checks c (length scratch) ≡ passes) where
   low : (k f : ℕ) → (rules_crossed c).bound k f ≤ 60001
@@ -54,7 +55,7 @@ module _ (c : CrossingQuestion) (scratch visits : List ℕ) (pass : checks c (le
   by-outcome none e = Demand2Crossing.no_route ((asked-none c (length scratch) pass).0 e) refl
   by-outcome (found r) e = go (decided (leb (2 * (steps r + 1)) (length visits)))
     where
-      go : T (leb (2 * (steps r + 1)) (length visits)) ⊎ T (not (leb (2 * (steps r + 1)) (length visits))) → Demand2Crossing c visits (cond (leb (2 * (steps r + 1)) (length visits)) (written r ++ drop (length (written r)) visits) visits) (cond (leb (2 * (steps r + 1)) (length visits)) (CrossingAnswer.Found (figures_crossed c r)) (CrossingAnswer.NoRoom (figures_crossed c r)))
+      go : T (leb (2 * (steps r + 1)) (length visits)) ⊎ T (not (leb (2 * (steps r + 1)) (length visits))) → Demand2Crossing c visits (cond (leb (2 * (steps r + 1)) (length visits)) (written r ++ drop (length (written r)) visits) visits) (cond (leb (2 * (steps r + 1)) (length visits)) (RouteAnswer.Found (figures_crossed c r)) (RouteAnswer.NoRoom (figures_crossed c r)))
       go (inl h) = rw (is_true (leb (2 * (steps r + 1)) (length visits)) h) (Demand2Crossing.is_found r ((asked-best c (length scratch) pass r).0 e) (smallest r e) (lib.Dec.leb→le _ _ h) refl)
       go (inr h) = rw (is_false (leb (2 * (steps r + 1)) (length visits)) h) (Demand2Crossing.no_room r ((asked-best c (length scratch) pass r).0 e) (smallest r e) (lib.Dec.nleb→lt _ _ h) refl)
 
@@ -64,6 +65,6 @@ module _ (c : CrossingQuestion) (scratch visits : List ℕ) (pass : checks c (le
   demand-2-crossing = rw pass (by-outcome (best (rules_crossed c)) refl)
 
   -- 7 if no legal route exists
-  pub demand-2-crossing-none : ((r : Route) → T (legal (rules_crossed c) r) → ⊥) → crossing_answer_of c scratch visits ≡ CrossingAnswer.Refused Refusal.NoRoute
+  pub demand-2-crossing-none : ((r : Route) → T (legal (rules_crossed c) r) → ⊥) → crossing_answer_of c scratch visits ≡ RouteAnswer.Refused Refusal.NoRoute
   unfolding crossing_answer_of answer_after answer_for
   demand-2-crossing-none f = rw (pass, answer_after, (asked-none c (length scratch) pass).1 f)

@@ -12,9 +12,9 @@ use Rattle.rules.specs.Ranking.{code_sevens, steps}
 use Rattle.rules.specs.Slack.{least_slack}
 use Rattle.rules.specs.Crossing.{sink_side, source_side, sink_registers, source_registers, crossing_latency}
 use Rattle.best.specs.Best.{none, best}
-use Rattle.answers.specs.declared.answer.Refusal.{Refusal}
-use Rattle.answers.specs.declared.crossing.CrossingFigures.{CrossingFigures}
-use Rattle.answers.specs.declared.crossing.CrossingAnswer.{CrossingAnswer}
+use Rattle.answers.specs.declared.refusal.Refusal.{Refusal}
+use Rattle.answers.specs.declared.answer.CrossingFigures.{CrossingFigures}
+use Rattle.answers.specs.Numbers.{CrossingAnswer}
 use Rattle.emission.specs.Emission.{from_sink}
 use Rattle.problem.specs.declared.net.Net.{Net}
 use Rattle.problem.specs.Net.{net_rules}
@@ -23,6 +23,7 @@ use Rattle.router.specs.declared.writing.Written.{Written}
 use Rattle.crossing_router.specs.Route.{crossing_words, figures_of, answer_for, visits_for, zeroed}
 use Rattle.crossing_router.specs.Sides.{CrossingDone}
 use Rattle.crossing_router.proofs.BestCrossing.{BestIs}
+use Rattle.answers.specs.declared.answer.RouteAnswer.{RouteAnswer}
 
 module _ (net : Net) (marks scratch scratch' visits : List ℕ) where
   abbrev R : Rules
@@ -31,7 +32,7 @@ module _ (net : Net) (marks scratch scratch' visits : List ℕ) where
   abbrev latency_of : Route → ℕ
   latency_of = crossing_latency net.clocks.period net.problem.elements.period
 
-  pub done_none : scratch' ≡ zeroed (length marks * crossing_words) scratch → best R ≡ none → CrossingDone net marks scratch scratch' visits visits (CrossingAnswer.Refused Refusal.NoRoute)
+  pub done_none : scratch' ≡ zeroed (length marks * crossing_words) scratch → best R ≡ none → CrossingDone net marks scratch scratch' visits visits (RouteAnswer.Refused Refusal.NoRoute)
   unfolding answer_for visits_for
   done_none zeros e = record { answer = rw e; zero-words = zeros; filled = rw e }
 
@@ -56,10 +57,10 @@ module _ (net : Net) (marks scratch scratch' visits : List ℕ) where
     unfolding visits_for
     left = rw (b.is_found, visits_for, b.steps_are) (rw made at d.filled)
 
-    pub done-no-room : w.fits ≡ false → CrossingDone net marks scratch scratch' visits visits' (CrossingAnswer.NoRoom figures)
+    pub done-no-room : w.fits ≡ false → CrossingDone net marks scratch scratch' visits visits' (RouteAnswer.NoRoom figures)
     unfolding answer_for
     done-no-room e = record { answer = rw (b.is_found, answer_for, test false e, figures-are); zero-words = d.zero-words; filled = left }
 
-    pub done-found : w.fits ≡ true → CrossingDone net marks scratch scratch' visits visits' (CrossingAnswer.Found figures)
+    pub done-found : w.fits ≡ true → CrossingDone net marks scratch scratch' visits visits' (RouteAnswer.Found figures)
     unfolding answer_for
     done-found e = record { answer = rw (b.is_found, answer_for, test true e, figures-are); zero-words = d.zero-words; filled = left }

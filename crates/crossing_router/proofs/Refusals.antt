@@ -14,8 +14,8 @@ use Rattle.answers.specs.Tables.{elements_of}
 use Rattle.answers.specs.Crossing.{clocks_of, checked_crossing}
 use Rattle.answers.proofs.FirstCrossing.{crossing-clean}
 use Rattle.answers.specs.declared.tables.CrossingCheck.{CrossingCheck}
-use Rattle.answers.specs.declared.answer.Refusal.{Refusal}
-use Rattle.answers.specs.declared.crossing.CrossingAnswer.{CrossingAnswer}
+use Rattle.answers.specs.declared.refusal.Refusal.{Refusal}
+use Rattle.answers.specs.Numbers.{CrossingAnswer}
 use Rattle.problem.specs.declared.net.Net.{Net}
 use Rattle.problem.specs.Problem.{plan_for}
 use Rattle.problem.specs.Net.{fifo_of, net_rules, NetReady}
@@ -25,6 +25,7 @@ use Rattle.question.specs.declared.QuestionCheck.{QuestionCheck}
 use Rattle.question.proofs.Crossing.{crossing-passed, crossing-first-five, crossing-five-fail, crossing-ready, crossing-clocks, crossing-cells, crossing-checked, crossing-made, crossing-told-fails, crossing-told-passes}
 use Rattle.crossing_router.specs.Route.{CrossingQuestion, rules_crossed, crossing_words, Check, passes, fails, crossing_checks, checks, answer_after, crossing_answer_of, scratch_after, crossing_scratch_of, visits_after, crossing_visits_of, Crossed}
 use Rattle.crossing_router.specs.Sides.{TwoAsks, CrossingDone}
+use Rattle.answers.specs.declared.answer.RouteAnswer.{RouteAnswer}
 
 -- the net asked about
 abbrev pub net_asked : CrossingQuestion → Net
@@ -36,7 +37,7 @@ net-ready c rest e = record { ready = crossing-ready c rest e; clocks = crossing
 
 module _ (c : CrossingQuestion) (scratch visits : List ℕ) where
   -- a refusal leaves everything as it is
-  pub refused : (r : Refusal) → checks c (length scratch) ≡ fails r → Crossed c scratch scratch visits visits (CrossingAnswer.Refused r)
+  pub refused : (r : Refusal) → checks c (length scratch) ≡ fails r → Crossed c scratch scratch visits visits (RouteAnswer.Refused r)
   unfolding crossing_answer_of crossing_scratch_of crossing_visits_of answer_after scratch_after visits_after
   refused r e = record { answer = rw e; scratch_left = rw e; visits_left = rw e }
 

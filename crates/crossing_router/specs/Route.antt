@@ -16,9 +16,10 @@ use Rattle.rules.specs.Crossing.{rules_between, source_registers, sink_registers
 use Rattle.best.specs.Best.{Outcome, found, none, best}
 use Rattle.answers.specs.Tables.{elements_of}
 use Rattle.answers.specs.Crossing.{clocks_of}
-use Rattle.answers.specs.declared.answer.Refusal.{Refusal}
-use Rattle.answers.specs.declared.crossing.CrossingFigures.{CrossingFigures}
-use Rattle.answers.specs.declared.crossing.CrossingAnswer.{CrossingAnswer}
+use Rattle.answers.specs.declared.refusal.Refusal.{Refusal}
+use Rattle.answers.specs.declared.answer.CrossingFigures.{CrossingFigures}
+use Rattle.answers.specs.Numbers.{CrossingAnswer}
+use Rattle.answers.specs.declared.answer.RouteAnswer.{RouteAnswer}
 
 -- the rules asked about: the tables' period is the sink's
 unfoldable pub rules_crossed : CrossingQuestion → Rules
@@ -45,14 +46,14 @@ latency_crossed c = crossing_latency c.crossing.period c.question.tables.period
 -- Found, 8 or 7, by the words lent for the visits: two a visit
 unfoldable pub answer_for : Rules → ℕ → ℕ → ℕ → Outcome → CrossingAnswer
 answer_for R source sink room (found r) =
-    cond (leb (2 * (steps r + 1)) room) (CrossingAnswer.Found (figures_of R source sink r)) (CrossingAnswer.NoRoom (figures_of R source sink r))
-answer_for R source sink room none = CrossingAnswer.Refused Refusal.NoRoute
+    cond (leb (2 * (steps r + 1)) room) (RouteAnswer.Found (figures_of R source sink r)) (RouteAnswer.NoRoom (figures_of R source sink r))
+answer_for R source sink room none = RouteAnswer.Refused Refusal.NoRoute
 
 -- The three parts of the effect. `scratch` and `visits` are the words lent. Answer and visits are told under any rules R; the call's own are those asked about.
 
 unfoldable pub answer_after : Check → Rules → CrossingQuestion → List ℕ → CrossingAnswer
 answer_after passes R c visits = answer_for R c.crossing.period c.question.tables.period (length visits) (best R)
-answer_after (fails r) R c visits = CrossingAnswer.Refused r
+answer_after (fails r) R c visits = RouteAnswer.Refused r
 
 abbrev pub crossing_answer_under : Rules → CrossingQuestion → List ℕ → List ℕ → CrossingAnswer
 crossing_answer_under R c scratch visits = answer_after (checks c (length scratch)) R c visits

@@ -4,7 +4,7 @@ use Rattle.rules.specs.Rules.{Rules}
 use Rattle.best.specs.Best.{best}
 use Rattle.costs.specs.Costs.{CostsOf}
 use Rattle.rows.specs.Words.{KeptFrom}
-use Rattle.answers.specs.declared.crossing.CrossingAnswer.{CrossingAnswer}
+use Rattle.answers.specs.Numbers.{CrossingAnswer}
 use Rattle.problem.specs.declared.net.Net.{Net}
 use Rattle.problem.specs.Net.{fifo_of, net_rules, NetReady}
 use Rattle.search.specs.Search.{SideAsks}

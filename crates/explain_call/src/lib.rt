@@ -5,7 +5,7 @@ ghost use Rattle.std.specs.Prelude.{◌≡◌, length, take};
 ghost use Rattle.question.specs.Question.{question_of};
 ghost use Rattle.reasons.specs.Reasons.{explained_of};
 
-use answers::{Explained, Reason};
+use answers::{Explained, Numbered, Reason};
 use player::{Net, Player, Turn, ended, next, read_net, refill};
 use reasons::explain_with;
 use report::{smaller, write_call, write_element, write_zeroed};
@@ -27,8 +27,8 @@ fn write_reason<W: Write>(out: &mut W, reason: Reason) -> Result<()> {
 
 fn write_explained<W: Write>(out: &mut W, explained: Explained) -> Result<()> {
     match explained {
-        Explained::Because(reason) => write_reason(out, reason),
-        Explained::Refused(r) => write_element(out, r),
+        Ok(reason) => write_reason(out, reason),
+        Err(r) => write_element(out, r),
     }
 }
 

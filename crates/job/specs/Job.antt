@@ -4,8 +4,8 @@ use Rattle.std.specs.Prelude.{ℕ, ◌+◌, ◌*◌, cond, List, [], ◌∷◌, 
 use Rattle.plan.specs.Check.{grid_fault}
 use Rattle.timing.specs.Ranges.{buffers_max}
 use Rattle.answers.specs.Numbers.{refusal_number}
-use Rattle.answers.specs.declared.answer.Refusal.{Refusal}
-use Rattle.answers.specs.declared.answer.Fault.{Fault}
+use Rattle.answers.specs.declared.refusal.Refusal.{Refusal}
+use Rattle.answers.specs.declared.refusal.Fault.{Fault}
 use Rattle.router.specs.Route.{Question, question_of}
 use Rattle.numbers.specs.Numbers.{Read, value, fault, number_max, number}
 use Rattle.numbers.specs.Runs.{Run, values, refused, job_fault, run}

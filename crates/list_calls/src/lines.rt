@@ -1,5 +1,5 @@
 // The lines that are printed. Each function says why not all was written.
-use answers::{Comparison, Verdict, VisitFault};
+use answers::{Comparison, Finding, Numbered, Verdict, VisitFault, Which};
 use report::{write_call, write_element, write_slack, write_words};
 use std::io::{Result, Write};
 use streams::{write_number, write_text};
@@ -19,16 +19,16 @@ fn write_visit_fault<W: Write>(out: &mut W, fault: VisitFault) -> Result<()> {
 
 fn write_judged<W: Write>(out: &mut W, verdict: Verdict) -> Result<()> {
     match verdict {
-        Verdict::Accepted(slack) => {
+        Ok(Finding::Accepted(slack)) => {
             write_text(out, b" accepted")?;
             write_slack(out, slack)
         }
-        Verdict::AtFault(i, fault) => {
+        Ok(Finding::AtFault(i, fault)) => {
             write_text(out, b" visit")?;
             write_number(out, i as u64)?;
             write_visit_fault(out, fault)
         }
-        Verdict::Refused(r) => write_element(out, r),
+        Err(r) => write_element(out, r),
     }
 }
 
@@ -41,9 +41,9 @@ pub fn write_verdict<W: Write>(out: &mut W, verdict: Verdict, depth: u16) -> Res
 
 fn write_which<W: Write>(out: &mut W, which: Comparison) -> Result<()> {
     match which {
-        Comparison::First => write_text(out, b" first"),
-        Comparison::Second => write_text(out, b" second"),
-        Comparison::Refused(r) => write_element(out, r),
+        Ok(Which::First) => write_text(out, b" first"),
+        Ok(Which::Second) => write_text(out, b" second"),
+        Err(r) => write_element(out, r),
     }
 }
 

@@ -3,7 +3,8 @@
 
 pub use answers::{
     Answer, BufferRecord, Comparison, Crossing, CrossingAnswer, CrossingFigures, Explained, Fault,
-    Figures, Reason, Refusal, RegisterRecord, Tables, Verdict, VisitFault, WireRecord,
+    Figures, Finding, Numbered, Reason, Refusal, RegisterRecord, Tables, Verdict, VisitFault, Which,
+    WireRecord,
 };
 pub use judging::{better, compare, judge};
 pub use routing::{explain, route, route_crossing};

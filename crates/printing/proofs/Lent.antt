@@ -12,10 +12,11 @@ use Rattle.rules.specs.Legal.{Route}
 use Rattle.rules.specs.Ranking.{steps, written}
 use Rattle.best.specs.Search.{Found, figures, nothing, search_side}
 use Rattle.best.specs.Best.{exits_at, route_of, Outcome, found, none, outcome, best}
-use Rattle.answers.specs.declared.answer.Answer.{Answer}
+use Rattle.answers.specs.Numbers.{Answer}
 use Rattle.router.specs.Route.{Question, rules_asked, Check, passes, fails, checks, figures_of, answer_for, visits_for, answer_after, answer_under, answer_of, visits_after, visits_under, visits_of}
 use Rattle.text.specs.Answers.{figures_line, visit_lines, answer_text, VisitsWithin}
 use Rattle.printing.specs.Printed.{blank}
+use Rattle.answers.specs.declared.answer.RouteAnswer.{RouteAnswer}
 
 -- the lines of the first visits read no later words
 lines-front : (front rest : List ℕ) (n : ℕ) → 2 * n ≤ length front → visit_lines (front ++ rest) n ≡ visit_lines front n
@@ -57,7 +58,7 @@ outcome-text R period (found r) v a b e = rw e (go (leb (2 * (steps r + 1)) (len
     front : (x : List ℕ) → visit_lines (written r ++ drop (length (written r)) x) (steps r + 1) ≡ visit_lines (written r) (steps r + 1)
     front x = lines-front (written r) (drop (length (written r)) x) (steps r + 1) (omega (arith, written-length r, steps-are r v))
 
-    go : (room : Bool) → answer_text (cond room (Answer.Found (figures_of R period r)) (Answer.NoRoom (figures_of R period r))) (cond room (written r ++ drop (length (written r)) a) a) ≡ answer_text (cond room (Answer.Found (figures_of R period r)) (Answer.NoRoom (figures_of R period r))) (cond room (written r ++ drop (length (written r)) b) b)
+    go : (room : Bool) → answer_text (cond room (RouteAnswer.Found (figures_of R period r)) (RouteAnswer.NoRoom (figures_of R period r))) (cond room (written r ++ drop (length (written r)) a) a) ≡ answer_text (cond room (RouteAnswer.Found (figures_of R period r)) (RouteAnswer.NoRoom (figures_of R period r))) (cond room (written r ++ drop (length (written r)) b) b)
     go true = ap (λ (ls : List ℕ). figures_line (figures_of R period r) ++ ls) (front a ∙ sym (front b))
     go false = refl
 
@@ -77,7 +78,7 @@ unfolding answer_for VisitsWithin figures_of
 outcome-within R period room none = tt
 outcome-within R period room (found r) = go (leb (2 * (steps r + 1)) room) refl
   where
-    go : (b : Bool) → leb (2 * (steps r + 1)) room ≡ b → VisitsWithin (cond b (Answer.Found (figures_of R period r)) (Answer.NoRoom (figures_of R period r))) room
+    go : (b : Bool) → leb (2 * (steps r + 1)) room ≡ b → VisitsWithin (cond b (RouteAnswer.Found (figures_of R period r)) (RouteAnswer.NoRoom (figures_of R period r))) room
     go true e = leb-true _ _ e
     go false e = tt
 

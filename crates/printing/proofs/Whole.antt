@@ -6,7 +6,7 @@ use native.Mathlib.Omega.{arith}
 use lib.ListN.{length, take, drop}
 use lib.Seq.{sets-eq, length-sets, length-take-le}
 use Rattle.answers.specs.declared.records.BufferList.{BufferList}
-use Rattle.answers.specs.declared.answer.Answer.{Answer}
+use Rattle.answers.specs.Numbers.{Answer}
 use Rattle.router.specs.Route.{Question, question_of, answer_of, visits_of}
 use Rattle.job.specs.Fields.{buffer_list_of}
 use Rattle.job.specs.Job.{asks, question_from, marks_of, read_job, reading_of}

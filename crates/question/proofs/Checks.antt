@@ -16,8 +16,8 @@ use Rattle.answers.specs.Ends.{ends_fault}
 use Rattle.answers.specs.declared.tables.ElementFault.{ElementFault}
 use Rattle.answers.specs.declared.tables.ElementFault.TheVariants.{Nothing, At}
 use Rattle.answers.specs.declared.tables.TablesCheck.{TablesCheck}
-use Rattle.answers.specs.declared.answer.Fault.{Fault}
-use Rattle.answers.specs.declared.answer.Refusal.{Refusal}
+use Rattle.answers.specs.declared.refusal.Fault.{Fault}
+use Rattle.answers.specs.declared.refusal.Refusal.{Refusal}
 use Rattle.answers.proofs.GoodEnds.{ends-good}
 use Rattle.answers.proofs.FirstFault.{tables-valid, tables-fault, tables-clean}
 use Rattle.problem.specs.Problem.{plan_for, rules_for, Ready}

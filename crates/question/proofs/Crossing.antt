@@ -6,7 +6,7 @@ use Rattle.answers.specs.Tables.{elements_of}
 use Rattle.answers.specs.Crossing.{crossing_fault, clocks_of, checked_crossing}
 use Rattle.answers.specs.declared.tables.CrossingCheck.{CrossingCheck}
 use Rattle.answers.specs.declared.tables.ElementFault.{ElementFault}
-use Rattle.answers.specs.declared.answer.Refusal.{Refusal}
+use Rattle.answers.specs.declared.refusal.Refusal.{Refusal}
 use Rattle.answers.proofs.FirstCrossing.{crossing-valid, crossing-fault, crossing-clean}
 use Rattle.problem.specs.Problem.{Ready}
 use Rattle.question.specs.Question.{Check, passes, fails, cells_asked}

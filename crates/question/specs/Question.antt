@@ -11,7 +11,7 @@ use Rattle.answers.specs.declared.records.Tables.{Tables}
 use Rattle.answers.specs.declared.records.BufferList.{BufferList}
 use Rattle.answers.specs.declared.tables.ElementFault.{ElementFault}
 use Rattle.answers.specs.declared.tables.ElementFault.TheVariants.{Nothing, At}
-use Rattle.answers.specs.declared.answer.Refusal.{Refusal}
+use Rattle.answers.specs.declared.refusal.Refusal.{Refusal}
 
 -- what is asked: the plan's bytes and sides, the raw tables, the buffers, the ends
 pub record Question : Type 0 where

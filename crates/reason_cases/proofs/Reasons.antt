@@ -7,7 +7,7 @@ use Rattle.timing.specs.Ranges.{period_min, period_max}
 use Rattle.timing.specs.Relaxed.{at_period, with_skew}
 use Rattle.timing.specs.Valid.{Valid}
 use Rattle.answers.specs.declared.explained.Reason.{Reason}
-use Rattle.answers.specs.declared.explained.Explained.{Explained}
+use Rattle.answers.specs.Numbers.{Explained}
 use Rattle.cases.specs.Cases.{Case, tables, strip, case3, case4, case11, case12, skewed_case, skewed3}
 use Rattle.reasons.specs.Reasons.{routed_at, smallest_period}
 use Rattle.reasons.proofs.Order.{timed-routed, light-routed}
@@ -17,6 +17,7 @@ use Rattle.reason_cases.specs.Reasons.{Gives, setup_case, WorkedReasons}
 use Rattle.reason_cases.proofs.Tests.{has, has_at, has_relaxed, tests}
 use Rattle.cases.proofs.Tables.{valid12}
 use Rattle.reason_cases.proofs.Tables.{valid4, valid11, valid-skewed3, valid-setup}
+use Rattle.std.specs.Prelude.{Ok, Err}
 
 module _ (c : Case) (valid : Valid c.elements) (none : has c ≡ false) where
   own : has_at c c.elements.period ≡ false
@@ -24,7 +25,7 @@ module _ (c : Case) (valid : Valid c.elements) (none : has c ≡ false) where
   own = none
 
   -- none at some period, one at the next: that is the smallest
-  first-period : (u t : ℕ) → c.elements.period ≤ u → t ≡ u + 1 → t ≤ period_max → has_at c u ≡ false → has_at c t ≡ true → Gives c (Explained.Because (Reason.Period t))
+  first-period : (u t : ℕ) → c.elements.period ≤ u → t ≡ u + 1 → t ≤ period_max → has_at c u ≡ false → has_at c t ≡ true → Gives c (Ok (Reason.Period t))
   first-period u t later next most unrouted is = explained-because _ _ _ _ none (reason-period _ _ _ _ chain light t smallest most)
     where
       low : period_min ≤ u
@@ -39,10 +40,10 @@ module _ (c : Case) (valid : Valid c.elements) (none : has c ≡ false) where
       smallest : t ≡ smallest_period c.plan c.elements c.source c.sink
       smallest = smallest-is _ _ _ _ valid u t low next most unrouted is
 
-  next-period : (t : ℕ) → t ≡ c.elements.period + 1 → t ≤ period_max → has_at c t ≡ true → Gives c (Explained.Because (Reason.Period t))
+  next-period : (t : ℕ) → t ≡ c.elements.period + 1 → t ≤ period_max → has_at c t ≡ true → Gives c (Ok (Reason.Period t))
   next-period t next most is = first-period c.elements.period t (omega arith) next most own is
 
-  too_short : has_relaxed c true ≡ true → has_at c period_max ≡ false → Gives c (Explained.Because Reason.TooShort)
+  too_short : has_relaxed c true ≡ true → has_at c period_max ≡ false → Gives c (Ok Reason.TooShort)
   too_short light longest =
       explained-because _ _ _ _ none (reason-short _ _ _ _ (light-routed _ _ _ _ valid light) light (no-smallest _ _ _ _ valid longest))
 

@@ -3,11 +3,12 @@ use Rattle.std.specs.Prelude.{ℕ, ◌≡◌, [], ◌∷◌}
 use Rattle.plan.specs.Plan.{plan_of}
 use Rattle.timing.specs.declared.elements.Elements.{Elements}
 use Rattle.timing.specs.Elements.{wire_of, register_of}
-use Rattle.answers.specs.declared.answer.Refusal.{Refusal}
+use Rattle.answers.specs.declared.refusal.Refusal.{Refusal}
 use Rattle.answers.specs.declared.explained.Reason.{Reason}
-use Rattle.answers.specs.declared.explained.Explained.{Explained}
+use Rattle.answers.specs.Numbers.{Explained}
 use Rattle.cases.specs.Cases.{Case, no_route, tables, strip, tapped, case1, case4, case7, case11, case12, skewed3}
 use Rattle.reasons.specs.Reasons.{explained_for}
+use Rattle.std.specs.Prelude.{Ok, Err}
 
 abbrev pub Gives : Case → Explained → Type 0
 Gives c x = explained_for c.plan c.elements c.source c.sink ≡ x
@@ -43,16 +44,16 @@ setup_case =
 
 pub record WorkedReasons : Type 0 where
   -- "R4 gives period 12"
-  pub fourth : Gives case4 (Explained.Because (Reason.Period 12))
+  pub fourth : Gives case4 (Ok (Reason.Period 12))
   -- "R7 gives load"
-  pub seventh : Gives case7 (Explained.Because Reason.Load)
+  pub seventh : Gives case7 (Ok Reason.Load)
   -- R1 has a route
-  pub first : Gives case1 (Explained.Refused Refusal.RouteExists)
+  pub first : Gives case1 (Err Refusal.RouteExists)
   -- no register may stand at R11's cell 1, so it needs R1's period
-  pub eleventh : Gives case11 (Explained.Because (Reason.Period 26))
+  pub eleventh : Gives case11 (Ok (Reason.Period 26))
   -- nor at R12's (document 02, C-17)
-  pub twelfth : Gives case12 (Explained.Because (Reason.Period 26))
+  pub twelfth : Gives case12 (Ok (Reason.Period 26))
   -- R3 with skew 1 (document 02, C-16)
-  pub third : Gives skewed3 (Explained.Because (Reason.Period 13))
-  pub cut : Gives cut_case (Explained.Because Reason.WalledOff)
-  pub setup : Gives setup_case (Explained.Because Reason.TooShort)
+  pub third : Gives skewed3 (Ok (Reason.Period 13))
+  pub cut : Gives cut_case (Ok Reason.WalledOff)
+  pub setup : Gives setup_case (Ok Reason.TooShort)

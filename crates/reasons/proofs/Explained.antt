@@ -11,9 +11,9 @@ use Rattle.timing.specs.Relaxed.{relaxed}
 use Rattle.rules.specs.Legal.{Route, legal}
 use Rattle.rules.specs.Relaxed.{fits, HasRoute}
 use Rattle.rules.proofs.LeftOut.{legal-untimed}
-use Rattle.answers.specs.declared.answer.Refusal.{Refusal}
+use Rattle.answers.specs.declared.refusal.Refusal.{Refusal}
 use Rattle.answers.specs.declared.explained.Reason.{Reason}
-use Rattle.answers.specs.declared.explained.Explained.{Explained}
+use Rattle.answers.specs.Numbers.{Explained}
 use Rattle.question.specs.Question.{Question, rules_asked, passes}
 use Rattle.router.specs.Route.{checks}
 use Rattle.reasons.specs.Explains.{NoRoute, rules_at, Explains}
@@ -22,6 +22,7 @@ use Rattle.reasons.proofs.Order.{later-routed, light-routed}
 use Rattle.reasons.proofs.Periods.{smallest-least, smallest-routed, none_before, no-smallest}
 use Rattle.reasons.proofs.Values.{explained-exists, explained-because, reason-walled, reason-load, reason-short, reason-period}
 use Rattle.reasons.proofs.Meaning as meaning
+use Rattle.std.specs.Prelude.{Ok, Err}
 
 module _ (q : Question) (scratch : ℕ) (pass : checks q scratch ≡ passes) where
   abbrev bare : Bool
@@ -64,7 +65,7 @@ module _ (q : Question) (scratch : ℕ) (pass : checks q scratch ≡ passes) whe
             let there : at q.tables.period ≡ true = later-routed _ _ _ _ (meaning.valid q scratch pass) least q.tables.period (smallest-least _ _ _ _ (meaning.valid q scratch pass)) k (meaning.period-most q scratch pass) here in
             absurd (of-true false (sym none ∙ (sym (meaning.at_own q scratch pass) ∙ there)))
 
-    period-true : (f : HasRoute (rules_with q (relaxed true (meaning.tables_in q)))) → least ≤ period_max → Explains q (Explained.Because (Reason.Period least))
+    period-true : (f : HasRoute (rules_with q (relaxed true (meaning.tables_in q)))) → least ≤ period_max → Explains q (Ok (Reason.Period least))
     period-true f h =
         let low = smallest-least _ _ _ _ (meaning.valid q scratch pass) in
         let r = meaning.route-at q scratch pass least low h (smallest-routed _ _ _ _ (meaning.valid q scratch pass) h) in
@@ -73,12 +74,12 @@ module _ (q : Question) (scratch : ℕ) (pass : checks q scratch ≡ passes) whe
         Explains.period least (meaning.no-route q scratch pass none) r.route (fits-at least r.route r.is_legal) over h r.is_legal
         (λ u k. none_below (least - 1) (omega arith) (omega arith) (before-least (least - 1) (omega arith) (omega arith)) u (omega arith))
 
-    short-true : (f : HasRoute (rules_with q (relaxed true (meaning.tables_in q)))) → period_max < least → Explains q (Explained.Because Reason.TooShort)
+    short-true : (f : HasRoute (rules_with q (relaxed true (meaning.tables_in q)))) → period_max < least → Explains q (Ok Reason.TooShort)
     short-true f h =
         Explains.too_short f.route (subst T (sym (meaning.fits-legal q scratch pass f.route)) f.is_legal)
         (none_below period_max (omega arith) (omega arith) (before-least period_max (omega arith) h))
 
-    because : (b u : Bool) → bare ≡ b → untimed ≡ u → (least ≤ period_max) ⊎ (period_max < least) → Explains q (Explained.Because reason)
+    because : (b u : Bool) → bare ≡ b → untimed ≡ u → (least ≤ period_max) ⊎ (period_max < least) → Explains q (Ok reason)
     because false u wall light s =
         rw (reason-walled _ _ _ _ wall)
         (Explains.walled_off (meaning.no-route q scratch pass none) (λ c. of-true false (sym wall ∙ meaning.chained q scratch pass c)))
@@ -93,7 +94,7 @@ module _ (q : Question) (scratch : ℕ) (pass : checks q scratch ≡ passes) whe
   unfolding explained_of explained_after reason_for
   explained-true = rw pass (go own refl)
     where
-      go : (x : Bool) → own ≡ x → Explains q (elim x [ true ↦ Explained.Refused Refusal.RouteExists | false ↦ Explained.Because reason ])
+      go : (x : Bool) → own ≡ x → Explains q (elim x [ true ↦ Err Refusal.RouteExists | false ↦ Ok reason ])
       go true is = let r = meaning.route q scratch pass is in Explains.has_route r.route r.is_legal
       go false is = because is bare untimed refl refl (split least period_max)
 

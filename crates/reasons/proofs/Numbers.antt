@@ -10,8 +10,8 @@ use Rattle.plan.specs.declared.PlanCheck.TheVariants.{Valid, Grid, Length, Mark}
 use Rattle.answers.specs.Ends.{ends_fault}
 use Rattle.answers.specs.Tables.{tables_fault}
 use Rattle.answers.specs.Numbers.{refusal_number, explained_number}
-use Rattle.answers.specs.declared.answer.Refusal.{Refusal}
-use Rattle.answers.specs.declared.explained.Explained.{Explained}
+use Rattle.answers.specs.declared.refusal.Refusal.{Refusal}
+use Rattle.answers.specs.Numbers.{Explained}
 use Rattle.answers.specs.declared.tables.ElementFault.{ElementFault}
 use Rattle.answers.specs.declared.tables.ElementFault.TheVariants.{Nothing, At}
 use Rattle.question.specs.Question.{Question, Check, passes, fails, after_plan, after_tables, or_else, question_checks}

@@ -11,8 +11,8 @@ use Rattle.timing.proofs.Relaxed.{own-period, period-valid}
 use Rattle.rules.specs.Rules.{rules_of}
 use Rattle.rules.specs.Relaxed.{HasRoute}
 use Rattle.answers.specs.declared.explained.Reason.{Reason}
-use Rattle.answers.specs.declared.answer.Refusal.{Refusal}
-use Rattle.answers.specs.declared.explained.Explained.{Explained}
+use Rattle.answers.specs.declared.refusal.Refusal.{Refusal}
+use Rattle.answers.specs.Numbers.{Explained}
 use Rattle.problem.specs.declared.Problem.{Problem}
 use Rattle.problem.specs.Problem.{plan_for}
 use Rattle.spans.specs.Opens.{rules_at}
@@ -24,6 +24,7 @@ use Rattle.reasons.proofs.Routed.{route-routed, none-routed}
 use Rattle.reasons.proofs.Order.{timed-routed, light-routed}
 use Rattle.reasons.proofs.Periods.{smallest-is, no-smallest}
 use Rattle.reasons.proofs.Values.{reason-period, explained-exists, explained-because}
+use Rattle.std.specs.Prelude.{Ok, Err}
 
 -- what is told, by the answer
 
@@ -58,7 +59,7 @@ module _ (p : Problem) (marks : List ℕ) (valid : Valid p.elements) where
   none-smallest none =
       no-smallest (plan_for p marks) p.elements p.source p.sink valid (none-at period_max valid.most (omega arith) (none period_max valid.most (omega arith)))
 
-  pub none-because : NoPeriod p marks → {r : Reason} → r ≡ reason_of p marks → Explained.Because r ≡ explained_by p marks
+  pub none-because : NoPeriod p marks → {r : Reason} → r ≡ reason_of p marks → Ok r ≡ explained_by p marks
   unfolding explained_by reason_of
   none-because none e =
       sym (explained-because (plan_for p marks) p.elements p.source p.sink (fails-own (none p.elements.period (omega arith) valid.most)) (sym e))
@@ -69,13 +70,13 @@ module _ (p : Problem) (marks : List ℕ) (valid : Valid p.elements) where
     found-at =
         route-routed (plan_for p marks) _ p.source p.sink (valid-at r first.least first.most) first.found.route first.found.is_legal
 
-    pub first-exists : r ≡ p.elements.period → Explained.Refused Refusal.RouteExists ≡ explained_by p marks
+    pub first-exists : r ≡ p.elements.period → Err Refusal.RouteExists ≡ explained_by p marks
     unfolding explained_by routed_for routed_at
     first-exists e =
         let at : routed_for p marks p.elements.period ≡ true = rw e at found-at in
         sym (explained-exists (plan_for p marks) p.elements p.source p.sink (rw (own-period p.elements) at at))
 
-    pub first-because : (r ≡ p.elements.period → ⊥) → Explained.Because (Reason.Period r) ≡ explained_by p marks
+    pub first-because : (r ≡ p.elements.period → ⊥) → Ok (Reason.Period r) ≡ explained_by p marks
     unfolding explained_by smallest_for routed_for
     first-because f =
         let later : p.elements.period < r = omega (arith, first.least) in

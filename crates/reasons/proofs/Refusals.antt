@@ -3,8 +3,8 @@ use Prim.Native.Nat.{ℕ, ◌*◌, ◌≤◌}
 use mathlib.Core.Path.{◌≡◌}
 use mathlib.Core.List.{List, []}
 use lib.ListN.{length}
-use Rattle.answers.specs.declared.answer.Refusal.{Refusal}
-use Rattle.answers.specs.declared.explained.Explained.{Explained}
+use Rattle.answers.specs.declared.refusal.Refusal.{Refusal}
+use Rattle.answers.specs.Numbers.{Explained}
 use Rattle.problem.specs.Problem.{plan_for}
 use Rattle.question.specs.Checked.{problem_asked}
 use Rattle.question.proofs.Checks.{cells-asked}
@@ -12,10 +12,11 @@ use Rattle.router.specs.Route.{Question, cell_words, passes, fails, question_che
 use Rattle.router.proofs.Refusals.{all-passed}
 use Rattle.reasons.specs.Reasons.{explained_for, explained_after, explained_of, Explaining}
 use Rattle.reasons.specs.Probe.{explained_by, ReasonDone}
+use Rattle.std.specs.Prelude.{Ok, Err}
 
 module _ (q : Question) (scratch : List ℕ) where
   -- a refusal leaves everything as it is
-  pub refused : (r : Refusal) → checks q (length scratch) ≡ fails r → Explaining q scratch scratch (Explained.Refused r)
+  pub refused : (r : Refusal) → checks q (length scratch) ≡ fails r → Explaining q scratch scratch (Err r)
   unfolding explained_of explained_after scratch_of scratch_after
   refused r e = record { answer = rw e; scratch_left = rw e }
 

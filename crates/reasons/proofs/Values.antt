@@ -8,10 +8,11 @@ use Rattle.timing.specs.declared.elements.Elements.{Elements}
 use Rattle.timing.specs.Ranges.{period_max}
 use Rattle.timing.specs.Relaxed.{relaxed}
 use Rattle.rules.specs.Rules.{rules_of}
-use Rattle.answers.specs.declared.answer.Refusal.{Refusal}
+use Rattle.answers.specs.declared.refusal.Refusal.{Refusal}
 use Rattle.answers.specs.declared.explained.Reason.{Reason}
-use Rattle.answers.specs.declared.explained.Explained.{Explained}
+use Rattle.answers.specs.Numbers.{Explained}
 use Rattle.reasons.specs.Reasons.{routed, routed_at, smallest_period, period_reason, reason_for, explained_for}
+use Rattle.std.specs.Prelude.{Ok, Err}
 
 module _ (p : Plan) (e : Elements) (a b : ℕ) where
   -- the definition's three tests
@@ -22,15 +23,15 @@ module _ (p : Plan) (e : Elements) (a b : ℕ) where
   from_chain x = elim x [ false ↦ Reason.WalledOff | true ↦ from_loads (routed (rules_of p (relaxed true e) a b)) ]
 
   abbrev from_route : Bool → Explained
-  from_route x = elim x [ true ↦ Explained.Refused Refusal.RouteExists | false ↦ Explained.Because (reason_for p e a b) ]
+  from_route x = elim x [ true ↦ Err Refusal.RouteExists | false ↦ Ok (reason_for p e a b) ]
 
-  pub explained-exists : routed (rules_of p e a b) ≡ true → explained_for p e a b ≡ Explained.Refused Refusal.RouteExists
+  pub explained-exists : routed (rules_of p e a b) ≡ true → explained_for p e a b ≡ Err Refusal.RouteExists
   unfolding explained_for reason_for
   explained-exists is = ap from_route is
 
-  pub explained-because : routed (rules_of p e a b) ≡ false → {r : Reason} → reason_for p e a b ≡ r → explained_for p e a b ≡ Explained.Because r
+  pub explained-because : routed (rules_of p e a b) ≡ false → {r : Reason} → reason_for p e a b ≡ r → explained_for p e a b ≡ Ok r
   unfolding explained_for reason_for
-  explained-because is because = ap from_route is ∙ ap Explained.Because because
+  explained-because is because = ap from_route is ∙ ap Ok because
 
   pub reason-walled : routed (rules_of p (relaxed false e) a b) ≡ false → reason_for p e a b ≡ Reason.WalledOff
   unfolding reason_for smallest_period routed_at

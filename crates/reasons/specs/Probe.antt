@@ -2,7 +2,7 @@
 use Rattle.std.specs.Prelude.{ℕ, ◌*◌, Bool, List, ◌≡◌, length}
 use Rattle.timing.specs.declared.elements.Elements.{Elements}
 use Rattle.answers.specs.declared.explained.Reason.{Reason}
-use Rattle.answers.specs.declared.explained.Explained.{Explained}
+use Rattle.answers.specs.Numbers.{Explained}
 use Rattle.rules.specs.Rules.{rules_of}
 use Rattle.rows.specs.Words.{KeptFrom}
 use Rattle.problem.specs.declared.Problem.{Problem}

@@ -9,11 +9,12 @@ use Rattle.rules.specs.Rules.{Rules, rules_of}
 use Rattle.budget.specs.Emission.{first_from}
 use Rattle.best.specs.Best.{found, none, best}
 use Rattle.answers.specs.Tables.{elements_of}
-use Rattle.answers.specs.declared.answer.Refusal.{Refusal}
+use Rattle.answers.specs.declared.refusal.Refusal.{Refusal}
 use Rattle.answers.specs.declared.explained.Reason.{Reason}
-use Rattle.answers.specs.declared.explained.Explained.{Explained}
+use Rattle.answers.specs.Numbers.{Explained}
 use Rattle.question.specs.Question.{Question, Check, passes, fails}
 use Rattle.router.specs.Route.{checks, scratch_of}
+use Rattle.std.specs.Prelude.{Ok, Err}
 
 -- whether a legal route exists
 unfoldable pub routed : Rules → Bool
@@ -42,7 +43,7 @@ reason_with rules e =
 -- 19 where a route exists
 abbrev pub explained_with : (Elements → Rules) → Elements → Explained
 explained_with rules e =
-    elim (routed (rules e)) [ true ↦ Explained.Refused Refusal.RouteExists | false ↦ Explained.Because (reason_with rules e) ]
+    elim (routed (rules e)) [ true ↦ Err Refusal.RouteExists | false ↦ Ok (reason_with rules e) ]
 
 -- With a plan and ends: whether a route exists at a period, the smallest, the reason, the answer
 
@@ -60,7 +61,7 @@ explained_for p e a b = explained_with (λ d. rules_of p d a b) e
 
 unfoldable pub explained_after : Check → (Elements → Rules) → Question → Explained
 explained_after passes rules q = explained_with rules (elements_of q.tables q.buffers)
-explained_after (fails r) rules q = Explained.Refused r
+explained_after (fails r) rules q = Err r
 
 abbrev pub explained_under : (Elements → Rules) → Question → ℕ → Explained
 explained_under rules q scratch = explained_after (checks q scratch) rules q

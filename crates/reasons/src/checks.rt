@@ -27,11 +27,11 @@ pub fn explain_read(
     let outcome = checked.outcome;
     match outcome {
         Checked::Fails(r) => {
-            return Explained::Refused(r);
+            return Err(r);
         }
         Checked::Passes => {
             if scratch.len() < plan.len() * CELL_WORDS {
-                return Explained::Refused(Refusal::Scratch);
+                return Err(Refusal::Scratch);
             }
             let p = checked.problem;
             return reason_ready(plan, scratch, p);

@@ -54,9 +54,9 @@ fn searched(plan: &[u8], scratch: &mut [u16], p: Problem) -> Explained
 {
     let elements = p.elements;
     if exists_with(plan, scratch, p, elements) {
-        return Explained::Refused(Refusal::RouteExists);
+        return Err(Refusal::RouteExists);
     }
-    Explained::Because(why_none(plan, scratch, p))
+    Ok(why_none(plan, scratch, p))
 }
 
 // 19, or the reason.
@@ -71,13 +71,13 @@ fn explained(plan: &[u8], scratch: &mut [u16], p: Problem) -> Explained
             return searched(plan, scratch, p);
         }
         First::Never => {
-            return Explained::Because(why_never(plan, scratch, p));
+            return Ok(why_never(plan, scratch, p));
         }
         First::At(period) => {
             if period == elements.period {
-                return Explained::Refused(Refusal::RouteExists);
+                return Err(Refusal::RouteExists);
             }
-            return Explained::Because(Reason::Period(period));
+            return Ok(Reason::Period(period));
         }
     }
 }

@@ -1,6 +1,6 @@
 // One route call and the line printed of it: its label, number, registers, steps, latency and spare half-ticks, the cell and code of
 // each visit, then what became of the scratch words and of the visits' other words.
-use answers::Answer;
+use answers::{Answer, Numbered};
 use report::{filled, smaller, write_fault, write_figures, write_words};
 use route_call::{Call, ask};
 use std::io::{Result, Write};

@@ -3,7 +3,7 @@
 
 ghost use Rattle.std.specs.Prelude.{◌≡◌, length};
 
-use answers::{BufferList, BufferRecord, RegisterRecord, Tables, WireRecord};
+use answers::{BufferList, BufferRecord, Numbered, RegisterRecord, Tables, WireRecord};
 use router::route_with;
 use std::io::{Result, Write};
 use streams::{fail, write_number, write_text};

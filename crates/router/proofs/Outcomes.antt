@@ -10,8 +10,8 @@ use Rattle.rules.specs.Ranking.{steps, latency}
 use Rattle.rules.specs.Slack.{least_slack}
 use Rattle.best.specs.Best.{none, best}
 use Rattle.answers.specs.declared.answer.Figures.{Figures}
-use Rattle.answers.specs.declared.answer.Answer.{Answer}
-use Rattle.answers.specs.declared.answer.Refusal.{Refusal}
+use Rattle.answers.specs.Numbers.{Answer}
+use Rattle.answers.specs.declared.refusal.Refusal.{Refusal}
 use Rattle.emission.specs.Emission.{from_sink}
 use Rattle.problem.specs.declared.Problem.{Problem}
 use Rattle.problem.specs.Problem.{rules_for}
@@ -20,12 +20,13 @@ use Rattle.router.specs.Ready.{RouteDone}
 use Rattle.router.specs.Writing.{Writes}
 use Rattle.router.specs.declared.writing.Written.{Written}
 use Rattle.router.proofs.BestRoute.{BestIs}
+use Rattle.answers.specs.declared.answer.RouteAnswer.{RouteAnswer}
 
 module _ (p : Problem) (marks scratch scratch' visits : List ℕ) where
   abbrev R : Rules
   R = rules_for p marks
 
-  pub done_none : scratch' ≡ zeroed (length marks * cell_words) scratch → best R ≡ none → RouteDone p marks scratch scratch' visits visits (Answer.Refused Refusal.NoRoute)
+  pub done_none : scratch' ≡ zeroed (length marks * cell_words) scratch → best R ≡ none → RouteDone p marks scratch scratch' visits visits (RouteAnswer.Refused Refusal.NoRoute)
   unfolding answer_for visits_for
   done_none zeros e = record { answer = rw e; zero-words = zeros; filled = rw e }
 
@@ -47,10 +48,10 @@ module _ (p : Problem) (marks scratch scratch' visits : List ℕ) where
     unfolding visits_for
     left = rw (b.is_found, visits_for, b.steps_are) (rw made at d.filled)
 
-    pub done-no-room : w.fits ≡ false → RouteDone p marks scratch scratch' visits visits' (Answer.NoRoom figures)
+    pub done-no-room : w.fits ≡ false → RouteDone p marks scratch scratch' visits visits' (RouteAnswer.NoRoom figures)
     unfolding answer_for
     done-no-room e = record { answer = rw (b.is_found, answer_for, test false e, figures-are); zero-words = d.zero-words; filled = left }
 
-    pub done-found : w.fits ≡ true → RouteDone p marks scratch scratch' visits visits' (Answer.Found figures)
+    pub done-found : w.fits ≡ true → RouteDone p marks scratch scratch' visits visits' (RouteAnswer.Found figures)
     unfolding answer_for
     done-found e = record { answer = rw (b.is_found, answer_for, test true e, figures-are); zero-words = d.zero-words; filled = left }

@@ -5,17 +5,18 @@ use mathlib.Core.List.{List}
 use borrow.Author.Tests.{le-ltb, lt-ltb}
 use lib.ListN.{length}
 use Rattle.answers.specs.Tables.{elements_of}
-use Rattle.answers.specs.declared.answer.Answer.{Answer}
-use Rattle.answers.specs.declared.answer.Refusal.{Refusal}
+use Rattle.answers.specs.Numbers.{Answer}
+use Rattle.answers.specs.declared.refusal.Refusal.{Refusal}
 use Rattle.problem.specs.Problem.{plan_for, rules_for}
 use Rattle.question.specs.Checked.{problem_asked}
 use Rattle.question.proofs.Checks.{first-five, five-fail, cells-asked}
 use Rattle.router.specs.Route.{Question, rules_asked, cell_words, passes, fails, question_checks, checks, answer_after, answer_under, answer_of, scratch_after, scratch_of, visits_after, visits_under, visits_of, Routed}
 use Rattle.router.specs.Ready.{RouteDone}
+use Rattle.answers.specs.declared.answer.RouteAnswer.{RouteAnswer}
 
 module _ (q : Question) (scratch visits : List ℕ) where
   -- a refusal leaves everything as it is
-  pub refused : (r : Refusal) → checks q (length scratch) ≡ fails r → Routed q scratch scratch visits visits (Answer.Refused r)
+  pub refused : (r : Refusal) → checks q (length scratch) ≡ fails r → Routed q scratch scratch visits visits (RouteAnswer.Refused r)
   unfolding answer_of answer_under scratch_of visits_of visits_under answer_after scratch_after visits_after
   refused r e = record { answer = rw e; scratch_left = rw e; visits_left = rw e }
 

@@ -1,7 +1,7 @@
 -- What routing a problem that the checks have passed leaves.
 use Rattle.std.specs.Prelude.{ℕ, ◌*◌, ◌≡◌, List, length}
 use Rattle.best.specs.Best.{best}
-use Rattle.answers.specs.declared.answer.Answer.{Answer}
+use Rattle.answers.specs.Numbers.{Answer}
 use Rattle.problem.specs.declared.Problem.{Problem}
 use Rattle.problem.specs.Problem.{rules_for}
 use Rattle.router.specs.Route.{cell_words, answer_for, visits_for, zeroed}

@@ -10,8 +10,9 @@ use Rattle.rules.specs.Ranking.{registers, steps, latency, written}
 use Rattle.rules.specs.Slack.{least_slack}
 use Rattle.best.specs.Best.{Outcome, found, none, best}
 use Rattle.answers.specs.declared.answer.Figures.{Figures}
-use Rattle.answers.specs.declared.answer.Refusal.{Refusal}
-use Rattle.answers.specs.declared.answer.Answer.{Answer}
+use Rattle.answers.specs.declared.refusal.Refusal.{Refusal}
+use Rattle.answers.specs.Numbers.{Answer}
+use Rattle.answers.specs.declared.answer.RouteAnswer.{RouteAnswer}
 
 -- refusals 1 to 6, in this order, or none of them
 unfoldable pub checks : Question → ℕ → Check
@@ -24,8 +25,8 @@ figures_of R period r = record { registers = registers r; steps = steps r; laten
 -- Found, 8 or 7, by the words lent for the visits: two a visit
 unfoldable pub answer_for : Rules → ℕ → ℕ → Outcome → Answer
 answer_for R period room (found r) =
-    cond (leb (2 * (steps r + 1)) room) (Answer.Found (figures_of R period r)) (Answer.NoRoom (figures_of R period r))
-answer_for R period room none = Answer.Refused Refusal.NoRoute
+    cond (leb (2 * (steps r + 1)) room) (RouteAnswer.Found (figures_of R period r)) (RouteAnswer.NoRoom (figures_of R period r))
+answer_for R period room none = RouteAnswer.Refused Refusal.NoRoute
 
 -- the visits filled from their start, if there is room; later words stay
 unfoldable pub visits_for : Outcome → List ℕ → List ℕ
@@ -41,7 +42,7 @@ zeroed n words = replicate n 0 ++ drop n words
 
 unfoldable pub answer_after : Check → Rules → Question → List ℕ → Answer
 answer_after passes R q visits = answer_for R q.tables.period (length visits) (best R)
-answer_after (fails r) R q visits = Answer.Refused r
+answer_after (fails r) R q visits = RouteAnswer.Refused r
 
 unfoldable pub answer_under : Rules → Question → List ℕ → List ℕ → Answer
 answer_under R q scratch visits = answer_after (checks q (length scratch)) R q visits

@@ -24,9 +24,9 @@ use Rattle.emission.proofs.Visits.{written-length}
 use Rattle.answers.specs.Tables.{elements_of}
 use Rattle.answers.specs.Crossing.{clocks_of}
 use Rattle.answers.specs.declared.answer.Figures.{Figures}
-use Rattle.answers.specs.declared.answer.Answer.{Answer}
-use Rattle.answers.specs.declared.crossing.CrossingFigures.{CrossingFigures}
-use Rattle.answers.specs.declared.crossing.CrossingAnswer.{CrossingAnswer}
+use Rattle.answers.specs.Numbers.{Answer}
+use Rattle.answers.specs.declared.answer.CrossingFigures.{CrossingFigures}
+use Rattle.answers.specs.Numbers.{CrossingAnswer}
 use Rattle.answers.specs.declared.verdicts.VisitFault.{VisitFault}
 use Rattle.question.specs.Question.{Question, Check, passes, fails, rules_asked}
 use Rattle.question.specs.Crossing.{CrossingQuestion}
@@ -45,6 +45,7 @@ use Rattle.verdict.proofs.Exact.{verdict-exact}
 use Rattle.verdict.proofs.Accepted.{legal-visits}
 use Rattle.rule_changes.specs.Asked.{plan_asked}
 use Rattle.rule_changes.specs.KeepOut.{route_puts, puts_after, Ample, KeepOut, tap_last_asked, RouteKeepOut, tap_last_crossed, CrossingKeepOut, KeptOutVisit, KeptOutFault}
+use Rattle.answers.specs.declared.answer.RouteAnswer.{RouteAnswer}
 
 -- The words of two routes with as many steps tell them apart.
 
@@ -141,7 +142,7 @@ module _ (q : Question) (visits : List ℕ) where
   told-steps n r room e =
       ap (λ (f : Figures). f.steps) (told (leb (2 * (steps n + 1)) (length visits)) (rw (le-leb (2 * (steps r + 1)) (length visits) room) at e))
     where
-      told : (b : Bool) {f g : Figures} → cond b (Answer.Found f) (Answer.NoRoom f) ≡ Answer.Found g → f ≡ g
+      told : (b : Bool) {f g : Figures} → cond b (RouteAnswer.Found f) (RouteAnswer.NoRoom f) ≡ RouteAnswer.Found g → f ≡ g
       told true e = cc
       told false e = let z : ◌≡◌ {A = ℕ} 0 1 = cc in absurd (omega arith)
 
@@ -186,7 +187,7 @@ module _ (c : CrossingQuestion) (visits : List ℕ) where
   crossing-steps n r room e =
       ap (λ (f : CrossingFigures). f.steps) (told (leb (2 * (steps n + 1)) (length visits)) (rw (le-leb (2 * (steps r + 1)) (length visits) room) at e))
     where
-      told : (b : Bool) {f g : CrossingFigures} → cond b (CrossingAnswer.Found f) (CrossingAnswer.NoRoom f) ≡ CrossingAnswer.Found g → f ≡ g
+      told : (b : Bool) {f g : CrossingFigures} → cond b (RouteAnswer.Found f) (RouteAnswer.NoRoom f) ≡ RouteAnswer.Found g → f ≡ g
       told true e = cc
       told false e = let z : ◌≡◌ {A = ℕ} 0 1 = cc in absurd (omega arith)
 

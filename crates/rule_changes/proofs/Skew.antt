@@ -13,10 +13,10 @@ use Rattle.rules.proofs.Skew.{rules-unskewed, between-unskewed}
 use Rattle.budget.specs.Emission.{first_from}
 use Rattle.answers.specs.Tables.{tables_fault, elements_of}
 use Rattle.answers.specs.Crossing.{crossing_fault, clocks_of}
-use Rattle.answers.specs.declared.answer.Refusal.{Refusal}
+use Rattle.answers.specs.declared.refusal.Refusal.{Refusal}
 use Rattle.answers.specs.declared.tables.ElementFault.{ElementFault}
 use Rattle.answers.specs.declared.explained.Reason.{Reason}
-use Rattle.answers.specs.declared.explained.Explained.{Explained}
+use Rattle.answers.specs.Numbers.{Explained}
 use Rattle.question.specs.Question.{Question, Check, passes, fails, checks_with, question_checks, rules_asked}
 use Rattle.question.specs.Crossing.{CrossingQuestion, crossing_checks}
 use Rattle.router.specs.Route.{checks, answer_under, answer_of, visits_under, visits_of}
@@ -28,6 +28,7 @@ use Rattle.text.specs.Answers.{answer_text}
 use Rattle.printing.specs.Printed.{scratch_words, visit_words, blank, reading_text}
 use Rattle.rule_changes.specs.Asked.{plan_asked}
 use Rattle.rule_changes.specs.Skew.{unskewed_with, unskewed_asked, fault_before, AnswersBefore, unskewed_crossed, crossing_fault_before, CrossingsBefore}
+use Rattle.std.specs.Prelude.{Ok, Err}
 
 in-range : (s : ℕ) → s ≡ 0 → leb s skew_max ≡ true
 in-range s none = le-leb s skew_max (omega arith)
@@ -65,7 +66,7 @@ module _ (q : Question) (e : Elements) (none : e.skew ≡ 0) where
   from_chain chain rest = elim chain [ false ↦ Reason.WalledOff | true ↦ rest ]
 
   abbrev from_route : Bool → Reason → Explained
-  from_route own why = elim own [ true ↦ Explained.Refused Refusal.RouteExists | false ↦ Explained.Because why ]
+  from_route own why = elim own [ true ↦ Err Refusal.RouteExists | false ↦ Ok why ]
 
   reason : reason_with (rules_with q) e ≡ reason_with (unskewed_with q) e
   unfolding relaxed

@@ -9,10 +9,12 @@ use Rattle.rules.specs.KeepOut.{tap_last, tap_last_between, on_both, puts}
 use Rattle.best.specs.Best.{Outcome, found, none, best}
 use Rattle.answers.specs.Tables.{elements_of}
 use Rattle.answers.specs.Crossing.{clocks_of}
-use Rattle.answers.specs.declared.answer.Answer.{Answer}
-use Rattle.answers.specs.declared.crossing.CrossingAnswer.{CrossingAnswer}
+use Rattle.answers.specs.Numbers.{Answer}
+use Rattle.answers.specs.Numbers.{CrossingAnswer}
 use Rattle.answers.specs.declared.verdicts.VisitFault.{VisitFault}
-use Rattle.answers.specs.declared.verdicts.Verdict.{Verdict}
+use Rattle.std.specs.Prelude.{Ok, Err}
+use Rattle.answers.specs.declared.verdicts.Finding.{Finding}
+use Rattle.answers.specs.Numbers.{Verdict}
 use Rattle.question.specs.Question.{Question, Check, passes, fails, rules_asked, question_checks}
 use Rattle.question.specs.Crossing.{CrossingQuestion}
 use Rattle.router.specs.Route.{checks, answer_under, answer_of, visits_under, visits_of}
@@ -81,4 +83,4 @@ pub record KeptOutVisit (q : Question) (words : List ℕ) (i : ℕ) : Type 0 whe
   pub wire : T (fault_test (rules_asked q) (route_in words) i VisitFault.Wire)
 
 abbrev pub KeptOutFault : Question → List ℕ → ℕ → Type 0
-KeptOutFault q words i = KeptOutVisit q words i → verdict_of q words ≡ Verdict.AtFault i VisitFault.Site
+KeptOutFault q words i = KeptOutVisit q words i → verdict_of q words ≡ Ok (Finding.AtFault i VisitFault.Site)

@@ -5,7 +5,7 @@ use Rattle.rules.specs.Rules.{Rules}
 use Rattle.rules.specs.Unskewed.{unskewed_rules, unskewed_between}
 use Rattle.answers.specs.Tables.{require, period_in_range, register_ok, fault_from_limit, elements_of}
 use Rattle.answers.specs.Crossing.{clocks_of}
-use Rattle.answers.specs.declared.answer.Fault.{Fault}
+use Rattle.answers.specs.declared.refusal.Fault.{Fault}
 use Rattle.answers.specs.declared.tables.ElementFault.{ElementFault}
 use Rattle.question.specs.Question.{Question, Check, checks_with, question_checks}
 use Rattle.question.specs.Crossing.{CrossingQuestion, crossing_checks}

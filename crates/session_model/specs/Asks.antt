@@ -1,7 +1,9 @@
 -- A session's questions and their replies. A question is a call that reads the session's plan and is lent no part of the session to write on: `route`, `route_crossing`, `explain`, `judge`, `compare` and `better`. They stand in the files of Asks/; here they are joined, a case each.
 use Rattle.std.specs.Prelude.{ℕ, List, length}
-use Rattle.answers.specs.declared.verdicts.Verdict.{Verdict}
-use Rattle.answers.specs.declared.verdicts.Comparison.{Comparison}
+use Rattle.std.specs.Prelude.{Ok, Err}
+use Rattle.answers.specs.declared.verdicts.Finding.{Finding}
+use Rattle.answers.specs.Numbers.{Verdict}
+use Rattle.answers.specs.Numbers.{Comparison}
 use Rattle.verdict.specs.Verdict.{verdict_of}
 use Rattle.comparison.specs.Better.{comparison_of}
 use Rattle.session_model.specs.Asks.Asking.{asked}

@@ -1,5 +1,5 @@
 // The lines that are printed. Each function says why not all was written.
-use answers::Answer;
+use answers::{Answer, Numbered};
 use report::{filled, smaller, write_call, write_fault, write_figures, write_left, write_runs};
 use script::{NO_NUMBER, TOO_LARGE};
 use std::io::{Result, Write};

@@ -8,12 +8,13 @@ use lib.ListN.{length, get_or, length-append}
 use borrow.Author.Tests.{eq-eqb, ne_eqb}
 use Rattle.answers.specs.Numbers.{refusal_number}
 use Rattle.answers.specs.declared.answer.Figures.{Figures}
-use Rattle.answers.specs.declared.answer.Refusal.{Refusal}
-use Rattle.answers.specs.declared.answer.Answer.{Answer}
+use Rattle.answers.specs.declared.refusal.Refusal.{Refusal}
+use Rattle.answers.specs.Numbers.{Answer}
 use Rattle.text.specs.Decimal.{decimal}
 use Rattle.text.specs.Put.{Put}
 use Rattle.text.specs.Answers.{newline, space, refused_word, none_line, no_route, refused_line, refusal_text, figures_line, visit_line, visit_lines, answer_text, VisitsWithin}
 use Rattle.text.proofs.Texts.{put-none, put_then, short}
+use Rattle.answers.specs.declared.answer.RouteAnswer.{RouteAnswer}
 
 module _ {old new : List ℕ} {r : ℕ} (n : ℕ) where
   pub refusal-none : n ≡ no_route → Put none_line 0 r old new → Put (refusal_text n) 0 r old new
@@ -38,18 +39,18 @@ unfolding visit_lines
 lines_more visits i p q = rw add-one (put_then p q)
 
 -- the visits of an answer that was found are within the words lent
-pub within-found : (a : Answer) (f : Figures) (n : ℕ) → a ≡ Answer.Found f → VisitsWithin a n → 2 * (f.steps + 1) ≤ n
+pub within-found : (a : Answer) (f : Figures) (n : ℕ) → a ≡ RouteAnswer.Found f → VisitsWithin a n → 2 * (f.steps + 1) ≤ n
 unfolding VisitsWithin
 within-found a f n e w = rw e at w
 
-pub text-found : (a : Answer) (f : Figures) (visits : List ℕ) → a ≡ Answer.Found f → figures_line f ++ visit_lines visits (f.steps + 1) ≡ answer_text a visits
+pub text-found : (a : Answer) (f : Figures) (visits : List ℕ) → a ≡ RouteAnswer.Found f → figures_line f ++ visit_lines visits (f.steps + 1) ≡ answer_text a visits
 unfolding answer_text
 text-found a f visits e = rw (e, answer_text)
 
-pub text-no-room : (a : Answer) (f : Figures) (visits : List ℕ) → a ≡ Answer.NoRoom f → refusal_text 8 ≡ answer_text a visits
+pub text-no-room : (a : Answer) (f : Figures) (visits : List ℕ) → a ≡ RouteAnswer.NoRoom f → refusal_text 8 ≡ answer_text a visits
 unfolding answer_text
 text-no-room a f visits e = rw (e, answer_text)
 
-pub text-refused : (a : Answer) (r : Refusal) (visits : List ℕ) → a ≡ Answer.Refused r → refusal_text (refusal_number r) ≡ answer_text a visits
+pub text-refused : (a : Answer) (r : Refusal) (visits : List ℕ) → a ≡ RouteAnswer.Refused r → refusal_text (refusal_number r) ≡ answer_text a visits
 unfolding answer_text
 text-refused a r visits e = rw (e, answer_text)

@@ -4,7 +4,7 @@ ghost use Rattle.text.specs.Put.{Put};
 ghost use Rattle.text.specs.Answers.{refusal_text, figures_line, visit_line, visit_lines, answer_text, VisitsWithin, text_room};
 
 use crate::put::{put_byte, put_decimal, put_signed, put_word};
-use answers::{Answer, Figures};
+use answers::{Answer, Figures, Numbered};
 
 // The number of "no route".
 const NO_ROUTE: u16 = 7;

@@ -1,6 +1,6 @@
 -- The tables that the checks vary, and a number for each fault of theirs.
 use Rattle.std.specs.Prelude.{ℕ, [], ◌∷◌}
-use Rattle.answers.specs.declared.answer.Fault.TheVariants.{Period, SourcePeriod, SinkPeriod, Skew, Limit, Horizontal, Vertical, Register, Fifo, Count, Buffer}
+use Rattle.answers.specs.declared.refusal.Fault.TheVariants.{Period, SourcePeriod, SinkPeriod, Skew, Limit, Horizontal, Vertical, Register, Fifo, Count, Buffer}
 use Rattle.answers.specs.declared.tables.ElementFault.{ElementFault}
 use Rattle.answers.specs.declared.tables.ElementFault.TheVariants.{Nothing, At}
 use Rattle.answers.specs.declared.records.Tables.{Tables}

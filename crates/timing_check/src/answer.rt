@@ -1,8 +1,8 @@
 // Refusal 5, and the numbers and figures of answers with one clock and two, verdicts, comparisons and reasons.
-use answers::{
-    Answer, Comparison, CrossingAnswer, CrossingFigures, Explained, Figures, Reason, Refusal,
-    Verdict, VisitFault, ends_fault,
-};
+ghost use Rattle.std.specs.Prelude.{◌≡◌};
+ghost use Rattle.answers.specs.Numbers.{verdict_number, comparison_number, explained_number};
+
+use answers::{Answer, Comparison, CrossingAnswer, CrossingFigures, Explained, Figures, Finding, Numbered, Reason, Refusal, Verdict, VisitFault, Which, ends_fault};
 use check::expect;
 
 pub fn ends() {
@@ -45,20 +45,38 @@ pub fn crossings() {
 }
 
 pub fn verdicts() {
-    expect(Verdict::Accepted(26).number() == 0);
-    expect(Verdict::AtFault(3, VisitFault::Period(-1)).number() == 0);
-    expect(Verdict::AtFault(3, VisitFault::Load).number() == 0);
-    expect(Verdict::Refused(Refusal::Ends).number() == 5);
-    expect(Verdict::Refused(Refusal::RouteList).number() == 17);
-    expect(Comparison::First.number() == 0);
-    expect(Comparison::Second.number() == 0);
-    expect(Comparison::Refused(Refusal::RouteList).number() == 17);
-    expect(Comparison::Refused(Refusal::NoneLegal).number() == 18);
+    expect(judged(Ok(Finding::Accepted(26))) == 0);
+    expect(judged(Ok(Finding::AtFault(3, VisitFault::Period(-1)))) == 0);
+    expect(judged(Ok(Finding::AtFault(3, VisitFault::Load))) == 0);
+    expect(judged(Err(Refusal::Ends)) == 5);
+    expect(judged(Err(Refusal::RouteList)) == 17);
+    expect(compared(Ok(Which::First)) == 0);
+    expect(compared(Ok(Which::Second)) == 0);
+    expect(compared(Err(Refusal::RouteList)) == 17);
+    expect(compared(Err(Refusal::NoneLegal)) == 18);
 }
 
 pub fn reasons() {
-    expect(Explained::Because(Reason::WalledOff).number() == 0);
-    expect(Explained::Because(Reason::Period(12)).number() == 0);
-    expect(Explained::Refused(Refusal::Scratch).number() == 6);
-    expect(Explained::Refused(Refusal::RouteExists).number() == 19);
+    expect(explained(Ok(Reason::WalledOff)) == 0);
+    expect(explained(Ok(Reason::Period(12))) == 0);
+    expect(explained(Err(Refusal::Scratch)) == 6);
+    expect(explained(Err(Refusal::RouteExists)) == 19);
+}
+
+fn judged(verdict: Verdict) -> u16
+    ensures { result ≡ verdict_number verdict }
+{
+    verdict.number()
+}
+
+fn compared(comparison: Comparison) -> u16
+    ensures { result ≡ comparison_number comparison }
+{
+    comparison.number()
+}
+
+fn explained(reason: Explained) -> u16
+    ensures { result ≡ explained_number reason }
+{
+    reason.number()
 }

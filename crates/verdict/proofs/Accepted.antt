@@ -12,8 +12,8 @@ use Rattle.plan.proofs.Truth.{of-true}
 use Rattle.timing.specs.Slack.{slack_most}
 use Rattle.answers.specs.declared.verdicts.VisitFault.{VisitFault}
 use Rattle.answers.specs.declared.verdicts.VisitFault.TheVariants.{Cell, Wire, Site, Load, Period}
-use Rattle.answers.specs.declared.verdicts.Verdict.{Verdict}
-use Rattle.answers.specs.declared.verdicts.Verdict.TheVariants.{Accepted, AtFault, Refused}
+use Rattle.answers.specs.declared.verdicts.Finding.{Finding}
+use Rattle.answers.specs.declared.verdicts.Finding.TheVariants.{Accepted, AtFault}
 use Rattle.rules.specs.Rules.{Rules, register_code}
 use Rattle.rules.specs.Legal.{Visit, Route, arrive, is_last, cell_right, wire_right, code_right, load_right, period_right, visit_right, legal_from, first_right, legal}
 use Rattle.rules.specs.Beginning.{Place, next_place, start_place}
@@ -24,10 +24,9 @@ use Rattle.rules.proofs.Slack.{least-next, least-none}
 use Rattle.verdict.specs.Verdict.{VisitCheck, right, wrong, or_wrong, visit_check, first_check, judge_from, judge_route}
 
 -- what a verdict says of a route that is legal or not and has this smallest figure
-abbrev Says : Verdict → Bool → ℤ → Type 0
+abbrev Says : Finding → Bool → ℤ → Type 0
 Says (Accepted z) ok least = (ok ≡ true) × (z ≡ least)
 Says (AtFault i f) ok least = ok ≡ false
-Says (Refused k) ok least = ⊥
 
 -- A chain of tests is right if all pass, and otherwise wrong.
 
@@ -78,15 +77,13 @@ module _ (R : Rules) where
 pub accepted-legal : (R : Rules) (r : Route) → 2 ≤ length r → (z : ℤ) → (judge_route R r ≡ Accepted z) ↔ (T (legal R r) × (z ≡ least_slack R r))
 accepted-legal R r h z = (λ e. there (judge_route R r) e (said R r h), λ k. back (judge_route R r) (said R r h) k.0 k.1)
   where
-    there : (j : Verdict) → j ≡ Accepted z → Says j (legal R r) (least_slack R r) → T (legal R r) × (z ≡ least_slack R r)
+    there : (j : Finding) → j ≡ Accepted z → Says j (legal R r) (least_slack R r) → T (legal R r) × (z ≡ least_slack R r)
     there (Accepted y) e q = let same : y ≡ z = cc in (of-true (legal R r) q.0, sym same ∙ q.1)
     there (AtFault i f) e q = absurd (let n : ◌≡◌ {A = ℕ} 0 1 = cc in omega arith)
-    there (Refused k) e q = absurd q
 
-    back : (j : Verdict) → Says j (legal R r) (least_slack R r) → T (legal R r) → z ≡ least_slack R r → j ≡ Accepted z
+    back : (j : Finding) → Says j (legal R r) (least_slack R r) → T (legal R r) → z ≡ least_slack R r → j ≡ Accepted z
     back (Accepted y) q k e = ap Accepted (q.1 ∙ sym e)
     back (AtFault i f) q k e = absurd (rw q at k)
-    back (Refused n) q k e = absurd q
 
 -- a legal route has both ends
 pub legal-visits : (R : Rules) (r : Route) → T (legal R r) → 2 ≤ length r

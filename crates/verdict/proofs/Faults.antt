@@ -11,11 +11,11 @@ use lib.IntN.{ℤ}
 use lib.ListN.{length, take, drop}
 use Rattle.plan.proofs.Truth.{three-way}
 use Rattle.timing.specs.Slack.{slack_most}
-use Rattle.answers.specs.declared.answer.Refusal.{Refusal}
+use Rattle.answers.specs.declared.refusal.Refusal.{Refusal}
 use Rattle.answers.specs.declared.verdicts.VisitFault.{VisitFault}
 use Rattle.answers.specs.declared.verdicts.VisitFault.TheVariants.{Cell, Wire, Site, Load, Period}
-use Rattle.answers.specs.declared.verdicts.Verdict.{Verdict}
-use Rattle.answers.specs.declared.verdicts.Verdict.TheVariants.{Accepted, AtFault, Refused}
+use Rattle.answers.specs.declared.verdicts.Finding.{Finding}
+use Rattle.answers.specs.declared.verdicts.Finding.TheVariants.{Accepted, AtFault}
 use Rattle.rules.specs.Rules.{Rules}
 use Rattle.rules.specs.Legal.{Route, is_last}
 use Rattle.rules.specs.Beginning.{Place, next_place, place_from, start_place, place_after}
@@ -33,13 +33,12 @@ record FaultAmong (t : ℕ → VisitFault → Bool) (z : ℕ → ℤ) (n k i : �
   pub first : FirstWrong (t place) (z place) f
 
 -- what a verdict says of them
-abbrev Judged : Verdict → (ℕ → VisitFault → Bool) → (ℕ → ℤ) → ℕ → ℕ → Type 0
+abbrev Judged : Finding → (ℕ → VisitFault → Bool) → (ℕ → ℤ) → ℕ → ℕ → Type 0
 Judged (Accepted y) t z n k = (j : ℕ) → j < n → (g : VisitFault) → T (t j g)
 Judged (AtFault i f) t z n k = FaultAmong t z n k i f
-Judged (Refused r) t z n k = ⊥
 
 -- one visit more, which is right
-judged-more : (x : Verdict) (t : ℕ → VisitFault → Bool) (z : ℕ → ℤ) (n k : ℕ) → ((g : VisitFault) → T (t 0 g)) → Judged x (λ j. t (suc j)) (λ j. z (suc j)) n (suc k) → Judged x t z (suc n) k
+judged-more : (x : Finding) (t : ℕ → VisitFault → Bool) (z : ℕ → ℤ) (n k : ℕ) → ((g : VisitFault) → T (t 0 g)) → Judged x (λ j. t (suc j)) (λ j. z (suc j)) n (suc k) → Judged x t z (suc n) k
 judged-more (Accepted y) t z n k h q = λ j b g. go j b g
   where
     go : (j : ℕ) → j < suc n → (g : VisitFault) → T (t j g)
@@ -57,7 +56,6 @@ judged-more (AtFault i f) t z n k h q =
     go : (j : ℕ) → j < suc q.place → (g : VisitFault) → T (t j g)
     go zero b g = h g
     go (suc j) b g = q.before j (omega arith) g
-judged-more (Refused r) t z n k h q = absurd q
 
 module _ (R : Rules) where
   abbrev tests_from : Place → Route → ℕ → VisitFault → Bool
@@ -71,7 +69,7 @@ module _ (R : Rules) where
   judged-from k a least [] = λ j h g. absurd (omega arith)
   judged-from k a least (v ∷ vs) = go (visit_check R a (is_last vs) v) (visit-tells R a (is_last vs) v) (judged-from (suc k) (next_place R a v) (slack_after R a least v) vs)
     where
-      rest : Verdict
+      rest : Finding
       rest = judge_from R (suc k) (next_place R a v) (slack_after R a least v) vs
 
       go : (x : VisitCheck) → Tells x (later_test R a (is_last vs) v) (slack_at R a v) → Judged rest (tests_from (next_place R a v) vs) (figures_from (next_place R a v) vs) (length vs) (suc k) → Judged (elim x [ wrong f ↦ AtFault k f | right ↦ rest ]) (tests_from a (v ∷ vs)) (figures_from a (v ∷ vs)) (length (v ∷ vs)) k
@@ -83,7 +81,7 @@ module _ (R : Rules) where
   judged [] = λ j h g. absurd (omega arith)
   judged (v ∷ vs) = go (first_check R v) (first-tells R v slack_most)
     where
-      rest : Verdict
+      rest : Finding
       rest = judge_from R 1 (start_place R v) slack_most vs
 
       go : (x : VisitCheck) → Tells x (sink_test R v) slack_most → Judged (elim x [ wrong f ↦ AtFault 0 f | right ↦ rest ]) (fault_test R (v ∷ vs)) (close_figure R (v ∷ vs)) (length (v ∷ vs)) 0
@@ -143,31 +141,20 @@ module _ (R : Rules) (r : Route) where
       let h : FirstFault R r q.place f = record { in_list = q.in_list; before = q.before; earlier = q.first.earlier; fails = q.first.fails; figure = q.first.figure } in
       rw e at h
 
-  told : (x : Verdict) (i : ℕ) (f : VisitFault) → Judged x (fault_test R r) (close_figure R r) (length r) 0 → x ≡ AtFault i f → FirstFault R r i f
+  told : (x : Finding) (i : ℕ) (f : VisitFault) → Judged x (fault_test R r) (close_figure R r) (length r) 0 → x ≡ AtFault i f → FirstFault R r i f
   told (Accepted y) i f q e = absurd (let z : ◌≡◌ {A = ℕ} 0 1 = cc in omega arith)
   told (AtFault j g) i f q e =
       let a : j ≡ i = cc in
       let b : g ≡ f = cc in
       rw (a, b) at (among_first q)
-  told (Refused k) i f q e = absurd q
 
-  tells : (x : Verdict) (i : ℕ) (f : VisitFault) → Judged x (fault_test R r) (close_figure R r) (length r) 0 → FirstFault R r i f → x ≡ AtFault i f
+  tells : (x : Finding) (i : ℕ) (f : VisitFault) → Judged x (fault_test R r) (close_figure R r) (length r) 0 → FirstFault R r i f → x ≡ AtFault i f
   tells (Accepted y) i f q h = absurd (clash (fault_test R r i f) (q i h.in_list f) h.fails)
   tells (AtFault j g) i f q h =
       let a : j ≡ i = place-unique (among_first q) h in
       let b : g ≡ f = fault-unique (rw a at (among_first q)) h in
       cc
-  tells (Refused k) i f q h = absurd q
 
   -- The verdict tells a fault exactly if it is the first one.
   pub fault-first : (i : ℕ) (f : VisitFault) → (judge_route R r ≡ AtFault i f) ↔ FirstFault R r i f
   fault-first i f = (told (judge_route R r) i f (judged R r), tells (judge_route R r) i f (judged R r))
-
-  -- The rules refuse no route.
-  pub judge-answers : (k : Refusal) → judge_route R r ≡ Refused k → ⊥
-  judge-answers k e = go (judge_route R r) e (judged R r)
-    where
-      go : (x : Verdict) → x ≡ Refused k → Judged x (fault_test R r) (close_figure R r) (length r) 0 → ⊥
-      go (Accepted y) e q = let z : ◌≡◌ {A = ℕ} 0 1 = cc in omega arith
-      go (AtFault i f) e q = let z : ◌≡◌ {A = ℕ} 0 1 = cc in omega arith
-      go (Refused k) e q = q

@@ -9,7 +9,7 @@ use borrow.Author.Tests.{ne_eqb}
 use lib.Dec.{eqb, ltb, ltb→lt}
 use lib.ListN.{length}
 use Rattle.answers.specs.declared.verdicts.VisitFault.{VisitFault}
-use Rattle.answers.specs.declared.verdicts.Verdict.TheVariants.{Accepted, AtFault}
+use Rattle.answers.specs.declared.verdicts.Finding.TheVariants.{Accepted, AtFault}
 use Rattle.plan.specs.Plan.{cells}
 use Rattle.plan.proofs.Truth.{of-true, snd}
 use Rattle.rules.specs.Rules.{Rules, rules_of}

@@ -9,7 +9,7 @@ use lib.IntN.{ℤ}
 use lib.ListN.{length, drop, get_or, drop_of_length-le}
 use Rattle.timing.specs.Slack.{slack_most}
 use Rattle.answers.specs.declared.verdicts.VisitFault.{VisitFault}
-use Rattle.answers.specs.declared.verdicts.Verdict.TheVariants.{Accepted, AtFault}
+use Rattle.answers.specs.declared.verdicts.Finding.TheVariants.{Accepted, AtFault}
 use Rattle.rules.specs.Rules.{Rules}
 use Rattle.rules.specs.Legal.{Visit, is_last}
 use Rattle.rules.specs.Beginning.{Place, next_place, start_place}

@@ -1,12 +1,13 @@
 -- The whole effect of the verdict on a route list from outside: document 02, C-11 and C-12. It accepts the legal routes, with the smallest spare figure; of another it tells the first visit at fault and the first fault there. Everything lent is only read.
 -- The visits are tried one by one from the sink on. The proofs say that this is document 01's `legal`, and what the first fault is (Fault.antt).
-use Rattle.std.specs.Prelude.{ℕ, suc, ◌%◌, Bool, ◌&&◌, ◌||◌, cond, List, [], ◌∷◌, eqb, leb, ltb, ℤ, length}
+use Rattle.std.specs.Prelude.{Ok, Err, ℕ, suc, ◌%◌, Bool, ◌&&◌, ◌||◌, cond, List, [], ◌∷◌, eqb, leb, ltb, ℤ, length}
 use Rattle.timing.specs.Slack.{slack_most}
 use Rattle.answers.specs.declared.verdicts.VisitFault.{VisitFault}
 use Rattle.answers.specs.declared.verdicts.VisitFault.TheVariants.{Cell, Wire, Site, Load, Period}
-use Rattle.answers.specs.declared.verdicts.Verdict.{Verdict}
-use Rattle.answers.specs.declared.verdicts.Verdict.TheVariants.{Accepted, AtFault, Refused}
-use Rattle.answers.specs.declared.answer.Refusal.{Refusal}
+use Rattle.answers.specs.declared.verdicts.Finding.{Finding}
+use Rattle.answers.specs.declared.verdicts.Finding.TheVariants.{Accepted, AtFault}
+use Rattle.answers.specs.Numbers.{Verdict}
+use Rattle.answers.specs.declared.refusal.Refusal.{Refusal}
 use Rattle.rules.specs.Rules.{Rules, register_code}
 use Rattle.rules.specs.Legal.{Visit, Route, arrive, is_last, cell_right, wire_right, code_right, load_right, period_right}
 use Rattle.rules.specs.Beginning.{Place, next_place, start_place}
@@ -50,7 +51,7 @@ first_check R v =
     (or_wrong (leb R.start.load R.limit) Load right))
 
 -- the visits from number i on; `least`: the smallest spare figure of the spans closed so far
-unfoldable pub judge_from : Rules → ℕ → Place → ℤ → Route → Verdict
+unfoldable pub judge_from : Rules → ℕ → Place → ℤ → Route → Finding
 judge_from R i a least [] = Accepted least
 judge_from R i a least (v ∷ vs) =
     elim (visit_check R a (is_last vs) v) [
@@ -59,15 +60,15 @@ judge_from R i a least (v ∷ vs) =
     ]
 
 -- the verdict on a route of two visits or more; a shorter list is refused with 17. No span has more than `slack_most`.
-unfoldable pub judge_route : Rules → Route → Verdict
+unfoldable pub judge_route : Rules → Route → Finding
 judge_route R [] = Accepted slack_most
 judge_route R (v ∷ vs) = elim (first_check R v) [ wrong f ↦ AtFault 0 f | right ↦ judge_from R 1 (start_place R v) slack_most vs ]
 
 -- Refusals 1 to 5, then 17; then the verdict. It is told under any rules R; the call's own are those of the question.
 
 unfoldable pub verdict_after : Check → Rules → List ℕ → Verdict
-verdict_after passes R ws = judge_route R (route_in ws)
-verdict_after (fails r) R ws = Refused r
+verdict_after passes R ws = Ok (judge_route R (route_in ws))
+verdict_after (fails r) R ws = Err r
 
 abbrev pub verdict_under : Rules → Question → List ℕ → Verdict
 verdict_under R q ws = verdict_after (question_checks q (or_else (bad_list ws) Refusal.RouteList passes)) R ws

@@ -35,14 +35,14 @@ pub fn judge_read(
     let outcome = checked.outcome;
     match outcome {
         Checked::Fails(r) => {
-            return Verdict::Refused(r);
+            return Err(r);
         }
         Checked::Passes => {
             if bad_list(words) {
-                return Verdict::Refused(Refusal::RouteList);
+                return Err(Refusal::RouteList);
             }
             let p = checked.problem;
-            return judge_ready(plan, p, words);
+            return Ok(judge_ready(plan, p, words));
         }
     }
 }

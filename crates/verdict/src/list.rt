@@ -6,7 +6,7 @@ ghost use Rattle.verdict.specs.Visits.{Judging};
 
 use crate::gates::{Point, VisitStep};
 use crate::visits::{judge_first, judge_visit};
-use answers::Verdict;
+use answers::Finding;
 use problem::Problem;
 
 // Refusal 17: an odd number of words, or under two visits.
@@ -20,7 +20,7 @@ pub fn bad_list(words: &[u16]) -> bool
 }
 
 // The visits after the first, from the point after it.
-fn judge_rest(plan: &[u8], p: Problem, words: &[u16], start: Point) -> Verdict
+fn judge_rest(plan: &[u8], p: Problem, words: &[u16], start: Point) -> Finding
     requires { Ready p plan.now × ((bad_list words.now ≡ false) × Judging p plan.now words.now 1 start) }
     ensures { result ≡ judge_route (rules_for p plan.now) (route_in words.now) }
 {
@@ -32,7 +32,7 @@ fn judge_rest(plan: &[u8], p: Problem, words: &[u16], start: Point) -> Verdict
         let step = judge_visit(plan, p, at, i + 1 == n, cell, words[2 * i + 1]);
         match step {
             VisitStep::Fault(f) => {
-                return Verdict::AtFault(i, f);
+                return Finding::AtFault(i, f);
             }
             VisitStep::On(to) => {
                 at = to;
@@ -40,18 +40,18 @@ fn judge_rest(plan: &[u8], p: Problem, words: &[u16], start: Point) -> Verdict
         }
         i += 1;
     }
-    Verdict::Accepted(at.slack)
+    Finding::Accepted(at.slack)
 }
 
 // The verdict on a list that is not refused, of a problem that the checks have passed.
-pub fn judge_ready(plan: &[u8], p: Problem, words: &[u16]) -> Verdict
+pub fn judge_ready(plan: &[u8], p: Problem, words: &[u16]) -> Finding
     requires { Ready p plan.now × (bad_list words.now ≡ false) }
     ensures { result ≡ judge_route (rules_for p plan.now) (route_in words.now) }
 {
     let first = judge_first(plan, p, words[0] as usize, words[1]);
     match first {
         VisitStep::Fault(f) => {
-            return Verdict::AtFault(0, f);
+            return Finding::AtFault(0, f);
         }
         VisitStep::On(start) => {
             return judge_rest(plan, p, words, start);

@@ -9,7 +9,7 @@ use lib.ListN.{length, take, replicate, length-replicate}
 use lib.Seq.{take_at}
 use Rattle.plan.specs.Plan.{cells}
 use Rattle.plan.specs.Check.{grid_fault, length_fault, checked_plan}
-use Rattle.answers.specs.declared.answer.Refusal.{Refusal}
+use Rattle.answers.specs.declared.refusal.Refusal.{Refusal}
 use Rattle.question.specs.Question.{Question, cells_asked, Check, passes, fails, after_plan, or_else, question_checks}
 use Rattle.question.proofs.Checks.{passed}
 use Rattle.router.specs.Route.{zeroed}

@@ -1,4 +1,5 @@
 -- The questions on two lists: what the calls hand back is what the rules give, and they give one reply.
+use Rattle.std.specs.Prelude.{Ok, Err}
 use Prim.Native.Nat.{ℕ}
 use mathlib.Core.Bool.{Bool, true, false, ◌&&◌, ◌||◌, cond}
 use mathlib.Core.List.{List}
@@ -8,9 +9,9 @@ use denote.Ref.{Bor}
 use lib.Dec.{T}
 use Rattle.rules.specs.Legal.{legal}
 use Rattle.rules.specs.Ranking.{registers, ranks_before}
-use Rattle.answers.specs.declared.answer.Refusal.{Refusal}
-use Rattle.answers.specs.declared.verdicts.Comparison.{Comparison}
-use Rattle.answers.specs.declared.verdicts.Comparison.TheVariants.{First, Second, Refused}
+use Rattle.answers.specs.declared.refusal.Refusal.{Refusal}
+use Rattle.answers.specs.Numbers.{Comparison}
+use Rattle.answers.specs.declared.verdicts.Which.TheVariants.{First, Second}
 use Rattle.question.specs.Question.{Question, rules_asked, Check, passes, fails}
 use Rattle.verdict.specs.Verdict.{route_in, bad_list}
 use Rattle.comparison.specs.Better.{comparison_for, comparison_after, comparison_of, Handed}
@@ -19,7 +20,7 @@ use Rattle.session_model.specs.Asks.Asking.{asked, list_checks}
 use Rattle.session_model.specs.Asks.Better.{PairAsk, AlikePairs, CompareAnswered, not_compared, first_better, second_better, neither_legal, BetterReply, LendsBack, handed_back, better_of, BetterAnswered, hands_first, hands_second, hands_none}
 
 -- The comparison by its three tests: `x` and `y`, the lists are legal; `z`, the second ranks before the first.
-by_tests : (x y z : Bool) (P : Comparison → Type 0) → (T x → (T y → T z → ⊥) → P First) → (T y → (T x → T z) → P Second) → ((T x → ⊥) → (T y → ⊥) → P (Refused Refusal.NoneLegal)) → P (cond x (cond (y && z) Second First) (cond y Second (Refused Refusal.NoneLegal)))
+by_tests : (x y z : Bool) (P : Comparison → Type 0) → (T x → (T y → T z → ⊥) → P (Ok First)) → (T y → (T x → T z) → P (Ok Second)) → ((T x → ⊥) → (T y → ⊥) → P (Err Refusal.NoneLegal)) → P (cond x (cond (y && z) (Ok Second) (Ok First)) (cond y (Ok Second) (Err Refusal.NoneLegal)))
 by_tests true true true P first second none = second tt (λ h. tt)
 by_tests true true false P first second none = first tt (λ h k. k)
 by_tests true false z P first second none = first tt (λ h k. h)
@@ -60,9 +61,9 @@ module _ (q : Question) (a b : List ℕ) where
   better-answered = go (comparison_of q a b) compare-answered
     where
       go : (c : Comparison) → CompareAnswered q a b c → BetterAnswered q a b (handed_back c a b)
-      go First h = hands_first h
-      go Second h = hands_second h
-      go (Refused r) h = hands_none r h
+      go (Ok First) h = hands_first h
+      go (Ok Second) h = hands_second h
+      go (Err r) h = hands_none r h
 
 -- The contract of `better` says of references what the reply says.
 pub handed-is : (q : Question) (a b r : Bor (List ℕ)) → Handed (comparison_of q a.now b.now) a b r ↔ LendsBack (better_of q a.now b.now) a b r
@@ -70,9 +71,9 @@ unfolding better_of handed_back
 handed-is q a b r = go (comparison_of q a.now b.now)
   where
     go : (c : Comparison) → Handed c a b r ↔ LendsBack (handed_back c a.now b.now) a b r
-    go First = (λ e. (e, ap (λ x. x.now) e), λ h. h.0)
-    go Second = (λ e. (e, ap (λ x. x.now) e), λ h. h.0)
-    go (Refused k) = (λ e. e, λ e. e)
+    go (Ok First) = (λ e. (e, ap (λ x. x.now) e), λ h. h.0)
+    go (Ok Second) = (λ e. (e, ap (λ x. x.now) e), λ h. h.0)
+    go (Err k) = (λ e. e, λ e. e)
 
 pub alike-compares : {a b : PairAsk} → AlikePairs a b → (marks : List ℕ) → comparison_of (asked a.asking marks) a.first a.second ≡ comparison_of (asked b.asking marks) b.first b.second
 alike-compares e marks = rw (e.asking, e.first, e.second)

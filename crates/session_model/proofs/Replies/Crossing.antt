@@ -7,8 +7,8 @@ use lib.ListN.{length, take}
 use lib.Seq.{take_at}
 use Rattle.rules.specs.Ranking.{written}
 use Rattle.answers.specs.Numbers.{crossed_words}
-use Rattle.answers.specs.declared.answer.Refusal.{Refusal}
-use Rattle.answers.specs.declared.crossing.CrossingAnswer.{CrossingAnswer}
+use Rattle.answers.specs.declared.refusal.Refusal.{Refusal}
+use Rattle.answers.specs.Numbers.{CrossingAnswer}
 use Rattle.crossing_router.specs.Route.{crossing_words, CrossingQuestion, rules_crossed, Check, passes, fails, checks, figures_of, answer_after, crossing_answer_of, visits_after, crossing_visits_of, scratch_after, crossing_scratch_of}
 use Rattle.crossing_router.proofs.Passed.{asked-best, asked-none}
 use Rattle.crossing_router.proofs.Demand2.{Demand2Crossing, demand-2-crossing}

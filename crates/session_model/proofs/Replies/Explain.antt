@@ -4,7 +4,7 @@ use mathlib.Core.List.{List}
 use mathlib.Core.Path.{◌≡◌, refl}
 use lib.ListN.{length}
 use Rattle.question.specs.Question.{Question, Check, passes, fails}
-use Rattle.answers.specs.declared.answer.Refusal.{Refusal}
+use Rattle.answers.specs.declared.refusal.Refusal.{Refusal}
 use Rattle.router.specs.Route.{cell_words, checks, scratch_after, scratch_of}
 use Rattle.reasons.specs.Reasons.{explained_after, explained_of}
 use Rattle.reasons.proofs.Explained.{explained-true, explained-only}

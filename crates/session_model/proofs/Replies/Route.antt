@@ -11,8 +11,8 @@ use Rattle.rules.specs.Rules.{Rules}
 use Rattle.rules.specs.Legal.{Route, legal}
 use Rattle.rules.specs.Ranking.{steps, written}
 use Rattle.answers.specs.Numbers.{filled_words}
-use Rattle.answers.specs.declared.answer.Answer.{Answer}
-use Rattle.answers.specs.declared.answer.Refusal.{Refusal}
+use Rattle.answers.specs.Numbers.{Answer}
+use Rattle.answers.specs.declared.refusal.Refusal.{Refusal}
 use Rattle.emission.proofs.Visits.{written-length}
 use Rattle.verdict.proofs.Accepted.{legal-visits}
 use Rattle.router.specs.Route.{cell_words, Question, rules_asked, Check, passes, fails, checks, figures_of, answer_after, answer_under, answer_of, visits_after, visits_under, visits_of, scratch_after, scratch_of}

@@ -3,7 +3,7 @@ use Rattle.std.specs.Prelude.{ℕ, ◌*◌, Bool, List, replicate}
 use Rattle.answers.specs.Lists.{list_of}
 use Rattle.answers.specs.declared.records.Tables.{Tables}
 use Rattle.answers.specs.declared.records.BufferRecord.{BufferRecord}
-use Rattle.answers.specs.declared.answer.Refusal.{Refusal}
+use Rattle.answers.specs.declared.refusal.Refusal.{Refusal}
 use Rattle.question.specs.Question.{Question, question_of, cells_asked, Check, passes, fails, or_else, question_checks}
 
 -- the sides are the caller's words too, for the calls have no record

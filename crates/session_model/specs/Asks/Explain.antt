@@ -1,12 +1,13 @@
 -- The call that tells why there is no route, as a session's question: what it is lent and told, its reply, what the call gives, what the rules give.
 use Rattle.std.specs.Prelude.{ℕ, List, [], ◌≡◌, length, take}
-use Rattle.answers.specs.declared.answer.Refusal.{Refusal}
-use Rattle.answers.specs.declared.explained.Explained.{Explained}
+use Rattle.answers.specs.declared.refusal.Refusal.{Refusal}
+use Rattle.answers.specs.Numbers.{Explained}
 use Rattle.question.specs.Question.{Question, Check, passes, fails}
 use Rattle.router.specs.Route.{cell_words, checks, scratch_of}
 use Rattle.reasons.specs.Explains.{Explains}
 use Rattle.reasons.specs.Reasons.{rules_with, explained_after, explained_of}
 use Rattle.session_model.specs.Asks.Asking.{Asking, zeroed_words, zeros}
+use Rattle.std.specs.Prelude.{Ok, Err}
 
 -- the call is lent scratch words, too
 pub record ExplainAsk : Type 0 where
@@ -34,7 +35,7 @@ explain_gives q scratch =
 -- what the model gives: from the length of what is lent alone
 unfoldable pub explain_after : Check → Question → ExplainReply
 explain_after passes q = record { answer = explained_after passes (rules_with q) q; zeroed = zeros cell_words q }
-explain_after (fails r) q = record { answer = Explained.Refused r; zeroed = [] }
+explain_after (fails r) q = record { answer = Err r; zeroed = [] }
 
 unfoldable pub explain_reply : Question → ℕ → ExplainReply
 explain_reply q scratch = explain_after (checks q scratch) q
@@ -42,6 +43,6 @@ explain_reply q scratch = explain_after (checks q scratch) q
 -- The reply that the rules give, with no search: the refusal, or what is true in document 02's words.
 pub data ExplainAnswered (q : Question) (scratch : ℕ) : ExplainReply → Type 0 where
   -- 1 to 6, the first in its order: nothing is zeroed
-  not_explained : (r : Refusal) → checks q scratch ≡ fails r → ExplainAnswered q scratch (record { answer = Explained.Refused r; zeroed = [] })
+  not_explained : (r : Refusal) → checks q scratch ≡ fails r → ExplainAnswered q scratch (record { answer = Err r; zeroed = [] })
   -- 19, or the reason; the scratch words are zeroed
   is_explained : {x : Explained} → checks q scratch ≡ passes → Explains q x → ExplainAnswered q scratch (record { answer = x; zeroed = zeros cell_words q })

@@ -3,9 +3,11 @@
 use Rattle.std.specs.Prelude.{ℕ, List, ◌≡◌, T}
 use Rattle.rules.specs.Legal.{legal}
 use Rattle.rules.specs.Slack.{least_slack}
-use Rattle.answers.specs.declared.answer.Refusal.{Refusal}
+use Rattle.answers.specs.declared.refusal.Refusal.{Refusal}
 use Rattle.answers.specs.declared.verdicts.VisitFault.{VisitFault}
-use Rattle.answers.specs.declared.verdicts.Verdict.{Verdict}
+use Rattle.std.specs.Prelude.{Ok, Err}
+use Rattle.answers.specs.declared.verdicts.Finding.{Finding}
+use Rattle.answers.specs.Numbers.{Verdict}
 use Rattle.question.specs.Question.{Question, rules_asked, passes, fails}
 use Rattle.verdict.specs.Verdict.{route_in, bad_list}
 use Rattle.verdict.specs.Fault.{FirstFault}
@@ -24,8 +26,8 @@ pub record AlikeJudges (a b : JudgeAsk) : Type 0 where
 -- The verdict that the rules give: the refusal, or by what is legal and the tests of the visits.
 pub data JudgeAnswered (q : Question) (ws : List ℕ) : Verdict → Type 0 where
   -- 1 to 5 or 17, the first in its order
-  not_judged : (r : Refusal) → list_checks q (bad_list ws) ≡ fails r → JudgeAnswered q ws (Verdict.Refused r)
+  not_judged : (r : Refusal) → list_checks q (bad_list ws) ≡ fails r → JudgeAnswered q ws (Err r)
   -- the route in the words is legal; with its smallest spare figure
-  is_accepted : list_checks q (bad_list ws) ≡ passes → T (legal (rules_asked q) (route_in ws)) → JudgeAnswered q ws (Verdict.Accepted (least_slack (rules_asked q) (route_in ws)))
+  is_accepted : list_checks q (bad_list ws) ≡ passes → T (legal (rules_asked q) (route_in ws)) → JudgeAnswered q ws (Ok (Finding.Accepted (least_slack (rules_asked q) (route_in ws))))
   -- "the first visit at fault (from 0) and the fault there", a period fault with the figure of its close
-  is_at_fault : (i : ℕ) (f : VisitFault) → list_checks q (bad_list ws) ≡ passes → FirstFault (rules_asked q) (route_in ws) i f → JudgeAnswered q ws (Verdict.AtFault i f)
+  is_at_fault : (i : ℕ) (f : VisitFault) → list_checks q (bad_list ws) ≡ passes → FirstFault (rules_asked q) (route_in ws) i f → JudgeAnswered q ws (Ok (Finding.AtFault i f))

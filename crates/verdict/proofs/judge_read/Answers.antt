@@ -1,5 +1,6 @@
 -- `verdict::judge_read` meets its contract: refusals 1 to 5, then 17, or the verdict.
-use mathlib.Core.Path.{sym, ◌∙◌}
+use mathlib.Core.Path.{sym, ap, ◌∙◌}
+use Rattle.std.specs.Prelude.{Ok}
 use Rattle.question.specs.Question.{question_of, passes}
 use Rattle.question.proofs.Checks.{told-fails, told-passes, passed-ready}
 use Rattle.verdict.proofs.Refusing.{verdict-refused, verdict-bad-list, verdict-judged}
@@ -27,4 +28,4 @@ pub returns-in-Passes : goal.returns-in-Passes
 returns-in-Passes c =
     let q = (question_of c.args.plan.now c.args.width c.args.height c.args.tables c.args.read.list c.args.source c.args.sink) in
     let f = told-passes q _ c.check_question-checked.ensures c.in-Passes.is in
-    rw f.1 at c.judge_ready.ensures ∙ sym (verdict-judged q c.args.words.now f.0 (sym c.bad_list.ensures ∙ c.if-bad_list.false))
+    ap Ok (rw f.1 at c.judge_ready.ensures) ∙ sym (verdict-judged q c.args.words.now f.0 (sym c.bad_list.ensures ∙ c.if-bad_list.false))

@@ -1,7 +1,7 @@
 -- Each check is what the answer's contract computes to.
 use mathlib.Core.Path.{ap}
 use borrow.Author.Tests.{eq-eqb}
-use Rattle.answers.specs.declared.crossing.CrossingFigures.{CrossingFigures}
+use Rattle.answers.specs.declared.answer.CrossingFigures.{CrossingFigures}
 use Rattle.timing_check.proofs.answer.crossings.Goals as goal
 
 pub expect-requires : goal.expect-requires

@@ -4,7 +4,7 @@ use native.Mathlib.Omega.{arith}
 use native.Mathlib.Numerals.{add-one}
 use mir.Syntax.{w32}
 use mir.Facts.{to_z-of_z}
-use Rattle.answers.specs.declared.verdicts.Verdict.TheVariants.{Accepted}
+use Rattle.answers.specs.declared.verdicts.Finding.TheVariants.{Accepted}
 use Rattle.verdict.proofs.Routes.{good-even, good_length}
 use Rattle.verdict.proofs.Judged.{last-is, judged-on, judged-fault, judged-all}
 use Rattle.verdict.proofs.list.judge_rest.Goals as goal
