@@ -1,7 +1,7 @@
 -- The verdict question: what the call hands back is the verdict that the rules give, and they give one.
 use Prim.Native.Nat.{ℕ}
 use mathlib.Core.List.{List}
-use mathlib.Core.Path.{◌≡◌, refl, sym}
+use mathlib.Core.Path.{◌≡◌, refl, sym, ap}
 use Rattle.answers.specs.Numbers.{Verdict}
 use Rattle.std.specs.Prelude.{Ok, Err}
 use Rattle.answers.specs.declared.verdicts.Finding.{Finding}
