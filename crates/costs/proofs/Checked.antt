@@ -1,5 +1,5 @@
 -- A checked buffer is in range.
-use Prim.Native.Nat.{ℕ, ◌≤◌, ◌<◌}
+use Rattle.std.proofs.Common.{ℕ, ◌≤◌, ◌<◌}
 use Rattle.timing.specs.declared.elements.Elements.{Elements}
 use Rattle.timing.specs.Elements.{DriverInRange}
 use Rattle.timing.specs.Formulas.{buffer_driver, buffer_load}

@@ -2,10 +2,10 @@
 // The rows of all elements are one array, which is lent to the search.
 #![tactic(auto)]
 
-ghost use Rattle.std.specs.Prelude.{◌+◌, ◌≤◌, ◌≡◌, length};
+ghost use Rattle.std.specs.Prelude.{ℕ, ◌+◌, ◌≤◌, ◌<◌, ◌≡◌, cond, leb, length, get_or};
 ghost use Rattle.timing.specs.Elements.{WireInRange, DriverInRange, RegisterInRange};
 ghost use Rattle.timing.specs.Valid.{Valid};
-ghost use Rattle.costs.specs.Costs.{row_words, cost_words, limit_cost, gate_cost, step_cost, Row, RowStored, BuffersPut, CostsOf};
+ghost use Rattle.costs.specs.Costs.{row_words, cost_words, word_most, limit_cost, gate_cost, step_cost, Row, RowStored, BuffersPut, CostsOf};
 
 use timing::{Driver, Elements, Load, Register, Wire};
 
@@ -28,20 +28,30 @@ pub const BUFFERS: usize = 256;
 
 pub const FIFO: usize = 640;
 
-// No word is above it.
-const ALL: u16 = 65535;
+// A cost within the limit, and all that a word can hold past it.
+fn limited(load: usize, limit: usize, cost: u16) -> u16
+    ensures { result ≡ cond (leb load limit) cost word_most }
+{
+    if load <= limit { cost } else { u16::MAX }
+}
+
+// The row of this cost at each load.
+fn row_of<F: Fn(usize) -> u16>(cost: F) -> [u16; ROW]
+    requires { (l : ℕ) → l < row_words → F.pre cost l }
+    ensures { (l : ℕ) → l < row_words → F.post cost l (get_or result l 0) }
+{
+    let mut row = [0u16; ROW];
+    for (l, word) in row.iter_mut().enumerate() {
+        *word = cost(l);
+    }
+    row
+}
 
 // No gate: nothing within the limit.
 fn limit_row(limit: usize) -> [u16; ROW]
     ensures { Row (limit_cost limit) result }
 {
-    let mut row = [0u16; ROW];
-    let mut l = 0;
-    while l < ROW {
-        row[l] = if l <= limit { 0 } else { ALL };
-        l += 1;
-    }
-    row
+    row_of(|l| limited(l, limit, 0))
 }
 
 // A gate with this driver.
@@ -49,14 +59,11 @@ fn gate_row(driver: Driver, limit: usize) -> [u16; ROW]
     requires { DriverInRange driver }
     ensures { Row (gate_cost driver limit) result }
 {
-    let mut row = [0u16; ROW];
-    let mut l = 0;
-    while l < ROW {
-        let delay = driver.delay(Load(l as u16)).0 as u16;
-        row[l] = if l <= limit { delay } else { ALL };
-        l += 1;
-    }
-    row
+    let cost = |l|
+        requires { (l < row_words) × DriverInRange driver }
+        ensures { result ≡ gate_cost driver limit l }
+    { limited(l, limit, driver.delay(Load(l as u16)).0 as u16) };
+    row_of(cost)
 }
 
 // One step of this wire; the limit is on the load after it.
@@ -64,15 +71,14 @@ fn step_row(wire: Wire, limit: usize) -> [u16; ROW]
     requires { WireInRange wire }
     ensures { Row (step_cost wire limit) result }
 {
-    let step = wire.load().0 as usize;
-    let mut row = [0u16; ROW];
-    let mut l = 0;
-    while l < ROW {
+    let cost = |l|
+        requires { (l < row_words) × WireInRange wire }
+        ensures { result ≡ step_cost wire limit l }
+    {
         let delay = wire.delay(Load(l as u16)).0 as u16;
-        row[l] = if l + step <= limit { delay } else { ALL };
-        l += 1;
-    }
-    row
+        limited(l + wire.load().0 as usize, limit, delay)
+    };
+    row_of(cost)
 }
 
 // The row is put at `at`; the words before it stay.
@@ -81,11 +87,7 @@ fn put_row(rows: [u16; COSTS], at: usize, row: [u16; ROW]) -> [u16; COSTS]
     ensures { RowStored at row_words row rows result }
 {
     let mut all = rows;
-    let mut l = 0;
-    while l < ROW {
-        all[at + l] = row[l];
-        l += 1;
-    }
+    all[at..at + ROW].copy_from_slice(&row);
     all
 }
 
@@ -95,15 +97,11 @@ fn put_buffers(rows: [u16; COSTS], e: Elements) -> [u16; COSTS]
     ensures { BuffersPut e e.count rows result }
 {
     let limit = e.limit.0 as usize;
-    let count = e.count;
     let mut all = rows;
-    let mut i = 0;
-    while i < count {
-        let buffer = e.buffers[i];
-        let row = gate_row(buffer.driver(), limit);
+    for i in 0..e.count {
+        let row = gate_row(e.buffers[i].driver(), limit);
         let more = put_row(all, BUFFERS + i * ROW, row);
         all = more;
-        i += 1;
     }
     all
 }

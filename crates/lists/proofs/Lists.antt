@@ -1,10 +1,5 @@
 -- Laws of listed cells: how many there are, and how a list passes from old words to new.
-use Prim.Native.Nat.{ℕ, ◌+◌, ◌≤◌, ◌<◌}
-use mathlib.Core.Path.{◌≡◌, ◌∙◌}
-use mathlib.Core.Logic.{◌⊎◌, inl, inr}
-use mathlib.Core.List.{List}
-use native.Mathlib.Omega.{arith}
-use lib.ListN.{get_or}
+use Rattle.std.proofs.Common.{ℕ, ◌+◌, ◌≤◌, ◌<◌, ◌≡◌, ◌∙◌, ◌⊎◌, inl, inr, List, arith, get_or}
 use Rattle.lists.specs.Lists.{flag_of, ListedAt, Listed, Enlisted}
 use Rattle.plan.proofs.Truth.{equal}
 use Rattle.lists.proofs.Sums.{sum_same, sum_bound, sum-part, sum-none, sum-zero, sum_more, sum-short}

@@ -26,9 +26,5 @@ pub fn take_list(scratch: &mut [u16], n: usize, count: usize)
     requires { Listed n scratch.old (n * next_at) count × ((n ≤ 1024) × (n * seeds_at ≤ length scratch.old)) }
     ensures { Taken n count scratch.old scratch.new }
 {
-    let mut i = 0;
-    while i < count {
-        scratch[n * ACTIVE + i] = scratch[n * NEXT + i];
-        i += 1;
-    }
+    scratch.copy_within(n * NEXT..n * NEXT + count, n * ACTIVE);
 }

@@ -1,12 +1,5 @@
 -- The laws of `pushed`: what the costs leave of the word that is read, and what the largest growth says of the row. One row written leaves the others.
-use Prim.Native.Nat.{ℕ, ◌+◌, ◌-◌, ◌*◌, ◌≤◌, ◌<◌, max}
-use mathlib.Core.Path.{◌≡◌}
-use mathlib.Core.Logic.{◌⊎◌, inl, inr}
-use mathlib.Core.List.{List}
-use native.Mathlib.Omega.{arith}
-use borrow.Author.Tests.{lt-ltb, le-ltb}
-use lib.Dec.{ltb}
-use lib.ListN.{get_or}
+use Rattle.std.proofs.Common.{ℕ, ◌+◌, ◌-◌, ◌*◌, ◌≤◌, ◌<◌, max, ◌≡◌, ◌⊎◌, inl, inr, List, arith, lt-ltb, le-ltb, ltb, get_or}
 use Rattle.plan.proofs.Truth.{split}
 use Rattle.budget.specs.Table.{only, max_below}
 use Rattle.budget.proofs.Max.{below-max, max_none}

@@ -1,18 +1,22 @@
 -- The laws of `Filled`: nothing filled, one word more, and what a caller reads off.
-use Prim.Native.Nat.{ℕ, ◌+◌, ◌-◌, ◌≤◌, ◌<◌}
-use mathlib.Core.Path.{◌≡◌, refl, sym, ◌∙◌}
-use mathlib.Core.List.{List}
-use mathlib.Core.Logic.{◌⊎◌, inl, inr}
-use native.Mathlib.Omega.{arith}
-use borrow.Author.Count.{below_more}
-use lib.ListN.{length, get_or, set, length-set}
-use lib.Seq.{get_or-set_same, get_or-set_other, ext_get_or}
+use Rattle.std.proofs.Common.{ℕ, ◌+◌, ◌-◌, ◌≤◌, ◌<◌, ◌≡◌, refl, sym, ◌∙◌, ◌⊎◌, inl, inr, List, arith, below_more, length, get_or, set, length-set, get_or-set_same, get_or-set_other, ext_get_or}
+use Rattle.std.specs.List.{CopiedTo, SameBelow, SameFrom}
 use Rattle.plan.proofs.Truth.{split}
 use Rattle.rows.specs.Words.{Filled, Kept, KeptFrom}
 
 pub filled_none : (F : ℕ → ℕ) (at : ℕ) (words : List ℕ) → Filled F at 0 words words
 filled_none F at words =
     record { same = refl; done = λ k h. absurd (omega arith); low = λ k h. refl; high = λ k h. refl }
+
+-- a stretch that `copy_within` has filled from `from` up to `end`
+pub filled_copied : (from end at n : ℕ) (old new : List ℕ) → end ≡ from + n → length new ≡ length old → CopiedTo old new from at (end - from) → SameBelow old new at → SameFrom old new (at + (end - from)) → Filled (λ k. get_or old (from + k) 0) at n old new
+filled_copied from end at n old new e same copied low high =
+    record {
+      same = same;
+      done = λ k h. let d : at + k - at ≡ k = omega arith in rw d at (copied (at + k) 0 (omega arith) (omega arith));
+      low = λ k h. low k 0 h;
+      high = λ k h. high k 0 (omega arith);
+    }
 
 module _ {F : ℕ → ℕ} {at n : ℕ} {old new : List ℕ} (f : Filled F at n old new) where
   -- one word more

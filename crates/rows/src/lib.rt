@@ -13,14 +13,14 @@ use costs::{COSTS, ROW};
 pub fn larger(a: u16, b: u16) -> u16
     ensures { result ≡ max a b }
 {
-    if a < b { b } else { a }
+    a.max(b)
 }
 
 // a less b, or 0.
 pub fn above(a: u16, b: u16) -> u16
     ensures { result ≡ a - b }
 {
-    if b < a { a - b } else { 0 }
+    a.saturating_sub(b)
 }
 
 // Words from `at` up to `end` become 0.
@@ -28,11 +28,7 @@ pub fn clear(scratch: &mut [u16], at: usize, end: usize)
     requires { (at ≤ end) × (end ≤ length scratch.old) }
     ensures { Filled (λ k. 0) at (end - at) scratch.old scratch.new }
 {
-    let mut i = at;
-    while i < end {
-        scratch[i] = 0;
-        i += 1;
-    }
+    scratch[at..end].fill(0);
 }
 
 // The table's word for a cell and a load.
@@ -48,11 +44,8 @@ pub fn copy_row(scratch: &mut [u16], cell: usize, to: usize, costs: &[u16; COSTS
     requires { (base + row_words ≤ cost_words) × ((cell * row_words + row_words ≤ to) × (to + row_words ≤ length scratch.old)) }
     ensures { Filled (copied scratch.old cell costs.now base) to row_words scratch.old scratch.new }
 {
-    let mut l = 0;
-    while l < ROW {
-        let old = view(scratch, cell, l);
-        scratch[to + l] = above(old, costs[base + l]);
-        l += 1;
+    for l in 0..ROW {
+        scratch[to + l] = above(view(scratch, cell, l), costs[base + l]);
     }
 }
 
@@ -61,12 +54,10 @@ pub fn raise_row(scratch: &mut [u16], at: usize, top: u16, costs: &[u16; COSTS],
     requires { (base + row_words ≤ cost_words) × (at + row_words ≤ length scratch.old) }
     ensures { Filled (raised scratch.old at top costs.now base) at row_words scratch.old scratch.new }
 {
-    let mut l = 0;
-    while l < ROW {
+    for l in 0..ROW {
         let old = scratch[at + l];
         let rest = above(top, costs[base + l]);
         scratch[at + l] = larger(old, rest);
-        l += 1;
     }
 }
 
@@ -83,11 +74,9 @@ pub fn grows(
     ensures { Grows from to costs.now base step scratch.now result }
 {
     let mut grown: u16 = 0;
-    let mut l = 0;
-    while l < ROW {
+    for l in 0..ROW {
         let rest = above(scratch[from + (l + step)], costs[base + l]);
         grown = larger(grown, above(rest, scratch[to + l]));
-        l += 1;
     }
     0 < grown
 }
@@ -105,10 +94,8 @@ pub fn push_row(
     requires { StepRow costs.now base step × ((to + row_words ≤ from) × (from + 2 * row_words ≤ length scratch.old)) }
     ensures { Filled (pushed scratch.old from to costs.now base step) to row_words scratch.old scratch.new }
 {
-    let mut l = 0;
-    while l < ROW {
+    for l in 0..ROW {
         let old = scratch[to + l];
         scratch[to + l] = larger(old, above(scratch[from + (l + step)], costs[base + l]));
-        l += 1;
     }
 }

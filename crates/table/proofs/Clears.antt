@@ -1,11 +1,5 @@
 -- The flags of the active list, cleared one after another; and what the pushes ask, from that.
-use Prim.Native.Nat.{ℕ, ◌+◌, ◌*◌, ◌≤◌, ◌<◌}
-use mathlib.Core.Path.{◌≡◌, refl, sym, ◌∙◌}
-use mathlib.Core.Logic.{◌⊎◌, inl, inr}
-use mathlib.Core.List.{List}
-use native.Mathlib.Omega.{arith}
-use lib.ListN.{length, get_or, set, length-set}
-use lib.Seq.{get_or-set_same, get_or-set_other}
+use Rattle.std.proofs.Common.{ℕ, ◌+◌, ◌*◌, ◌≤◌, ◌<◌, ◌≡◌, refl, sym, ◌∙◌, ◌⊎◌, inl, inr, List, arith, length, get_or, set, length-set, get_or-set_same, get_or-set_other}
 use Rattle.plan.proofs.Truth.{split, equal}
 use Rattle.layout.specs.Layout.{active_at, listed_at, seeds_at, cell_words, trail_at}
 use Rattle.rows.specs.Words.{Kept, KeptFrom}

@@ -1,9 +1,5 @@
 -- The active cells have one colour, from layer to layer: a cell that a layer lists is linked to one that was listed before.
-use Prim.Native.Nat.{ℕ, suc, ◌+◌, ◌*◌, ◌<◌, max}
-use mathlib.Core.Path.{◌≡◌}
-use mathlib.Core.List.{List}
-use native.Mathlib.Omega.{arith}
-use lib.ListN.{get_or}
+use Rattle.std.proofs.Common.{ℕ, suc, ◌+◌, ◌*◌, ◌<◌, max, ◌≡◌, List, arith, get_or}
 use Rattle.rules.specs.Rules.{Rules}
 use Rattle.budget.specs.Table.{max_below, given}
 use Rattle.budget.specs.Colours.{Colouring}

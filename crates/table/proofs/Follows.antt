@@ -1,9 +1,5 @@
 -- The trail through a layer: nothing done, one thing after another, and a row saved and then raised.
-use Prim.Native.Nat.{ℕ, ◌+◌, ◌*◌, ◌<◌}
-use mathlib.Core.Path.{◌≡◌, refl, sym, ◌∙◌}
-use mathlib.Core.Logic.{◌⊎◌, inl, inr}
-use mathlib.Core.List.{List}
-use native.Mathlib.Omega.{arith}
+use Rattle.std.proofs.Common.{ℕ, ◌+◌, ◌*◌, ◌<◌, ◌≡◌, refl, sym, ◌∙◌, ◌⊎◌, inl, inr, List, arith}
 use Rattle.plan.proofs.Truth.{equal}
 use Rattle.costs.specs.Costs.{row_words}
 use Rattle.layout.specs.Layout.{arrival_at, labels_at, listed_at, trail_at}

@@ -1,12 +1,5 @@
 -- One push, as a table.
-use Prim.Native.Nat.{ℕ, ◌+◌, ◌*◌, ◌≤◌, ◌<◌, max}
-use mathlib.Core.Path.{◌≡◌, refl, sym, ap, ◌∙◌}
-use mathlib.Core.Bool.{◌&&◌}
-use mathlib.Core.Logic.{◌⊎◌, inl, inr}
-use mathlib.Core.List.{List}
-use native.Mathlib.Omega.{arith}
-use lib.Dec.{eqb, ltb, ltb→lt, lt→ltb, eqb→eq}
-use lib.ListN.{get_or}
+use Rattle.std.proofs.Common.{ℕ, ◌+◌, ◌*◌, ◌≤◌, ◌<◌, max, ◌≡◌, refl, sym, ap, ◌∙◌, ◌&&◌, ◌⊎◌, inl, inr, List, arith, eqb, ltb, ltb→lt, lt→ltb, eqb→eq, get_or}
 use Rattle.plan.proofs.Truth.{both, fst, snd, split, equal, eq→eqb}
 use Rattle.budget.specs.Table.{only}
 use Rattle.budget.specs.Sides.{is_side}

@@ -1,10 +1,5 @@
 -- With no cell listed a layer changes nothing.
-use Prim.Native.Nat.{ℕ}
-use mathlib.Core.Path.{◌≡◌}
-use mathlib.Core.Bool.{Bool}
-use mathlib.Core.List.{List}
-use native.Mathlib.Omega.{arith}
-use lib.Dec.{T}
+use Rattle.std.proofs.Common.{ℕ, ◌≡◌, Bool, List, arith, T}
 use Rattle.rules.specs.Rules.{Rules}
 use Rattle.budget.specs.Table.{layer}
 use Rattle.budget.proofs.Active.{pushes-layer, layer-least}

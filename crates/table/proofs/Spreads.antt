@@ -1,12 +1,6 @@
 -- The four pushes of a cell are what the rules give its neighbours; the pushes of the active list together.
-use Prim.Native.Nat.{ℕ, ◌+◌, ◌-◌, ◌*◌, ◌≤◌, ◌<◌, max}
-use mathlib.Core.Path.{◌≡◌, refl, sym, ◌∙◌}
-use mathlib.Core.Logic.{◌⊎◌, inl, inr}
-use mathlib.Core.List.{List}
-use native.Mathlib.Omega.{arith}
+use Rattle.std.proofs.Common.{ℕ, ◌+◌, ◌-◌, ◌*◌, ◌≤◌, ◌<◌, max, ◌≡◌, refl, sym, ◌∙◌, ◌⊎◌, inl, inr, List, arith, leb, leb→le, length, get_or}
 use borrow.Author.Tests.{lt-leb}
-use lib.Dec.{leb, leb→le}
-use lib.ListN.{length, get_or}
 use Rattle.plan.specs.Plan.{Plan, cells}
 use Rattle.plan.specs.Joined.{neighbours_of}
 use Rattle.timing.specs.declared.elements.Wire.{Wire}

@@ -1,12 +1,5 @@
 -- Reading the tables in the scratch words, and keeping them.
-use Prim.Native.Nat.{ℕ, suc, ◌+◌, ◌-◌, ◌*◌, ◌≤◌, ◌<◌}
-use mathlib.Core.Path.{◌≡◌, refl, sym, ◌∙◌}
-use mathlib.Core.Bool.{◌&&◌}
-use mathlib.Core.Logic.{◌⊎◌, inl, inr}
-use mathlib.Core.List.{List}
-use native.Mathlib.Omega.{arith}
-use lib.Dec.{T, ltb, ltb→lt, lt→ltb}
-use lib.ListN.{get_or}
+use Rattle.std.proofs.Common.{ℕ, suc, ◌+◌, ◌-◌, ◌*◌, ◌≤◌, ◌<◌, ◌≡◌, refl, sym, ◌∙◌, ◌&&◌, ◌⊎◌, inl, inr, List, arith, T, ltb, ltb→lt, lt→ltb, get_or}
 use Rattle.plan.proofs.Truth.{both, fst, snd, split}
 use Rattle.budget.proofs.Max.{only-true, only-false}
 use Rattle.layout.specs.Layout.{arrival_at, seeds_at, trail_at}

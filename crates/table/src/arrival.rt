@@ -16,16 +16,11 @@ use rows::{above, copy_row, raise_row, view};
 use timing::Elements;
 
 // A buffer may stand on the cell, which has these marks.
+#[tactic(auto, unfolding(crate::specs::ArrivalRow::takes_buffers))]
 pub fn takes_buffers(marks: u8, p: Problem, cell: usize) -> bool
     ensures { result ≡ takes_buffers marks p cell }
 {
-    if cell == p.source {
-        return false;
-    }
-    if cell == p.sink {
-        return false;
-    }
-    !is_blocked(marks)
+    cell != p.source && cell != p.sink && !is_blocked(marks)
 }
 
 // Each buffer raises the arrival row at `to`, from the cell's row of the table.
@@ -40,27 +35,21 @@ fn raise_buffers(
     ensures { Filled (raised_by_buffers scratch.old cell to elements elements.count) to row_words scratch.old scratch.new }
 {
     let limit = elements.limit.0 as usize;
-    let count = elements.count;
-    let mut i = 0;
-    while i < count {
-        let buffer = elements.buffers[i];
-        let load = buffer.load().0 as usize;
+    for i in 0..elements.count {
+        let load = elements.buffers[i].load().0 as usize;
         if load <= limit {
             let top = view(scratch, cell, load);
             raise_row(scratch, to, top, costs, BUFFERS + i * ROW);
         }
-        i += 1;
     }
 }
 
 // The seed mark has this code: it is the sum of the codes with which a span may close.
+#[tactic(auto, unfolding(crate::specs::Problem::marks_seed))]
 pub fn marks_seed(mark: u16, code: u16) -> bool
     ensures { result ≡ marks_seed mark code }
 {
-    if mark == code {
-        return true;
-    }
-    mark == 15
+    mark == code || mark == 15
 }
 
 // Where the word at `mark` says that a span may close with this code, the arrival row at `to` is raised to what twice the skew and the gate's costs at `base` leave of `top`.
@@ -98,11 +87,10 @@ pub fn fill_arrival(
     let n = plan.len();
     let to = n * ARRIVAL;
     copy_row(scratch, cell, to, costs, NONE);
-    let elements = net.problem.elements;
     if takes_buffers(plan[cell], net.problem, cell) {
-        raise_buffers(scratch, cell, to, elements, costs);
+        raise_buffers(scratch, cell, to, net.problem.elements, costs);
     }
-    let skew = elements.skew;
+    let skew = net.problem.elements.skew;
     raise_seed(scratch, n * SEEDS + cell, 7, to, top, skew, costs, REGISTER);
     raise_seed(scratch, n * SEEDS + cell, 8, to, top, skew, costs, FIFO);
 }

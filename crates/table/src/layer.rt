@@ -22,11 +22,9 @@ pub fn clear_flags(scratch: &mut [u16], n: usize, active: usize)
     requires { (n ≤ 1024) × ((n * trail_at ≤ length scratch.old) × Listed n scratch.old (n * active_at) active) }
     ensures { FlagsCleared n scratch.old scratch.new }
 {
-    let mut i = 0;
-    while i < active {
+    for i in 0..active {
         let cell = scratch[n * ACTIVE + i] as usize;
         scratch[n * LISTED + cell] = 0;
-        i += 1;
     }
 }
 

@@ -26,9 +26,10 @@ fn note(scratch: &mut [u16], n: usize, cell: usize, trail: Trail) -> Trail
     ensures { NotedRow n cell scratch.old trail scratch.new result }
 {
     if scratch[n * LISTED + cell] == 1 {
-        return trail;
+        trail
+    } else {
+        save(scratch, n, cell, trail)
     }
-    save(scratch, n, cell, trail)
 }
 
 // One neighbour takes what the arrival row gives, if its row grows by it, and is then listed. The number n is no neighbour.
@@ -45,20 +46,14 @@ fn offer(
     requires { OfferAsks n to costs.now base step next scratch.old }
     ensures { Offered n to costs.now base step next.trail scratch.old scratch.new result }
 {
-    if to == n {
-        return next;
-    }
     let from = n * ARRIVAL;
-    if !grows(scratch, from, to * ROW, costs, base, step) {
+    if to == n || !grows(scratch, from, to * ROW, costs, base, step) {
         return next;
     }
     let trail = note(scratch, n, to, next.trail);
     push_row(scratch, from, to * ROW, costs, base, step);
     let count = enlist(scratch, n, n * NEXT, next.count, to);
-    Grown {
-        count: count,
-        trail: trail,
-    }
+    Grown { count, trail }
 }
 
 // The arrival row of the cell is made, and its four neighbours take what it gives.
@@ -99,15 +94,10 @@ pub fn spread_all(
     ensures { SpreadAll (net_rules net plan.now) (length plan.now) top active trail scratch.old scratch.new result }
 {
     let n = plan.len();
-    let mut next = Grown {
-        count: 0,
-        trail: trail,
-    };
-    let mut i = 0;
-    while i < active {
+    let mut next = Grown { count: 0, trail };
+    for i in 0..active {
         let cell = scratch[n * ACTIVE + i] as usize;
         next = spread(plan, scratch, net, top, costs, cell, next);
-        i += 1;
     }
     next
 }

@@ -1,10 +1,5 @@
 -- What forgetting the oldest entry, recording a row and putting one back leave of the history.
-use Prim.Native.Nat.{ℕ, ◌+◌, ◌-◌, ◌*◌, ◌≤◌, ◌<◌, min}
-use mathlib.Core.Path.{◌≡◌, sym, ap, ◌∙◌}
-use mathlib.Core.Logic.{◌⊎◌, inl, inr}
-use mathlib.Core.List.{List}
-use native.Mathlib.Omega.{arith}
-use lib.ListN.{length, get_or}
+use Rattle.std.proofs.Common.{ℕ, ◌+◌, ◌-◌, ◌*◌, ◌≤◌, ◌<◌, min, ◌≡◌, sym, ap, ◌∙◌, ◌⊎◌, inl, inr, List, arith, length, get_or}
 use Rattle.plan.proofs.Truth.{split, equal}
 use Rattle.budget.specs.Table.{Table}
 use Rattle.layout.specs.Layout.{arrival_at, labels_at, trail_at, far_words, slot_words, slot_cell}

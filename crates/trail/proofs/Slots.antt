@@ -1,13 +1,6 @@
 -- Slots of the ring, and entries that two trails share.
-use Prim.Native.Nat.{ℕ, ◌+◌, ◌-◌, ◌*◌, ◌/◌, ◌≤◌, ◌<◌}
-use mathlib.Core.Path.{◌≡◌, ◌∙◌}
-use mathlib.Core.Bool.{cond}
-use mathlib.Core.Logic.{◌⊎◌, inl, inr}
-use mathlib.Core.List.{List}
-use native.Mathlib.Omega.{arith}
-use borrow.Author.Tests.{lt-ltb, le-ltb, le-leb, lt-leb}
-use lib.Dec.{ltb}
-use lib.ListN.{get_or}
+use Rattle.std.proofs.Common.{ℕ, ◌+◌, ◌-◌, ◌*◌, ◌/◌, ◌≤◌, ◌<◌, ◌≡◌, ◌∙◌, cond, ◌⊎◌, inl, inr, List, arith, lt-ltb, le-ltb, le-leb, ltb, get_or}
+use borrow.Author.Tests.{lt-leb}
 use Rattle.plan.proofs.Truth.{split}
 use Rattle.costs.specs.Costs.{row_words}
 use Rattle.layout.specs.Layout.{arrival_at, labels_at, trail_at, cell_words, near_words, far_words, slot_words, slot_cell}

@@ -2,10 +2,8 @@
 // An entry is a slot: the row, the cell, the layer in two words. The entries are a ring: when it is full the oldest is forgotten.
 #![tactic(auto)]
 
-ghost use Rattle.std.specs.Prelude.{◌≡◌, ◌⊎◌, ◌+◌, ◌*◌, ◌≤◌, ◌<◌, length, get_or};
+ghost use Rattle.std.specs.Prelude.{◌≡◌, ◌+◌, ◌*◌, ◌≤◌, ◌<◌, length};
 ghost use Rattle.layout.specs.Layout.{slot_words};
-ghost use Rattle.rows.specs.Words.{Filled};
-ghost use Rattle.costs.specs.Costs.{row_words};
 ghost use Rattle.trail.specs.Trail.{no_trail, new_trail, stamped, slots_of, slot_of, place_of, stamp_of, TrailAsks, RoomMade, Saved, Restored, Rewound};
 
 use costs::ROW;
@@ -52,13 +50,7 @@ pub fn new_trail(n: usize) -> Trail
 pub fn stamped(trail: Trail, stamp: u32) -> Trail
     ensures { result ≡ stamped trail stamp }
 {
-    Trail {
-        room: trail.room,
-        start: trail.start,
-        count: trail.count,
-        low: trail.low,
-        stamp: stamp,
-    }
+    Trail { stamp, ..trail }
 }
 
 // The slot of entry i, the oldest being entry 0.
@@ -91,18 +83,6 @@ fn stamp_of(scratch: &[u16], at: usize) -> u32
     scratch[at + SLOT_LOW] as u32 + scratch[at + SLOT_HIGH] as u32 * 65536
 }
 
-// The 64 words at `to` become those at `from`.
-fn copy(scratch: &mut [u16], from: usize, to: usize)
-    requires { ((from + row_words ≤ to) ⊎ (to + row_words ≤ from)) × ((from + row_words ≤ length scratch.old) × (to + row_words ≤ length scratch.old)) }
-    ensures { Filled (λ k. get_or scratch.old (from + k) 0) to row_words scratch.old scratch.new }
-{
-    let mut l = 0;
-    while l < ROW {
-        scratch[to + l] = scratch[from + l];
-        l += 1;
-    }
-}
-
 // A full trail forgets its oldest entry.
 fn make_room(scratch: &[u16], n: usize, trail: Trail) -> Trail
     requires { TrailAsks n scratch.now trail × (0 < trail.room) }
@@ -113,11 +93,10 @@ fn make_room(scratch: &[u16], n: usize, trail: Trail) -> Trail
     }
     let oldest = stamp_of(scratch, place(n, trail, 0));
     Trail {
-        room: trail.room,
         start: slot(trail, 1),
         count: trail.count - 1,
         low: oldest,
-        stamp: trail.stamp,
+        ..trail
     }
 }
 
@@ -129,25 +108,21 @@ pub fn save(scratch: &mut [u16], n: usize, cell: usize, trail: Trail) -> Trail
     let stamp = trail.stamp;
     if trail.room == 0 {
         return Trail {
-            room: 0,
-            start: 0,
-            count: 0,
             low: stamp,
-            stamp: stamp,
+            stamp,
+            ..no_trail()
         };
     }
     let kept = make_room(scratch, n, trail);
     let at = place(n, kept, kept.count);
-    copy(scratch, cell * ROW, at);
+    scratch.copy_within(cell * ROW..cell * ROW + ROW, at);
     scratch[at + SLOT_CELL] = cell as u16;
     scratch[at + SLOT_LOW] = (stamp % 65536) as u16;
     scratch[at + SLOT_HIGH] = (stamp / 65536) as u16;
     Trail {
-        room: kept.room,
-        start: kept.start,
         count: kept.count + 1,
-        low: kept.low,
-        stamp: stamp,
+        stamp,
+        ..kept
     }
 }
 
@@ -159,14 +134,8 @@ fn restore(scratch: &mut [u16], n: usize, trail: Trail) -> Trail
     let count = trail.count - 1;
     let at = place(n, trail, count);
     let cell = scratch[at + SLOT_CELL] as usize;
-    copy(scratch, at, cell * ROW);
-    Trail {
-        room: trail.room,
-        start: trail.start,
-        count: count,
-        low: trail.low,
-        stamp: trail.stamp,
-    }
+    scratch.copy_within(at..at + ROW, cell * ROW);
+    Trail { count, ..trail }
 }
 
 // The layers above this one are undone.

@@ -1,6 +1,5 @@
 -- Row by row; what is put later lies behind.
-use mathlib.Core.Path.{◌≡◌}
-use native.Mathlib.Omega.{arith}
+use Rattle.std.proofs.Common.{◌≡◌, arith}
 use Rattle.timing.specs.Formulas.{register_driver}
 use Rattle.costs.specs.Costs.{none_at, register_at, horizontal_at, vertical_at, buffers_at}
 use Rattle.costs.proofs.Put.{put-stays, put-costs, buffers-stay}

@@ -1,13 +1,9 @@
-use mathlib.Core.Path.{◌≡◌}
-use native.Mathlib.Omega.{arith}
+use Rattle.std.proofs.Common.{◌≡◌, arith}
 use Rattle.timing.specs.Elements.{buffer_of, driver_of}
 use Rattle.timing.specs.Formulas.{buffer_driver}
 use Rattle.costs.specs.Costs.{buffer_at}
-use Rattle.costs.proofs.Put.{buffers-none, buffers-more}
+use Rattle.costs.proofs.Put.{buffers-more}
 use Rattle.costs.proofs.put_buffers.Goals as goal
-
-pub loop-i-init : goal.loop-i-init
-loop-i-init c = (omega arith, buffers-none _ _ c.requires.0)
 
 pub gate_row-row-requires : goal.gate_row-row-requires
 unfolding buffer_at buffer_of driver_of buffer_driver
@@ -16,17 +12,9 @@ gate_row-row-requires c =
     let driver : c.driver.result ≡ buffer_driver (buffer_at c.args.e i) = c.driver.ensures in
     rw driver (c.requires.1.buffers i (omega (arith, c.requires.1.count))).driver
 
-pub put_row-more-requires : goal.put_row-more-requires
-put_row-more-requires c = (c.loop-i.invariant.1.size, omega arith)
-
 pub loop-i-preserved : goal.loop-i-preserved
 unfolding buffer_at buffer_of driver_of buffer_driver
 loop-i-preserved c =
     let loop = c.loop-i in
     let driver : c.driver.result ≡ buffer_driver (buffer_at c.args.e loop.i) = c.driver.ensures in
-    (omega arith, buffers-more loop.invariant.1 (rw driver at c.gate_row-row.ensures) c.put_row-more.ensures)
-
-pub returns : goal.returns
-returns c =
-    let end : c.loop-i.i ≡ c.args.e.count = omega arith in
-    rw end at c.loop-i.invariant.1
+    buffers-more loop.invariant (rw driver at c.gate_row-row.ensures) c.put_row-more.ensures

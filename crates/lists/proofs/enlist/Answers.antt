@@ -1,10 +1,5 @@
 -- `lists::enlist`: a listed cell changes nothing; any other takes the place after the list, for which there is room.
-use Prim.Native.Nat.{ℕ, ◌+◌, ◌*◌, ◌<◌, ◌≤◌}
-use mathlib.Core.Path.{◌≡◌, refl, ◌∙◌}
-use mathlib.Core.List.{List}
-use native.Mathlib.Omega.{arith}
-use lib.ListN.{length, get_or, set, length-set}
-use lib.Seq.{get_or-set_same, get_or-set_other}
+use Rattle.std.proofs.Common.{ℕ, ◌+◌, ◌*◌, ◌<◌, ◌≤◌, ◌≡◌, refl, ◌∙◌, List, arith, length, get_or, set, length-set, get_or-set_same, get_or-set_other}
 use Rattle.layout.specs.Layout.{listed_at, seeds_at}
 use Rattle.lists.specs.Lists.{flag_of, Listed, Enlisted}
 use Rattle.lists.proofs.Lists.{listed-room, listed_more}

@@ -1,12 +1,7 @@
 -- The words before load l are filled; the word at l is as it was when it is read.
-use Prim.Native.Nat.{◌-◌, ◌≤◌}
-use Rattle.costs.specs.Costs.{row_words}
 use Rattle.rows.specs.Words.{Filled}
 use Rattle.rows.specs.Rows.{raised}
 use Rattle.rows.proofs.raise_row.Given as goal
 
 abbrev pub invariant-loop-l : goal.invariant-loop-l
-invariant-loop-l l = (l.l ≤ row_words) × Filled (raised l.initial.scratch l.at l.top l.costs l.base) l.at l.l l.initial.scratch l.scratch
-
-abbrev pub decreases-loop-l : goal.decreases-loop-l
-decreases-loop-l l = row_words - l.l
+invariant-loop-l l = Filled (raised l.initial.scratch l.at l.top l.costs l.base) l.at l.l l.initial.scratch l.scratch

@@ -1,25 +1,9 @@
 -- `trail::make_room`: a free slot changes nothing; else the oldest entry is forgotten.
-use mathlib.Core.Path.{refl, ap, ◌∙◌}
-use native.Mathlib.Omega.{arith}
+use Rattle.std.proofs.Common.{refl, ap, ◌∙◌, arith}
 use Rattle.trail.specs.Trail.{stamp_of}
 use Rattle.trail.proofs.Slots.{slots-few, place-in}
 use Rattle.trail.proofs.Changes.{forget}
 use Rattle.trail.proofs.make_room.Goals as goal
-
-pub returns-then-trail : goal.returns-then-trail
-returns-then-trail c =
-    record {
-      sound = c.requires.0.sound;
-      free = c.if-trail.true;
-      room = refl;
-      stamp = refl;
-      history = λ u Z past. past;
-      noted = λ x h. h;
-    }
-
-pub place-requires : goal.place-requires
-place-requires c =
-    (c.requires.0.sound.start, (c.requires.0.sound.slots, (c.requires.0.few, c.requires.1)))
 
 pub stamp_of-oldest-requires : goal.stamp_of-oldest-requires
 stamp_of-oldest-requires c =

@@ -1,7 +1,6 @@
 -- `trail::place`: the two cases of `place_in`; a slot of the ring is below 3,072.
-use Prim.Native.Nat.{◌*◌, ◌-◌, ◌≤◌, ◌<◌}
-use native.Mathlib.Omega.{arith}
-use borrow.Author.Tests.{le-leb, lt-leb}
+use Rattle.std.proofs.Common.{◌*◌, ◌-◌, ◌≤◌, ◌<◌, arith, le-leb}
+use borrow.Author.Tests.{lt-leb}
 use Rattle.layout.specs.Layout.{labels_at, slot_words}
 use Rattle.trail.specs.Trail.{place_in}
 use Rattle.trail.proofs.Slots.{PlaceIn, slot-below, slots-few, place_view}

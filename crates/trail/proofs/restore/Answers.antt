@@ -1,17 +1,13 @@
 -- `trail::restore`: the newest entry's row goes back to its cell; the trail's words and the other rows stay.
-use Prim.Native.Nat.{ℕ, ◌+◌, ◌*◌, ◌-◌, ◌≤◌, ◌<◌}
-use mathlib.Core.Path.{◌≡◌, refl, ap, ◌∙◌}
-use mathlib.Core.Logic.{inr}
-use mathlib.Core.List.{List}
-use native.Mathlib.Omega.{arith}
-use lib.ListN.{get_or}
+use Rattle.std.proofs.Common.{ℕ, ◌+◌, ◌*◌, ◌-◌, ◌≤◌, ◌<◌, ◌≡◌, refl, ap, ◌∙◌, List, arith, get_or}
 use Rattle.layout.specs.Layout.{cell_words, slot_words, slot_cell}
 use Rattle.rows.specs.Words.{Filled}
+use Rattle.rows.proofs.Words.{filled_copied}
 use Rattle.rows.proofs.Rows.{row-elsewhere}
 use Rattle.costs.specs.Costs.{row_words}
 use Rattle.trail.specs.declared.Trail.{Trail}
 use Rattle.trail.specs.Trail.{place_of, cell_at, TrailAsks, Restored}
-use Rattle.trail.proofs.Slots.{place-in, place-above}
+use Rattle.trail.proofs.Slots.{place-in}
 use Rattle.trail.proofs.Changes.{restored}
 use Rattle.trail.proofs.restore.Goals as goal
 use Rattle.trail.proofs.restore.Goals.{After-place-at}
@@ -31,14 +27,6 @@ inside : (c : After-place-at) → c.place-at.result + slot_words ≤ c.args.n * 
 inside c =
     omega (arith, c.place-at.ensures, place-in c.requires.0.sound (c.args.trail.count - 1) (omega (arith, c.requires.0.sound.fits)))
 
-cell_in : (c : After-place-at) → get_or c.args.scratch.now (c.place-at.result + slot_cell) 0 < c.args.n
-cell_in c =
-    rw c.place-at.ensures (c.requires.0.sound.cells (c.args.trail.count - 1) (omega arith))
-
-pub place-at-requires : goal.place-at-requires
-place-at-requires c =
-    (c.requires.0.sound.start, (c.requires.0.sound.slots, (c.requires.0.few, omega (arith, c.requires.0.sound.fits))))
-
 pub overflow_add-cell : goal.overflow_add-cell
 overflow_add-cell c = omega (arith, inside c, c.requires.0.few)
 
@@ -48,19 +36,16 @@ offset_bounds-scratch-at c = omega (arith, inside c, c.requires.0.few)
 pub bounds-scratch-at : goal.bounds-scratch-at
 bounds-scratch-at c = omega (arith, inside (goal.at.bounds-scratch-at c).After-place-at, c.requires.0.room)
 
-pub overflow_cast-cell : goal.overflow_cast-cell
-overflow_cast-cell c = omega (arith, cell_in (goal.at.overflow_cast-cell c).After-place-at, c.requires.0.few)
+pub overflow_add-at : goal.overflow_add-at
+overflow_add-at c = omega (arith, inside (goal.at.overflow_add-at c).After-place-at, c.requires.0.few)
 
-pub overflow_mul-cell : goal.overflow_mul-cell
-overflow_mul-cell c = omega (arith, cell_in (goal.at.overflow_mul-cell c).After-place-at, c.requires.0.few)
-
-pub copy-requires : goal.copy-requires
-copy-requires c = (
-  inr (omega (arith, cell_in (goal.at.copy-requires c).After-place-at, c.place-at.ensures, place-above c.requires.0.sound (c.args.trail.count - 1) (omega (arith, c.requires.0.sound.fits)))),
-  (omega (arith, inside (goal.at.copy-requires c).After-place-at, c.requires.0.room), omega (arith, cell_in (goal.at.copy-requires c).After-place-at, c.requires.0.room)),
-)
+pub copy_within-requires-clause-in_bounds : goal.copy_within-requires-clause-in_bounds
+copy_within-requires-clause-in_bounds c =
+    omega (arith, inside (goal.at.copy_within-requires-clause-in_bounds c).After-place-at, c.requires.0.room)
 
 pub returns : goal.returns
 returns c =
+    let copied = c.copy_within.ensures in
     put_back _ _ _ _ _ c.requires.0 _ _ refl refl (omega arith) refl refl c.place-at.ensures
-    (ap (λ (x : ℕ). get_or c.args.scratch.now (x + slot_cell) 0) c.place-at.ensures) c.copy.ensures
+    (ap (λ (x : ℕ). get_or c.args.scratch.now (x + slot_cell) 0) c.place-at.ensures)
+    (filled_copied _ _ _ _ _ _ refl copied.len copied.by_index.0 copied.by_index.1 copied.by_index.2)

@@ -1,7 +1,4 @@
-use Prim.Native.Nat.{ℕ, ◌+◌, ◌-◌, ◌≤◌, ◌<◌}
-use mathlib.Core.Path.{◌≡◌, refl, ap, ◌∙◌}
-use mathlib.Core.List.{List}
-use native.Mathlib.Omega.{arith}
+use Rattle.std.proofs.Common.{ℕ, ◌+◌, ◌-◌, ◌≤◌, ◌<◌, ◌≡◌, ap, ◌∙◌, List, arith}
 use Rattle.trail.specs.declared.Trail.{Trail}
 use Rattle.trail.specs.Trail.{stamp_of, stamp_at, Rewound}
 use Rattle.trail.proofs.Slots.{place-in}
@@ -21,21 +18,6 @@ rewound n layer old t new r x none =
       table = λ u Z low h past. history-now n new r layer Z none (omega (arith, x.lowest)) (x.history u Z h past);
     }
 
-pub loop-left-init : goal.loop-left-init
-loop-left-init c =
-    record {
-      same = refl;
-      kept = λ k h. refl;
-      sound = c.requires.sound;
-      lowest = refl;
-      history = λ u Z le past s x lo hi h. past s x lo (omega arith) h;
-    }
-
-pub place-at-requires : goal.place-at-requires
-place-at-requires c =
-    let x = c.loop-left.invariant in
-    (x.sound.start, (x.sound.slots, (c.requires.few, omega (arith, x.sound.fits))))
-
 pub stamp_of-requires : goal.stamp_of-requires
 stamp_of-requires c =
     let x = c.loop-left.invariant in
@@ -47,21 +29,10 @@ newest : (c : After-stamp_of) → c.stamp_of.result ≡ stamp_at c.args.n c.loop
 newest c =
     c.stamp_of.ensures ∙ ap (stamp_of c.loop-left.scratch) c.place-at.ensures
 
-pub shape_of-scratch-then-stamp_of-layer : goal.shape_of-scratch-then-stamp_of-layer
-shape_of-scratch-then-stamp_of-layer c = c.loop-left.invariant.same
-
 pub returns-then-stamp_of-layer : goal.returns-then-stamp_of-layer
 returns-then-stamp_of-layer c =
     let x = c.loop-left.invariant in
     rewound _ _ _ _ _ _ x (λ i h. omega (arith, newest (goal.at.returns-then-stamp_of-layer c).After-stamp_of, c.if-stamp_of-layer.true, x.sound.sorted i (c.loop-left.left.count - 1) (omega arith) (omega arith)))
-
-pub restore-left-requires : goal.restore-left-requires
-restore-left-requires c =
-    let x = c.loop-left.invariant in
-    (record { sound = x.sound; few = c.requires.few; room = omega (arith, x.same, c.requires.room) }, omega arith)
-
-pub loop-left-smaller : goal.loop-left-smaller
-loop-left-smaller c = omega (arith, c.restore-left.ensures.fewer)
 
 pub loop-left-preserved : goal.loop-left-preserved
 loop-left-preserved c =
@@ -79,9 +50,6 @@ loop-left-preserved c =
     top e k f =
         let z : e.loop-left.left.count - 1 ≡ k = omega arith in
         omega (arith, newest (goal.at.Else-stamp_of-layer e).After-stamp_of, e.if-stamp_of-layer.false, ap (stamp_at e.args.n e.loop-left.scratch e.loop-left.left) z)
-
-pub shape_of-scratch : goal.shape_of-scratch
-shape_of-scratch c = c.loop-left.invariant.same
 
 pub returns : goal.returns
 returns c = rewound _ _ _ _ _ _ c.loop-left.invariant (λ i h. absurd (omega arith))

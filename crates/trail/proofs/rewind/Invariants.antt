@@ -1,8 +1,5 @@
 -- `trail::rewind`: the entries that are left are older; once the newest is not above the layer, none is.
-use Prim.Native.Nat.{ℕ, ◌*◌, ◌≤◌}
-use mathlib.Core.Path.{◌≡◌}
-use mathlib.Core.List.{List}
-use lib.ListN.{length}
+use Rattle.std.proofs.Common.{ℕ, ◌*◌, ◌≤◌, ◌≡◌, List, length}
 use Rattle.budget.specs.Table.{Table}
 use Rattle.layout.specs.Layout.{arrival_at}
 use Rattle.rows.specs.Words.{KeptFrom}

@@ -1,17 +1,12 @@
 -- `trail::save`: without a slot nothing is kept; else the words of the free slot are written, and no others.
-use Prim.Native.Nat.{ℕ, ◌+◌, ◌*◌, ◌/◌, ◌%◌, ◌≤◌, ◌<◌}
-use mathlib.Core.Path.{◌≡◌, refl, sym, ◌∙◌}
-use mathlib.Core.Logic.{◌⊎◌, inl, inr}
-use mathlib.Core.List.{List}
-use native.Mathlib.Omega.{arith}
-use lib.ListN.{length, get_or, set, length-set}
-use lib.Seq.{get_or-set_same, get_or-set_other}
-use Rattle.layout.specs.Layout.{arrival_at, cell_words, slot_words, slot_cell, slot_low, slot_high}
+use Rattle.std.proofs.Common.{ℕ, ◌+◌, ◌*◌, ◌/◌, ◌%◌, ◌≤◌, ◌<◌, ◌≡◌, refl, sym, ◌∙◌, ◌⊎◌, inl, inr, List, arith, length, get_or, set, length-set, get_or-set_same, get_or-set_other}
+use Rattle.layout.specs.Layout.{cell_words, slot_words, slot_cell, slot_low, slot_high}
 use Rattle.rows.specs.Words.{Filled}
 use Rattle.costs.specs.Costs.{row_words}
+use Rattle.rows.proofs.Words.{filled_copied}
 use Rattle.trail.specs.declared.Trail.{Trail}
 use Rattle.trail.specs.Trail.{place_of, stamp_of, TrailAsks, RoomMade, Saved}
-use Rattle.trail.proofs.Slots.{place-in, place-above}
+use Rattle.trail.proofs.Slots.{place-in}
 use Rattle.trail.proofs.History.{sound_none}
 use Rattle.trail.proofs.Changes.{saved}
 use Rattle.trail.proofs.save.Goals as goal
@@ -90,58 +85,25 @@ module _ (n cell : ℕ) (old : List ℕ) (t k : Trail) (stamp : ℕ) (asks : Tra
         others = λ y h. x.others y (made.noted y h);
       }
 
-pub returns-then-trail-eq0 : goal.returns-then-trail-eq0
-returns-then-trail-eq0 c = save-nothing _ _ _ _ c.if-trail-eq0.true
-
-pub make_room-kept-requires : goal.make_room-kept-requires
-make_room-kept-requires c =
-    (c.requires.0, omega (arith, c.if-trail-eq0.false))
-
-pub place-at-requires : goal.place-at-requires
-place-at-requires c =
-    let made = c.make_room-kept.ensures in
-    (made.sound.start, (made.sound.slots, (c.requires.0.few, made.free)))
-
 -- the free slot's words
 room : (c : After-place-at) → c.place-at.result + slot_words ≤ c.args.n * cell_words
 room c = omega (arith, c.place-at.ensures, place-in c.make_room-kept.ensures.sound _ c.make_room-kept.ensures.free)
 
-after : (c : After-place-at) → c.args.n * arrival_at + row_words ≤ c.place-at.result
-after c = omega (arith, c.place-at.ensures, place-above c.make_room-kept.ensures.sound _ c.make_room-kept.ensures.free)
-
-pub copy-requires : goal.copy-requires
-copy-requires c = (
-  inl (omega (arith, after (goal.at.copy-requires c).After-place-at, c.requires.1)),
-  (omega (arith, c.requires.1, c.requires.0.room), omega (arith, room (goal.at.copy-requires c).After-place-at, c.requires.0.room)),
-)
-
-pub overflow_add-scratch : goal.overflow_add-scratch
-overflow_add-scratch c = omega (arith, room (goal.at.overflow_add-scratch c).After-place-at, c.requires.0.few)
-
-pub offset_bounds-scratch-at : goal.offset_bounds-scratch-at
-offset_bounds-scratch-at c = omega (arith, room (goal.at.offset_bounds-scratch-at c).After-place-at, c.requires.0.few)
+pub copy_within-requires-clause-dest_in_bounds : goal.copy_within-requires-clause-dest_in_bounds
+copy_within-requires-clause-dest_in_bounds c =
+    omega (arith, room (goal.at.copy_within-requires-clause-dest_in_bounds c).After-place-at, c.requires.0.room)
 
 pub bounds-scratch-at : goal.bounds-scratch-at
-bounds-scratch-at c = omega (arith, room (goal.at.bounds-scratch-at c).After-place-at, c.requires.0.room, c.copy.ensures.same)
-
-pub overflow_add-scratch-2 : goal.overflow_add-scratch-2
-overflow_add-scratch-2 c = omega (arith, room (goal.at.overflow_add-scratch-2 c).After-place-at, c.requires.0.few)
-
-pub offset_bounds-scratch-at-2 : goal.offset_bounds-scratch-at-2
-offset_bounds-scratch-at-2 c = omega (arith, room (goal.at.offset_bounds-scratch-at-2 c).After-place-at, c.requires.0.few)
+bounds-scratch-at c = omega (arith, room (goal.at.bounds-scratch-at c).After-place-at, c.requires.0.room, c.copy_within.ensures.len)
 
 pub bounds-scratch-at-2 : goal.bounds-scratch-at-2
-bounds-scratch-at-2 c = simp length-set (omega (arith, room (goal.at.bounds-scratch-at-2 c).After-place-at, c.requires.0.room, c.copy.ensures.same))
-
-pub overflow_add-scratch-3 : goal.overflow_add-scratch-3
-overflow_add-scratch-3 c = omega (arith, room (goal.at.overflow_add-scratch-3 c).After-place-at, c.requires.0.few)
-
-pub offset_bounds-scratch-at-3 : goal.offset_bounds-scratch-at-3
-offset_bounds-scratch-at-3 c = omega (arith, room (goal.at.offset_bounds-scratch-at-3 c).After-place-at, c.requires.0.few)
+bounds-scratch-at-2 c = simp length-set (omega (arith, room (goal.at.bounds-scratch-at-2 c).After-place-at, c.requires.0.room, c.copy_within.ensures.len))
 
 pub bounds-scratch-at-3 : goal.bounds-scratch-at-3
-bounds-scratch-at-3 c = simp length-set (omega (arith, room (goal.at.bounds-scratch-at-3 c).After-place-at, c.requires.0.room, c.copy.ensures.same))
+bounds-scratch-at-3 c = simp length-set (omega (arith, room (goal.at.bounds-scratch-at-3 c).After-place-at, c.requires.0.room, c.copy_within.ensures.len))
 
 pub returns : goal.returns
 returns c =
-    save-row _ _ _ _ _ _ c.requires.0 c.requires.1 c.make_room-kept.ensures refl _ c.place-at.ensures _ c.copy.ensures _ refl refl refl refl refl
+    let copied = c.copy_within.ensures in
+    save-row _ _ _ _ _ _ c.requires.0 c.requires.1 c.make_room-kept.ensures refl _ c.place-at.ensures _
+    (filled_copied _ _ _ _ _ _ refl copied.len copied.by_index.0 copied.by_index.1 copied.by_index.2) _ refl refl refl refl refl

@@ -1,5 +1,5 @@
 -- `trail::slot`: the two cases of `slot_of`.
-use borrow.Author.Tests.{lt-ltb, le-ltb}
+use Rattle.std.proofs.Common.{lt-ltb, le-ltb}
 use Rattle.trail.specs.Trail.{slot_of}
 use Rattle.trail.proofs.slot.Goals as goal
 

@@ -1,8 +1,5 @@
 -- The row is `through` after the buffers (`mid`), whichever way the test of the site went, and `arrival` after the tries to close there. The seed mark lies beyond the rows, so it is as it was.
-use Prim.Native.Nat.{◌+◌, ◌*◌, ◌-◌}
-use mathlib.Core.Path.{◌≡◌, sym, ◌∙◌}
-use native.Mathlib.Omega.{arith}
-use lib.ListN.{length, get_or}
+use Rattle.std.proofs.Common.{◌+◌, ◌*◌, ◌-◌, ◌≡◌, sym, ◌∙◌, arith, length, get_or}
 use Rattle.layout.specs.Layout.{arrival_at, seeds_at}
 use Rattle.rules.specs.Rules.{register_code, fifo_code}
 use Rattle.rows.specs.Words.{Filled}
@@ -15,19 +12,6 @@ use Rattle.table.specs.ArrivalRow.{takes_buffers, raised_by_buffers, seeded}
 use Rattle.table.proofs.ArrivalRow.{through, limited-through, raised-by-through, seeded-arrival}
 use Rattle.table.proofs.arrival.fill_arrival.Goals as goal
 use Rattle.table.proofs.arrival.fill_arrival.Goals.{Joined-takes_buffers, then-takes_buffers, else-takes_buffers}
-
-pub copy_row-requires : goal.copy_row-requires
-copy_row-requires c =
-    (omega arith, (omega (arith, c.requires.inside), omega (arith, c.requires.inside, c.requires.room)))
-
-pub raise_buffers-requires : goal.raise_buffers-requires
-raise_buffers-requires c =
-    record {
-      valid = c.requires.ready.ready.valid;
-      costed = c.requires.costed.buffers;
-      before = omega (arith, c.requires.inside);
-      inside = omega (arith, c.requires.inside, c.requires.room, c.copy_row.ensures.same);
-    }
 
 -- the row that the buffers leave
 mid : (c : Joined-takes_buffers) → Filled (through c.args.net c.args.plan.now c.args.scratch.now c.args.cell c.requires.ready c.requires.inside) (length c.args.plan.now * arrival_at) row_words c.args.scratch.now c.if-takes_buffers.scratch
@@ -45,32 +29,6 @@ mid c =
           rw w.scratch-is (filled-as (filled-twice copy _ _ raise) _ (λ k h. raised-by-through a.net a.plan.now a.scratch.now a.cell c.requires.ready c.requires.inside _ to k (sym test ∙ w.if-takes_buffers.true) (λ j l. copy.low (a.cell * row_words + j) (omega (arith, c.requires.inside))) (copy.done k h)))
       | else-takes_buffers w ↦ rw w.scratch-is (filled-as copy _ (λ k h. limited-through a.net a.plan.now a.scratch.now a.cell c.requires.ready c.requires.inside (sym test ∙ w.if-takes_buffers.false) k))
     ]
-
-pub raise_seed-requires : goal.raise_seed-requires
-raise_seed-requires c = (
-  record {
-    mark_in = omega (arith, (mid (goal.at.raise_seed-requires c).Joined-takes_buffers).same, c.requires.inside, c.requires.room);
-    row_in = omega (arith, (mid (goal.at.raise_seed-requires c).Joined-takes_buffers).same, c.requires.inside, c.requires.room);
-    costs_in = omega arith;
-  },
-  c.requires.ready.ready.valid.skew,
-)
-
-pub raise_seed-requires-2 : goal.raise_seed-requires-2
-raise_seed-requires-2 c =
-    let first = c.raise_seed.ensures.same in (
-      record {
-        mark_in = omega (arith, first, (mid (goal.at.raise_seed-requires-2 c).Joined-takes_buffers).same, c.requires.inside, c.requires.room);
-        row_in = omega (arith, first, (mid (goal.at.raise_seed-requires-2 c).Joined-takes_buffers).same, c.requires.inside, c.requires.room);
-        costs_in = omega arith;
-      },
-      c.requires.ready.ready.valid.skew,
-    )
-
-pub shape_of-scratch : goal.shape_of-scratch
-shape_of-scratch c =
-    c.raise_seed-2.ensures.same
-    ∙ (c.raise_seed.ensures.same ∙ (mid (goal.at.shape_of-scratch c).Joined-takes_buffers).same)
 
 -- the seed mark is as it was
 mark : (c : Joined-takes_buffers) → let a = c.args in let k = length a.plan.now * seeds_at + a.cell in get_or c.if-takes_buffers.scratch k 0 ≡ get_or a.scratch.now k 0

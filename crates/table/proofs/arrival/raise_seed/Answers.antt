@@ -1,7 +1,5 @@
 -- Raised where the mark says so, else as it was.
-use mathlib.Core.Path.{◌≡◌, refl, sym, ◌∙◌}
-use mathlib.Core.Bool.{true, false}
-use lib.ListN.{get_or}
+use Rattle.std.proofs.Common.{◌≡◌, refl, sym, ◌∙◌, true, false, get_or}
 use Rattle.rows.proofs.Words.{filled-as}
 use Rattle.table.specs.Problem.{marks_seed}
 use Rattle.table.specs.ArrivalRow.{seeded}

@@ -1,6 +1,5 @@
 -- `table::layer::next_layer` meets its contract: cleared flags, pushes and the new list, by proofs/WholeLayer.
-use mathlib.Core.Path.{sym, ◌∙◌}
-use native.Mathlib.Omega.{arith}
+use Rattle.std.proofs.Common.{sym, arith}
 use Rattle.rules.specs.Rules.{rules_of}
 use Rattle.rules.specs.Crossing.{rules_between}
 use Rattle.table.specs.Problem.{net_rules}
@@ -22,9 +21,6 @@ take_list-requires c =
     let f = c.clear_flags.ensures in
     let u = c.spread_all-next.ensures.raised in
     (u.listed, (few-cells _ _ c.requires.0.ready, omega (arith, u.same, f.same, c.requires.1.0)))
-
-pub shape_of-scratch : goal.shape_of-scratch
-shape_of-scratch c = c.take_list.ensures.same ∙ (c.spread_all-next.ensures.raised.same ∙ c.clear_flags.ensures.same)
 
 pub returns : goal.returns
 unfolding net_rules rules_between rules_of

@@ -1,37 +1,18 @@
 -- `table::pushes::offer` meets its contract: the laws of proofs/Offers, one for each way out.
-use Prim.Native.Nat.{◌+◌, ◌*◌, ◌<◌}
-use mathlib.Core.Path.{◌∙◌}
-use native.Mathlib.Omega.{arith}
-use borrow.Author.Tests.{not-true, not-false}
+use Rattle.std.proofs.Common.{◌+◌, ◌*◌, ◌<◌, arith}
 use Rattle.layout.specs.Layout.{next_at, listed_at}
 use Rattle.lists.proofs.Lists.{listed_kept, listed-count}
 use Rattle.table.proofs.Offers.{offer-none, offer-quiet, noted-listed-kept, offer-grew}
 use Rattle.table.proofs.pushes.offer.Goals as goal
+use Rattle.table.proofs.pushes.offer.Goals.{then-to-n-via-then-to-n, then-to-n-via-else-to-n+then-not-grows}
 
 pub returns-then-to-n : goal.returns-then-to-n
 returns-then-to-n c =
     let a = c.args in
-    offer-none a.n a.to a.costs.now a.base a.step a.next _ c.requires c.if-to-n.true
-
-pub grows-requires : goal.grows-requires
-grows-requires c =
-    let a = c.requires in
-    (a.costed, (omega (arith, c.if-to-n.false, a.to_in), omega (arith, c.if-to-n.false, a.to_in, a.room)))
-
-pub returns-then-not-grows : goal.returns-then-not-grows
-returns-then-not-grows c =
-    let a = c.args in
-    offer-quiet a.n a.to a.costs.now a.base a.step a.next _ c.requires (omega arith) (c.grows.ensures.none (not-true _ c.if-not-grows.true-raw))
-
-pub note-trail-requires : goal.note-trail-requires
-note-trail-requires c =
-    let a = c.requires in
-    (record { sound = a.sound; few = a.few; room = a.room }, omega (arith, c.if-to-n.false, a.to_in))
-
-pub push_row-requires : goal.push_row-requires
-push_row-requires c =
-    let a = c.requires in
-    (a.costed, (omega (arith, c.if-to-n.false, a.to_in), omega (arith, c.if-to-n.false, a.to_in, a.room, c.note-trail.ensures.same)))
+    elim c.then-to-n.branch [
+      | then-to-n-via-then-to-n w ↦ offer-none a.n a.to a.costs.now a.base a.step a.next _ c.requires w.if-to-n.true
+      | then-to-n-via-else-to-n+then-not-grows w ↦ offer-quiet a.n a.to a.costs.now a.base a.step a.next _ c.requires (omega (arith, w.if-to-n.false, c.requires.to_in)) (w.grows.ensures.none w.if-not-grows.true)
+    ]
 
 pub enlist-count-requires : goal.enlist-count-requires
 enlist-count-requires c =
@@ -44,13 +25,8 @@ enlist-count-requires c =
       (in_plan, (a.few, (omega arith, omega (arith, f.same, c.note-trail.ensures.same, a.room)))),
     )
 
-pub shape_of-scratch : goal.shape_of-scratch
-shape_of-scratch c =
-    c.enlist-count.ensures.same
-    ∙ (c.push_row.ensures.same ∙ c.note-trail.ensures.same)
-
 pub returns : goal.returns
 returns c =
     let a = c.args in
     offer-grew a.n a.to a.costs.now a.base a.step a.next _ c.requires _ _ c.note-trail.ensures _ (omega (arith, c.if-to-n.false, c.requires.to_in)) c.push_row.ensures _ _
-    (c.grows.ensures.some (not-false _ c.if-not-grows.false-raw)) c.enlist-count.ensures
+    (c.grows.ensures.some c.if-not-grows.false) c.enlist-count.ensures

@@ -1,16 +1,11 @@
 -- `table::pushes::spread` meets its contract: the arrival row and the four offers, by proofs/Spreads.
-use mathlib.Core.Path.{◌∙◌}
-use native.Mathlib.Omega.{arith}
+use Rattle.std.proofs.Common.{◌∙◌, arith}
 use Rattle.plan.proofs.Sides.{ascending}
 use Rattle.costs.specs.Costs.{horizontal_at, vertical_at}
 use Rattle.table.specs.Problem.{plan_for}
 use Rattle.problem.proofs.Sizes.{cells_are, cells-product}
 use Rattle.table.proofs.Spreads.{step_row, offer-asks, filled-listed, filled-follows, spread-whole}
 use Rattle.table.proofs.pushes.spread.Goals as goal
-
-pub fill_arrival-requires : goal.fill_arrival-requires
-fill_arrival-requires c =
-    record { ready = c.requires.ready; costed = c.requires.costed; inside = omega (arith, c.requires.cell_in); room = c.requires.room }
 
 pub neighbours_of-near-requires : goal.neighbours_of-near-requires
 unfolding plan_for
@@ -44,9 +39,6 @@ offer-requires c =
     offer-asks c.args.net c.args.plan.now c.args.costs.now c.args.cell c.args.next c.args.scratch.now c.requires _ vertical_at _ _ _ (rw c.load-vertical.ensures (step_row c.args.net c.args.plan.now c.args.costs.now c.args.cell c.args.next c.args.scratch.now c.requires c.args.net.problem.elements.vertical vertical_at (omega arith) c.requires.ready.ready.valid.vertical c.requires.costed.vertical))
     (rw c.neighbours_of-near.ensures.is (ascending _ c.requires.ready.ready.sized c.args.cell (omega (arith, cells_are _ _ c.requires.ready.ready, c.requires.cell_in))).down-most)
     (c.offer-c.ensures.raised.same ∙ c.offer-b.ensures.raised.same ∙ c.offer-a.ensures.raised.same ∙ c.fill_arrival.ensures.same) c.offer-c.ensures.raised.listed c.offer-c.ensures.follows.sound
-
-pub shape_of-scratch : goal.shape_of-scratch
-shape_of-scratch c = c.offer.ensures.raised.same ∙ c.offer-c.ensures.raised.same ∙ c.offer-b.ensures.raised.same ∙ c.offer-a.ensures.raised.same ∙ c.fill_arrival.ensures.same
 
 pub returns : goal.returns
 unfolding plan_for
