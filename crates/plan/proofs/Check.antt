@@ -1,22 +1,17 @@
 -- The cases of `checked_plan`, both ways, and what a plan without refusal has.
-use Prim.Native.Nat.{ℕ, zero, suc, ◌≤◌, ◌<◌}
-use mathlib.Core.Bool.{Bool, true, false, ◌||◌}
-use mathlib.Core.Path.{◌≡◌, refl}
-use mathlib.Core.Logic.{◌⊎◌, ⊎_elim, ⊎_swap}
-use native.Mathlib.Nat.{eq-or-lt_of_le, le_of_suc-le-suc, mul-le-mul}
-use native.Mathlib.Omega.{arith}
+use Rattle.std.proofs.Common.{ℕ, zero, suc, ◌≤◌, ◌<◌, ◌≡◌, refl, Bool, true, false, ◌||◌, ◌⊎◌, ⊎_elim, eqb, ltb, Ok, Err, Result, eq-or-lt_of_le, le_of_suc-le-suc, mul-le-mul, arith}
+use mathlib.Core.Logic.{⊎_swap}
 use borrow.Author.Tests.{eqb-true, eqb-false, ltb-false, ne_eqb, eq-eqb, le-ltb, not-false}
-use lib.Dec.{eqb, ltb}
-use Rattle.plan.specs.declared.PlanCheck.{PlanCheck}
+use Rattle.plan.specs.declared.PlanFault.{PlanFault}
 use Rattle.plan.specs.Plan.{Plan, Sized, side_max, cells}
 use Rattle.plan.specs.Check.{grid_fault, length_fault, invalid_at, invalid_below, mark_fault, checked_plan}
 use Rattle.plan.proofs.Truth.{or-false}
 
 four-false : (a b c d : Bool) → (a || b || c || d) ≡ false → (a ≡ false) × (b ≡ false) × (c ≡ false) × (d ≡ false)
 four-false false false false d e = (refl, refl, refl, e)
-four-false true b c d e = let z : ◌≡◌ {A = ℕ} 0 1 = cc in absurd (omega arith)
-four-false false true c d e = let z : ◌≡◌ {A = ℕ} 0 1 = cc in absurd (omega arith)
-four-false false false true d e = let z : ◌≡◌ {A = ℕ} 0 1 = cc in absurd (omega arith)
+four-false true b c d e = cc
+four-false false true c d e = cc
+four-false false false true d e = cc
 
 last-or-before : (c n : ℕ) → c < suc n → (c < n) ⊎ (c ≡ n)
 last-or-before c n h = ⊎_swap (eq-or-lt_of_le (le_of_suc-le-suc h))
@@ -74,7 +69,7 @@ pub record InvalidCell (p : Plan) (n : ℕ) : Type 0 where
 
 pub some-invalid : (p : Plan) (n : ℕ) → invalid_below p n ≡ true → InvalidCell p n
 unfolding invalid_below
-some-invalid p zero e = let z : ◌≡◌ {A = ℕ} 0 1 = cc in absurd (omega arith)
+some-invalid p zero e = cc
 some-invalid p (suc n) e = go (λ q. some-invalid p n q) (invalid_below p n) refl
   where
     go : (invalid_below p n ≡ true → InvalidCell p n) → (b : Bool) → invalid_below p n ≡ b → InvalidCell p (suc n)
@@ -87,16 +82,14 @@ one-invalid p n c h e = go (invalid_below p n) refl
     go : (b : Bool) → invalid_below p n ≡ b → invalid_below p n ≡ true
     go true q = q
     go false q =
-        let f = none-invalid p n q c h in
-        let z : ◌≡◌ {A = ℕ} 0 1 = cc in
-        absurd (omega arith)
+        let f = none-invalid p n q c h in cc
 
 -- The four cases. `checked` gives the case of a plan and what holds in it; `checked-is` the answer from what holds.
-pub data Checked (p : Plan) : PlanCheck → Type 0 where
-  grid : grid_fault p.width p.height ≡ true → Checked p PlanCheck.Grid
-  wrong-length : grid_fault p.width p.height ≡ false → length_fault p ≡ true → Checked p PlanCheck.Length
-  mark : Sized p → InvalidCell p (cells p) → Checked p PlanCheck.Mark
-  valid : Sized p → ((c : ℕ) → c < cells p → invalid_at p c ≡ false) → Checked p PlanCheck.Valid
+pub data Checked (p : Plan) : Result Unit PlanFault → Type 0 where
+  grid : grid_fault p.width p.height ≡ true → Checked p (Err PlanFault.Grid)
+  wrong-length : grid_fault p.width p.height ≡ false → length_fault p ≡ true → Checked p (Err PlanFault.Length)
+  mark : Sized p → InvalidCell p (cells p) → Checked p (Err PlanFault.Mark)
+  valid : Sized p → ((c : ℕ) → c < cells p → invalid_at p c ≡ false) → Checked p (Ok tt)
 
 pub checked : (p : Plan) → Checked p (checked_plan p)
 unfolding checked_plan mark_fault
@@ -108,7 +101,7 @@ checked p = go (grid_fault p.width p.height) (length_fault p) (invalid_below p (
     go false false true e f i = rw (e, f, i) (mark (sized p e f) (some-invalid p (cells p) i))
     go false false false e f i = rw (e, f, i) (valid (sized p e f) (none-invalid p (cells p) i))
 
-pub checked-is : (p : Plan) {k : PlanCheck} → Checked p k → checked_plan p ≡ k
+pub checked-is : (p : Plan) {k : Result Unit PlanFault} → Checked p k → checked_plan p ≡ k
 unfolding checked_plan mark_fault
 checked-is p (grid e) = rw e
 checked-is p (wrong-length e f) = rw (e, f)
@@ -116,17 +109,17 @@ checked-is p (mark s i) =
     rw (sized-grid p s, sized-length p s, one-invalid p (cells p) i.cell i.inside i.invalid)
 checked-is p (valid s f) = rw (sized-grid p s, sized-length p s, all_valid p (cells p) f)
 
-is-valid : (p : Plan) → checked_plan p ≡ PlanCheck.Valid → Checked p PlanCheck.Valid
+is-valid : (p : Plan) → checked_plan p ≡ Ok tt → Checked p (Ok tt)
 is-valid p e = rw e at (checked p)
 
-pub valid-sized : (p : Plan) → checked_plan p ≡ PlanCheck.Valid → Sized p
+pub valid-sized : (p : Plan) → checked_plan p ≡ Ok tt → Sized p
 valid-sized p e = go (is-valid p e)
   where
-    go : Checked p PlanCheck.Valid → Sized p
+    go : Checked p (Ok tt) → Sized p
     go (valid s f) = s
 
-pub valid-marks : (p : Plan) → checked_plan p ≡ PlanCheck.Valid → (c : ℕ) → c < cells p → invalid_at p c ≡ false
+pub valid-marks : (p : Plan) → checked_plan p ≡ Ok tt → (c : ℕ) → c < cells p → invalid_at p c ≡ false
 valid-marks p e = go (is-valid p e)
   where
-    go : Checked p PlanCheck.Valid → (c : ℕ) → c < cells p → invalid_at p c ≡ false
+    go : Checked p (Ok tt) → (c : ℕ) → c < cells p → invalid_at p c ≡ false
     go (valid s f) = f

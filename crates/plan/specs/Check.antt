@@ -1,7 +1,7 @@
 -- Refusals 1, 2 and 3 of document 01, each exactly in its case, in that order.
-use Rattle.std.specs.Prelude.{ℕ, zero, suc, ◌+◌, ◌/◌, ◌%◌, Bool, false, ◌&&◌, ◌||◌, not, cond, eqb, ltb, length}
+use Rattle.std.specs.Prelude.{ℕ, zero, suc, ◌+◌, ◌/◌, ◌%◌, Bool, false, ◌&&◌, ◌||◌, not, cond, eqb, ltb, length, Ok, Err, Result}
 use Rattle.plan.specs.Plan.{Plan, side_max, cells, marks_at, cut_right, cut_below}
-use Rattle.plan.specs.declared.PlanCheck.{PlanCheck}
+use Rattle.plan.specs.declared.PlanFault.{PlanFault}
 
 -- 1: width or height 0 or above 32
 unfoldable pub grid_fault : ℕ → ℕ → Bool
@@ -27,8 +27,8 @@ invalid_below p (suc n) = invalid_below p n || invalid_at p n
 unfoldable pub mark_fault : Plan → Bool
 mark_fault p = invalid_below p (cells p)
 
--- the first fault of a plan
-unfoldable pub checked_plan : Plan → PlanCheck
+-- the first fault of a plan, if it has one
+unfoldable pub checked_plan : Plan → Result Unit PlanFault
 checked_plan p =
-    cond (grid_fault p.width p.height) PlanCheck.Grid
-    (cond (length_fault p) PlanCheck.Length (cond (mark_fault p) PlanCheck.Mark PlanCheck.Valid))
+    cond (grid_fault p.width p.height) (Err PlanFault.Grid)
+    (cond (length_fault p) (Err PlanFault.Length) (cond (mark_fault p) (Err PlanFault.Mark) (Ok tt)))

@@ -6,31 +6,22 @@ ghost use Rattle.plan.specs.Plan.{plan_of};
 ghost use Rattle.plan.specs.Check.{checked_plan};
 ghost use Rattle.plan_check.specs.Number.{check_number};
 
-use plan::{Neighbours, PlanCheck};
+use plan::{Neighbours, PlanFault};
 
 // Document 01's number for the answer of the check.
+#[tactic(auto, unfolding(crate::specs::Number::check_number))]
 fn refusal(plan: &[u8], width: u16, height: u16) -> u8
     ensures { result ≡ check_number (checked_plan (plan_of width height plan.now)) }
 {
-    let answer = plan::check_plan(plan, width, height);
-    match answer {
-        PlanCheck::Valid => 0,
-        PlanCheck::Grid => 1,
-        PlanCheck::Length => 2,
-        PlanCheck::Mark => 3,
+    match plan::check_plan(plan, width, height) {
+        Ok(()) => 0,
+        Err(PlanFault::Grid) => 1,
+        Err(PlanFault::Length) => 2,
+        Err(PlanFault::Mark) => 3,
     }
 }
 
-// Stops the run unless these are the sides.
-fn expect_sides(sides: Neighbours, up: usize, left: usize, right: usize, down: usize)
-    requires { (sides.up ≡ up) × (sides.left ≡ left) × (sides.right ≡ right) × (sides.down ≡ down) }
-{
-    check::expect(sides.up == up);
-    check::expect(sides.left == left);
-    check::expect(sides.right == right);
-    check::expect(sides.down == down);
-}
-
+#[tactic(auto, unfolding(plan::specs::Plan::blocked, plan::specs::Plan::tap, plan::specs::Plan::takes_register, plan::specs::Plan::cut_right, plan::specs::Plan::cut_below))]
 fn marks() {
     check::expect(plan::is_blocked(1));
     check::expect(!plan::is_blocked(14));
@@ -45,6 +36,7 @@ fn marks() {
     check::expect(!plan::cuts_below(7));
 }
 
+#[tactic(auto, unfolding(plan::specs::Check::grid_fault))]
 fn grids() {
     check::expect(plan::grid_fault(0, 1));
     check::expect(!plan::grid_fault(1, 1));
@@ -55,6 +47,7 @@ fn grids() {
 }
 
 // A plan 3 wide and 2 high.
+#[tactic(auto, unfolding(plan::specs::Plan::cut_right, plan::specs::Plan::cut_below, plan::specs::Check::invalid_mark))]
 fn invalid_marks() {
     check::expect(!plan::invalid_mark(3, 2, 1, 15));
     check::expect(plan::invalid_mark(3, 2, 1, 16));
@@ -65,6 +58,7 @@ fn invalid_marks() {
 }
 
 // 2 by 2: a grid fault comes before the length, and the length before a mark.
+#[tactic(auto, unfolding(crate::specs::Number::check_number, plan::specs::Plan::cells, plan::specs::Plan::marks_at, plan::specs::Plan::cut_right, plan::specs::Plan::cut_below, plan::specs::Check::grid_fault, plan::specs::Check::length_fault, plan::specs::Check::invalid_mark, plan::specs::Check::invalid_below, plan::specs::Check::mark_fault, plan::specs::Check::checked_plan))]
 fn checks() {
     let valid: [u8; 4] = [15, 8, 4, 3];
     let last_column: [u8; 4] = [15, 4, 4, 3];
@@ -79,15 +73,27 @@ fn checks() {
     check::expect(refusal(&last_row, 2, 2) == 3);
 }
 
+fn sides_of(up: usize, left: usize, right: usize, down: usize) -> Neighbours
+    ensures { result ≡ record { up = up; left = left; right = right; down = down } }
+{
+    Neighbours {
+        up,
+        left,
+        right,
+        down,
+    }
+}
+
 // Corners of a plan 2 by 2, the middle of a strip 1 wide, and a cell with cuts on both sides.
+#[tactic(auto, unfolding(plan::specs::Plan::cells, plan::specs::Plan::column, plan::specs::Plan::marks_at, plan::specs::Plan::cut_right, plan::specs::Plan::cut_below, plan::specs::Joined::neighbours_of))]
 fn sides() {
     let open: [u8; 4] = [0, 0, 0, 0];
-    expect_sides(plan::neighbours_of(&open, 2, 2, 0), 4, 4, 1, 2);
-    expect_sides(plan::neighbours_of(&open, 2, 2, 3), 1, 2, 4, 4);
+    check::expect(plan::neighbours_of(&open, 2, 2, 0) == sides_of(4, 4, 1, 2));
+    check::expect(plan::neighbours_of(&open, 2, 2, 3) == sides_of(1, 2, 4, 4));
     let strip: [u8; 3] = [0, 0, 0];
-    expect_sides(plan::neighbours_of(&strip, 1, 3, 1), 0, 3, 3, 2);
+    check::expect(plan::neighbours_of(&strip, 1, 3, 1) == sides_of(0, 3, 3, 2));
     let cut: [u8; 3] = [4, 4, 0];
-    expect_sides(plan::neighbours_of(&cut, 3, 1, 1), 3, 3, 3, 3);
+    check::expect(plan::neighbours_of(&cut, 3, 1, 1) == sides_of(3, 3, 3, 3));
 }
 
 fn main() {

@@ -8,5 +8,5 @@ pub use answers::{
 };
 pub use judging::{better, compare, judge};
 pub use routing::{explain, route, route_crossing};
-pub use session::{Session, SessionAnswer, SessionStep};
+pub use session::{Session, SessionRefusal, SessionStep, session_number};
 pub use session_calls::{open, set_marks, undo};

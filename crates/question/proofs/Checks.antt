@@ -6,8 +6,9 @@ use native.Mathlib.Omega.{arith}
 use lib.ListN.{length}
 use Rattle.plan.specs.Plan.{plan_of, cells}
 use Rattle.plan.specs.Check.{checked_plan}
-use Rattle.plan.specs.declared.PlanCheck.{PlanCheck}
-use Rattle.plan.specs.declared.PlanCheck.TheVariants.{Valid, Grid, Length, Mark}
+use Rattle.std.proofs.Common.{Ok, Err, Result}
+use Rattle.plan.specs.declared.PlanFault.{PlanFault}
+use Rattle.plan.specs.declared.PlanFault.TheVariants.{Grid, Length, Mark}
 use Rattle.plan.proofs.Check.{valid-sized}
 use Rattle.timing.specs.Valid as ranges
 use Rattle.timing.specs.declared.elements.Elements.{Elements}
@@ -30,19 +31,19 @@ use Rattle.question.specs.declared.QuestionCheck.{QuestionCheck}
 -- Known checks
 
 module _ (fault : ElementFault) (q : Question) (rest : Check) where
-  pub fails-grid : checked_plan (plan_of q.width q.height q.marks) ≡ Grid → checks_with fault q rest ≡ fails Refusal.Grid
+  pub fails-grid : checked_plan (plan_of q.width q.height q.marks) ≡ Err Grid → checks_with fault q rest ≡ fails Refusal.Grid
   unfolding after_plan
   fails-grid e = rw e
 
-  pub fails-length : checked_plan (plan_of q.width q.height q.marks) ≡ Length → checks_with fault q rest ≡ fails Refusal.Length
+  pub fails-length : checked_plan (plan_of q.width q.height q.marks) ≡ Err Length → checks_with fault q rest ≡ fails Refusal.Length
   unfolding after_plan
   fails-length e = rw e
 
-  pub fails-mark : checked_plan (plan_of q.width q.height q.marks) ≡ Mark → checks_with fault q rest ≡ fails Refusal.Mark
+  pub fails-mark : checked_plan (plan_of q.width q.height q.marks) ≡ Err Mark → checks_with fault q rest ≡ fails Refusal.Mark
   unfolding after_plan
   fails-mark e = rw e
 
-  module _ (valid : checked_plan (plan_of q.width q.height q.marks) ≡ Valid) where
+  module _ (valid : checked_plan (plan_of q.width q.height q.marks) ≡ Ok tt) where
     pub fails-element : (f : Fault) → fault ≡ At f → checks_with fault q rest ≡ fails (Refusal.Element f)
     unfolding after_plan after_tables
     fails-element f e = rw (valid, after_plan, e)
@@ -57,7 +58,7 @@ module _ (fault : ElementFault) (q : Question) (rest : Check) where
       pass-with e = rw (valid, after_plan, clean, after_tables, e)
 
 -- the same with one clock
-pub all_pass : (q : Question) (rest : Check) → checked_plan (plan_of q.width q.height q.marks) ≡ Valid → tables_fault q.tables q.buffers ≡ Nothing → ends_fault (cells_asked q) q.source q.sink ≡ false → question_checks q rest ≡ rest
+pub all_pass : (q : Question) (rest : Check) → checked_plan (plan_of q.width q.height q.marks) ≡ Ok tt → tables_fault q.tables q.buffers ≡ Nothing → ends_fault (cells_asked q) q.source q.sink ≡ false → question_checks q rest ≡ rest
 unfolding question_checks
 all_pass q rest valid clean apart = pass-with (tables_fault q.tables q.buffers) q rest valid clean apart
 
@@ -76,11 +77,11 @@ pub checked-same : (f g : ElementFault) (e h : Elements) (q : Question) → f �
 unfolding checked_with checked_as after_plan after_tables
 checked-same f g e h q same clean = rw same (go g clean)
   where
-    no-problem : (k : PlanCheck) (r : Refusal) → checked_as (after_plan k (fails r)) (problem_with e q) ≡ checked_as (after_plan k (fails r)) (problem_with h q)
-    no-problem Valid r = refl
-    no-problem Grid r = refl
-    no-problem Length r = refl
-    no-problem Mark r = refl
+    no-problem : (k : Result Unit PlanFault) (r : Refusal) → checked_as (after_plan k (fails r)) (problem_with e q) ≡ checked_as (after_plan k (fails r)) (problem_with h q)
+    no-problem (Ok u) r = refl
+    no-problem (Err Grid) r = refl
+    no-problem (Err Length) r = refl
+    no-problem (Err Mark) r = refl
 
     go : (g : ElementFault) → (g ≡ Nothing → e ≡ h) → checked_as (checks_with g q passes) (problem_with e q) ≡ checked_as (checks_with g q passes) (problem_with h q)
     go Nothing c = rw (c refl)
@@ -93,12 +94,12 @@ tables-checked q c e =
 
 -- Checks that passed
 
-plan-valid : (k : PlanCheck) (rest : Check) → after_plan k rest ≡ passes → (k ≡ Valid) × (rest ≡ passes)
+plan-valid : (k : Result Unit PlanFault) (rest : Check) → after_plan k rest ≡ passes → (k ≡ Ok tt) × (rest ≡ passes)
 unfolding after_plan
-plan-valid Valid rest e = (refl, e)
-plan-valid Grid rest e = absurd (let z : ◌≡◌ {A = ℕ} 0 1 = cc in omega arith)
-plan-valid Length rest e = absurd (let z : ◌≡◌ {A = ℕ} 0 1 = cc in omega arith)
-plan-valid Mark rest e = absurd (let z : ◌≡◌ {A = ℕ} 0 1 = cc in omega arith)
+plan-valid (Ok u) rest e = (refl, e)
+plan-valid (Err Grid) rest e = absurd (let z : ◌≡◌ {A = ℕ} 0 1 = cc in omega arith)
+plan-valid (Err Length) rest e = absurd (let z : ◌≡◌ {A = ℕ} 0 1 = cc in omega arith)
+plan-valid (Err Mark) rest e = absurd (let z : ◌≡◌ {A = ℕ} 0 1 = cc in omega arith)
 
 nothing-named : (k : ElementFault) (rest : Check) → after_tables k rest ≡ passes → (k ≡ Nothing) × (rest ≡ passes)
 unfolding after_tables
@@ -111,7 +112,7 @@ or_else-passes true r rest e = absurd (let z : ◌≡◌ {A = ℕ} 0 1 = cc in o
 
 -- each check, where all pass
 pub record Passed (fault : ElementFault) (q : Question) (rest : Check) : Type 0 where
-  pub valid : checked_plan (plan_of q.width q.height q.marks) ≡ Valid
+  pub valid : checked_plan (plan_of q.width q.height q.marks) ≡ Ok tt
   pub clean : fault ≡ Nothing
   pub apart : ends_fault (cells_asked q) q.source q.sink ≡ false
   pub after : rest ≡ passes
@@ -143,13 +144,13 @@ unfolding after_plan after_tables
 five-fail-with fault q r rest e =
     go (checked_plan (plan_of q.width q.height q.marks)) fault (ends_fault (cells_asked q) q.source q.sink) e
   where
-    go : (k : PlanCheck) (f : ElementFault) (b : Bool) → after_plan k (after_tables f (or_else b Refusal.Ends passes)) ≡ fails r → after_plan k (after_tables f (or_else b Refusal.Ends rest)) ≡ fails r
-    go Grid f b h = h
-    go Length f b h = h
-    go Mark f b h = h
-    go Valid (At f) b h = h
-    go Valid Nothing true h = h
-    go Valid Nothing false h = absurd (let z : ◌≡◌ {A = ℕ} 0 1 = cc in omega arith)
+    go : (k : Result Unit PlanFault) (f : ElementFault) (b : Bool) → after_plan k (after_tables f (or_else b Refusal.Ends passes)) ≡ fails r → after_plan k (after_tables f (or_else b Refusal.Ends rest)) ≡ fails r
+    go (Err Grid) f b h = h
+    go (Err Length) f b h = h
+    go (Err Mark) f b h = h
+    go (Ok u) (At f) b h = h
+    go (Ok u) Nothing true h = h
+    go (Ok u) Nothing false h = absurd (let z : ◌≡◌ {A = ℕ} 0 1 = cc in omega arith)
 
 pub five-fail : (q : Question) (r : Refusal) (rest : Check) → question_checks q passes ≡ fails r → question_checks q rest ≡ fails r
 unfolding question_checks

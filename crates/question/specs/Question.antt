@@ -1,9 +1,9 @@
 -- What is asked on a plan, and refusals 1 to 5 of document 01, which every call about a route has.
-use Rattle.std.specs.Prelude.{ℕ, ◌*◌, Bool, cond, List}
+use Rattle.std.specs.Prelude.{ℕ, ◌*◌, Bool, cond, List, Ok, Err, Result}
 use Rattle.plan.specs.Plan.{plan_of}
 use Rattle.plan.specs.Check.{checked_plan}
-use Rattle.plan.specs.declared.PlanCheck.{PlanCheck}
-use Rattle.plan.specs.declared.PlanCheck.TheVariants.{Valid, Grid, Length, Mark}
+use Rattle.plan.specs.declared.PlanFault.{PlanFault}
+use Rattle.plan.specs.declared.PlanFault.TheVariants.{Grid, Length, Mark}
 use Rattle.rules.specs.Rules.{Rules, rules_of}
 use Rattle.answers.specs.Tables.{tables_fault, elements_of}
 use Rattle.answers.specs.Ends.{ends_fault}
@@ -41,11 +41,11 @@ pub data Check : Type 0 where
   fails : Refusal → Check
 
 -- 1, 2, 3, then the rest
-unfoldable pub after_plan : PlanCheck → Check → Check
-after_plan Valid rest = rest
-after_plan Grid rest = fails Refusal.Grid
-after_plan Length rest = fails Refusal.Length
-after_plan Mark rest = fails Refusal.Mark
+unfoldable pub after_plan : Result Unit PlanFault → Check → Check
+after_plan (Ok u) rest = rest
+after_plan (Err Grid) rest = fails Refusal.Grid
+after_plan (Err Length) rest = fails Refusal.Length
+after_plan (Err Mark) rest = fails Refusal.Mark
 
 -- 4 with the number at fault, then the rest
 unfoldable pub after_tables : ElementFault → Check → Check

@@ -1,10 +1,9 @@
 // A question about a plan: refusals 1 to 5 in their order, and the routing problem where they pass.
 #![tactic(auto)]
 
-ghost use Rattle.std.specs.Prelude.{◌≡◌};
+ghost use Rattle.std.specs.Prelude.{◌≡◌, Ok};
 ghost use Rattle.plan.specs.Plan.{plan_of};
 ghost use Rattle.plan.specs.Check.{checked_plan};
-ghost use Rattle.plan.specs.declared.PlanCheck.{PlanCheck};
 ghost use Rattle.answers.specs.Tables.{checked_list};
 ghost use Rattle.answers.specs.declared.records.Tables.{Tables};
 ghost use Rattle.answers.specs.declared.records.BufferList.{BufferList};
@@ -12,7 +11,7 @@ ghost use Rattle.question.specs.Question.{question_of, fails};
 ghost use Rattle.question.specs.Checked.{no_problem, checked_as, checked_with, checked_question};
 
 use answers::{BuffersRead, ElementFault, Refusal, Tables, check_tables, ends_fault, no_elements};
-use plan::{PlanCheck, check_plan};
+use plan::{PlanFault, check_plan};
 use problem::Problem;
 use timing::Elements;
 
@@ -56,7 +55,7 @@ fn after_plan(
     source: u16,
     sink: u16,
 ) -> QuestionCheck
-    requires { checked_plan (plan_of width height plan.now) ≡ PlanCheck.Valid }
+    requires { checked_plan (plan_of width height plan.now) ≡ Ok tt }
     ensures { (t : Tables) → (list : BufferList) → result ≡ checked_with fault elements (question_of plan.now width height t list source sink) }
 {
     match fault {
@@ -97,16 +96,16 @@ pub fn check_with(
 {
     let grid = check_plan(plan, width, height);
     match grid {
-        PlanCheck::Grid => {
+        Err(PlanFault::Grid) => {
             return refused(Refusal::Grid);
         }
-        PlanCheck::Length => {
+        Err(PlanFault::Length) => {
             return refused(Refusal::Length);
         }
-        PlanCheck::Mark => {
+        Err(PlanFault::Mark) => {
             return refused(Refusal::Mark);
         }
-        PlanCheck::Valid => {
+        Ok(()) => {
             return after_plan(plan, width, height, fault, elements, source, sink);
         }
     }

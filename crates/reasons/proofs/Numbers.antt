@@ -5,8 +5,9 @@ use mathlib.Core.Path.{◌≡◌, refl}
 use mathlib.Core.Logic.{◌⊎◌, inl, inr}
 use native.Mathlib.Omega.{arith}
 use lib.Dec.{ltb}
-use Rattle.plan.specs.declared.PlanCheck.{PlanCheck}
-use Rattle.plan.specs.declared.PlanCheck.TheVariants.{Valid, Grid, Length, Mark}
+use Rattle.std.proofs.Common.{Ok, Err, Result}
+use Rattle.plan.specs.declared.PlanFault.{PlanFault}
+use Rattle.plan.specs.declared.PlanFault.TheVariants.{Grid, Length, Mark}
 use Rattle.answers.specs.Ends.{ends_fault}
 use Rattle.answers.specs.Tables.{tables_fault}
 use Rattle.answers.specs.Numbers.{refusal_number, explained_number}
@@ -25,12 +26,12 @@ abbrev UpToSix : Check → Type 0
 UpToSix passes = Unit {0}
 UpToSix (fails r) = refusal_number r ≤ 6
 
-plan-checked : (k : PlanCheck) (rest : Check) → UpToSix rest → UpToSix (after_plan k rest)
+plan-checked : (k : Result Unit PlanFault) (rest : Check) → UpToSix rest → UpToSix (after_plan k rest)
 unfolding after_plan
-plan-checked Valid rest h = h
-plan-checked Grid rest h = omega arith
-plan-checked Length rest h = omega arith
-plan-checked Mark rest h = omega arith
+plan-checked (Ok u) rest h = h
+plan-checked (Err Grid) rest h = omega arith
+plan-checked (Err Length) rest h = omega arith
+plan-checked (Err Mark) rest h = omega arith
 
 tables-checked : (f : ElementFault) (rest : Check) → UpToSix rest → UpToSix (after_tables f rest)
 unfolding after_tables

@@ -1,10 +1,9 @@
 -- The whole effect of open, move and undo, for every input: document 01, "Calls and what they leave". A refused call changes nothing; a refused opening hands back a record of zeros.
 use Rattle.std.specs.Prelude.{ℕ, ◌+◌, ◌*◌, ◌-◌, cond, List, ◌≡◌, length, get_or, set}
 use Rattle.session.specs.declared.records.Session.{Session}
-use Rattle.session.specs.declared.records.SessionAnswer.{SessionAnswer}
 use Rattle.session.specs.declared.records.SessionStep.{SessionStep}
 use Rattle.session.specs.declared.journal.Entry.{Entry}
-use Rattle.session.specs.Numbers.{is_done}
+use Rattle.session.specs.Numbers.{SessionAnswer, is_done}
 use Rattle.session.specs.Journal.{entry_bytes, cleared, entry_at, written_entry}
 use Rattle.session.specs.Answers.{open_answer, move_answer, undo_answer, newest_at}
 

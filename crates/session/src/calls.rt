@@ -6,32 +6,33 @@ use crate::journal::{ENTRY_BYTES, Entry, clear_journal, read_entry, write_entry}
 use crate::records::{Session, SessionStep};
 
 // Opens a session on a plan: the journal's used bytes become zero, depth 0. A refused opening gives a record of zeros.
+#[tactic(auto, unfolding(crate::specs::Steps::effect, crate::specs::Steps::opened))]
 pub fn open_at(plan: &[u8], width: u16, height: u16, journal: &mut [u8]) -> SessionStep
     ensures { Opened width height plan.now journal.old journal.new result }
 {
-    let answer = open_answer(plan, width, height, journal.len());
-    if answer.is_done() {
-        clear_journal(journal);
+    if let Err(refusal) = open_answer(plan, width, height, journal.len()) {
         return SessionStep {
-            answer: answer,
+            answer: Err(refusal),
             session: Session {
-                width: width,
-                height: height,
+                width: 0,
+                height: 0,
                 depth: 0,
             },
         };
     }
+    clear_journal(journal);
     SessionStep {
-        answer: answer,
+        answer: Ok(()),
         session: Session {
-            width: 0,
-            height: 0,
+            width,
+            height,
             depth: 0,
         },
     }
 }
 
 // A move: sets one cell's marks, adds an entry, adds 1 to the depth.
+#[tactic(auto, unfolding(crate::specs::Steps::effect, crate::specs::Steps::move_entry, crate::specs::Steps::with_move, crate::specs::Steps::moved, plan::specs::Plan::cells))]
 pub fn set_marks_at(
     s: Session,
     plan: &mut [u8],
@@ -41,57 +42,53 @@ pub fn set_marks_at(
 ) -> SessionStep
     ensures { Moved (state_of s plan.old journal.old) cell marks (state_of result.session plan.new journal.new) result.answer }
 {
-    let answer = move_answer(s, plan, journal.len(), cell, marks);
-    if answer.is_done() {
-        let entry = Entry {
-            cell: cell,
-            old: plan[cell as usize],
-            new: marks,
-        };
-        plan[cell as usize] = marks;
-        write_entry(journal, s.depth as usize * ENTRY_BYTES, entry);
+    if let Err(refusal) = move_answer(s, plan, journal.len(), cell, marks) {
         return SessionStep {
-            answer: answer,
-            session: Session {
-                width: s.width,
-                height: s.height,
-                depth: s.depth + 1,
-            },
+            answer: Err(refusal),
+            session: s,
         };
     }
+    let entry = Entry {
+        cell,
+        old: plan[cell as usize],
+        new: marks,
+    };
+    plan[cell as usize] = marks;
+    write_entry(journal, s.depth as usize * ENTRY_BYTES, entry);
     SessionStep {
-        answer: answer,
-        session: s,
+        answer: Ok(()),
+        session: Session {
+            depth: s.depth + 1,
+            ..s
+        },
     }
 }
 
 // Takes the newest move back: its old marks, its entry zero, 1 off the depth.
+#[tactic(auto, unfolding(crate::specs::Answers::newest_at, crate::specs::Steps::effect, crate::specs::Steps::with_undo, crate::specs::Steps::undone, plan::specs::Plan::cells))]
 pub fn undo_at(s: Session, plan: &mut [u8], journal: &mut [u8]) -> SessionStep
     ensures { Undone (state_of s plan.old journal.old) (state_of result.session plan.new journal.new) result.answer }
 {
-    let answer = undo_answer(s, plan, journal);
-    if answer.is_done() {
-        let at = (s.depth as usize - 1) * ENTRY_BYTES;
-        let entry = read_entry(journal, at);
-        let cell = entry.cell as usize;
-        plan[cell] = entry.old;
-        let none = Entry {
-            cell: 0,
-            old: 0,
-            new: 0,
-        };
-        write_entry(journal, at, none);
+    if let Err(refusal) = undo_answer(s, plan, journal) {
         return SessionStep {
-            answer: answer,
-            session: Session {
-                width: s.width,
-                height: s.height,
-                depth: s.depth - 1,
-            },
+            answer: Err(refusal),
+            session: s,
         };
     }
+    let at = (s.depth as usize - 1) * ENTRY_BYTES;
+    let newest = read_entry(journal, at);
+    plan[newest.cell as usize] = newest.old;
+    let none = Entry {
+        cell: 0,
+        old: 0,
+        new: 0,
+    };
+    write_entry(journal, at, none);
     SessionStep {
-        answer: answer,
-        session: s,
+        answer: Ok(()),
+        session: Session {
+            depth: s.depth - 1,
+            ..s
+        },
     }
 }

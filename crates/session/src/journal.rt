@@ -17,36 +17,33 @@ pub struct Entry {
 }
 
 // The used bytes become 0.
+#[tactic(auto, unfolding(crate::specs::Journal::cleared))]
 pub fn clear_journal(journal: &mut [u8])
     requires { journal_bytes ≤ length journal.old }
     ensures { journal.new ≡ cleared journal.old }
 {
-    let mut i = 0;
-    while i < JOURNAL_BYTES {
-        journal[i] = 0;
-        i += 1;
-    }
+    journal[..JOURNAL_BYTES].fill(0);
 }
 
 // The entry at this byte.
+#[tactic(auto, unfolding(crate::specs::Journal::entry_at))]
 pub fn read_entry(journal: &[u8], at: usize) -> Entry
     requires { at + entry_bytes ≤ length journal.now }
     ensures { result ≡ entry_at journal.now at }
 {
     Entry {
-        cell: journal[at] as u16 + journal[at + 1] as u16 * 256,
+        cell: u16::from_le_bytes([journal[at], journal[at + 1]]),
         old: journal[at + 2],
         new: journal[at + 3],
     }
 }
 
 // The entry's four bytes are written at this byte.
+#[tactic(auto, unfolding(crate::specs::Journal::entry_of, crate::specs::Journal::written_entry))]
 pub fn write_entry(journal: &mut [u8], at: usize, entry: Entry)
     requires { at + entry_bytes ≤ length journal.old }
     ensures { journal.new ≡ written_entry journal.old at entry }
 {
-    journal[at] = (entry.cell % 256) as u8;
-    journal[at + 1] = (entry.cell / 256) as u8;
-    journal[at + 2] = entry.old;
-    journal[at + 3] = entry.new;
+    let [low, high] = entry.cell.to_le_bytes();
+    journal[at..at + ENTRY_BYTES].copy_from_slice(&[low, high, entry.old, entry.new]);
 }

@@ -7,4 +7,4 @@ mod journal;
 mod records;
 
 pub use calls::{open_at, set_marks_at, undo_at};
-pub use records::{Session, SessionAnswer, SessionStep};
+pub use records::{Session, SessionRefusal, SessionStep, session_number};

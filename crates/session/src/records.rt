@@ -1,6 +1,9 @@
 // What a session holds beside its plan and journal, and what its calls answer. Document 01, "Calls and what they leave".
 ghost use Rattle.std.specs.Prelude.{◌≡◌};
-ghost use Rattle.session.specs.Numbers.{is_done, session_number};
+ghost use Rattle.session.specs.Numbers.{refusal_number, session_number};
+ghost use Rattle.session.specs.Answers.{plan_refusal};
+
+use plan::PlanFault;
 
 // The session record: the plan's sides and the number of moves in the journal.
 #[derive(Clone, Copy)]
@@ -10,10 +13,9 @@ pub struct Session {
     pub depth: u16,
 }
 
-// The answer of open, set_marks and undo.
+// Why open, set_marks or undo is refused. An answer is Ok, or one of these.
 #[derive(Clone, Copy)]
-pub enum SessionAnswer {
-    Done,
+pub enum SessionRefusal {
     Grid,
     // plan length
     Length,
@@ -32,36 +34,50 @@ pub enum SessionAnswer {
     Cell,
 }
 
-// An answer and the session record after the call.
-#[derive(Clone, Copy)]
-pub struct SessionStep {
-    pub answer: SessionAnswer,
-    pub session: Session,
-}
+impl From<PlanFault> for SessionRefusal {
+    ghost from_gives = { λ f r. r ≡ plan_refusal f };
 
-impl SessionAnswer {
-    // Document 01's number.
-    pub fn number(self) -> u16
-        ensures { result ≡ session_number self }
-    {
-        match self {
-            SessionAnswer::Done => 0,
-            SessionAnswer::Grid => 1,
-            SessionAnswer::Length => 2,
-            SessionAnswer::Mark => 3,
-            SessionAnswer::JournalShort => 9,
-            SessionAnswer::Depth => 10,
-            SessionAnswer::JournalFull => 11,
-            SessionAnswer::NothingToUndo => 12,
-            SessionAnswer::CorruptJournal => 13,
-            SessionAnswer::Cell => 14,
+    fn from(fault: PlanFault) -> SessionRefusal {
+        match fault {
+            PlanFault::Grid => SessionRefusal::Grid,
+            PlanFault::Length => SessionRefusal::Length,
+            PlanFault::Mark => SessionRefusal::Mark,
         }
     }
+}
 
-    // Whether the call was answered and not refused.
-    pub fn is_done(self) -> bool
-        ensures { result ≡ is_done self }
+impl SessionRefusal {
+    // Document 01's number.
+    pub fn number(self) -> u16
+        ensures { result ≡ refusal_number self }
     {
-        self.number() == 0
+        match self {
+            SessionRefusal::Grid => 1,
+            SessionRefusal::Length => 2,
+            SessionRefusal::Mark => 3,
+            SessionRefusal::JournalShort => 9,
+            SessionRefusal::Depth => 10,
+            SessionRefusal::JournalFull => 11,
+            SessionRefusal::NothingToUndo => 12,
+            SessionRefusal::CorruptJournal => 13,
+            SessionRefusal::Cell => 14,
+        }
     }
+}
+
+// Document 01's number of an answer, 0 where the call is not refused.
+pub fn session_number(answer: Result<(), SessionRefusal>) -> u16
+    ensures { result ≡ session_number answer }
+{
+    match answer {
+        Ok(()) => 0,
+        Err(refusal) => refusal.number(),
+    }
+}
+
+// An answer and the session record after the call. A refused opening gives a record too, of zeros (document 01), so the record is no part of the Ok.
+#[derive(Clone, Copy)]
+pub struct SessionStep {
+    pub answer: Result<(), SessionRefusal>,
+    pub session: Session,
 }

@@ -3,7 +3,7 @@
 
 ghost use Rattle.session.specs.Steps.{state_of, Opened, Moved, Undone};
 
-use session::{Session, SessionAnswer, SessionStep, open_at, set_marks_at, undo_at};
+use session::{Session, SessionRefusal, SessionStep, open_at, set_marks_at, undo_at};
 
 // Opens a session on a plan: the journal's first 1,024 bytes become zero, the record has depth 0. A refused opening gives a record of zeros.
 // `Opened` says the answer, the record and what is left in the journal, refusals included; `session_number` the answer's number.
@@ -21,7 +21,7 @@ pub fn set_marks(
     journal: &mut [u8],
     cell: u16,
     marks: u8,
-) -> SessionAnswer
+) -> Result<(), SessionRefusal>
     ensures { Moved (state_of s.old plan.old journal.old) cell marks (state_of s.new plan.new journal.new) result }
 {
     let m = set_marks_at(*s, plan, journal, cell, marks);
@@ -31,7 +31,7 @@ pub fn set_marks(
 
 // Takes the newest move back: its old marks, its entry zero, 1 off the depth.
 // `Undone` says the answer, the record and what is left in the plan and the journal, refusals included.
-pub fn undo(s: &mut Session, plan: &mut [u8], journal: &mut [u8]) -> SessionAnswer
+pub fn undo(s: &mut Session, plan: &mut [u8], journal: &mut [u8]) -> Result<(), SessionRefusal>
     ensures { Undone (state_of s.old plan.old journal.old) (state_of s.new plan.new journal.new) result }
 {
     let m = undo_at(*s, plan, journal);

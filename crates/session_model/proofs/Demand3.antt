@@ -1,21 +1,15 @@
 -- Demand 3 of document 01, as one theorem about the whole list of calls: `demand-3`. What it says: specs/Demand3.antt.
 -- Proof: on the state of its standing moves each call gives what the model gives and leaves the state of the moves that then stand (Turns.antt); an opening leaves the state of no moves; so by induction over the list.
-use Prim.Native.Nat.{ℕ}
-use mathlib.Core.Bool.{Bool, true, false}
-use mathlib.Core.List.{List, [], ◌∷◌, ◌++◌}
-use mathlib.Core.Path.{◌≡◌, refl, sym, ap, ◌∙◌}
+use Rattle.std.proofs.Common.{ℕ, List, [], ◌∷◌, ◌++◌, ◌≡◌, refl, sym, ap, ◌∙◌, length, drop, false, Ok, Err}
 use borrow.Author.Tests.{lt-leb}
-use lib.ListN.{length, drop}
 use lib.Seq.{take_at, drop_at}
 use Rattle.plan.specs.Plan.{Plan, plan_of, cells}
 use Rattle.plan.specs.Check.{grid_fault, checked_plan}
-use Rattle.plan.specs.declared.PlanCheck.{PlanCheck}
-use Rattle.session.specs.declared.records.SessionAnswer.{SessionAnswer}
-use Rattle.session.specs.Numbers.{is_done}
+use Rattle.session.specs.declared.records.SessionRefusal.{SessionRefusal}
+use Rattle.session.specs.Numbers.{SessionAnswer, is_done}
 use Rattle.session.specs.Journal.{journal_bytes, depth_max, cleared}
 use Rattle.session.specs.Answers.{after, check_answer, plan_answer, open_answer, session_answer, move_answer, undo_answer}
 use Rattle.session.specs.Steps.{State, effect, no_session, opened, moved, undone}
-use Rattle.session.proofs.Done.{done-is}
 use Rattle.session.proofs.Answered.{open_done}
 use Rattle.session_model.specs.Asks.{Ask, gives, answer_to}
 use Rattle.session_model.specs.Calls.{Move, Call, move, undo, ask, reply}
@@ -27,7 +21,7 @@ use Rattle.session_model.proofs.Entries.{history-length}
 use Rattle.session_model.proofs.Turns.{model_state, Turn, stands-few, move-turn, no-undo, undo-turn}
 use Rattle.session_model.proofs.Replies.{gives-is, by-rules, alike-answers}
 
-module _ (p : Plan) (ok : checked_plan p ≡ PlanCheck.Valid) (rest : List ℕ) where
+module _ (p : Plan) (ok : checked_plan p ≡ Ok tt) (rest : List ℕ) where
   -- each kind of call
   turn : (moves : List Move) → Stands p moves → (c : Call) → Turn p moves rest c
   unfolding call_gives next model_gives standing model_state
@@ -87,7 +81,7 @@ unfolding given_at model_lines model_gives standing_after
 question-line p moves [] later a = refl
 question-line p moves (c ∷ before) later a = question-line p (standing p moves c) before later a
 
-module _ (p : Plan) (ok : checked_plan p ≡ PlanCheck.Valid) (journal : List ℕ) (calls : List Call) (e : Opens p journal) where
+module _ (p : Plan) (ok : checked_plan p ≡ Ok tt) (journal : List ℕ) (calls : List Call) (e : Opens p journal) where
   abbrev rest : List ℕ
   rest = drop journal_bytes journal
 
@@ -103,7 +97,7 @@ module _ (p : Plan) (ok : checked_plan p ≡ PlanCheck.Valid) (journal : List �
   lines_are : session_lines (start p journal) calls ≡ model_lines p [] calls
   lines_are = rw (start_is p journal e) (lines_from p ok rest [] none calls)
 
-  sides-after : let s = state_after (start p journal) calls in checked_plan (plan_of s.session.width s.session.height s.marks) ≡ PlanCheck.Valid
+  sides-after : let s = state_after (start p journal) calls in checked_plan (plan_of s.session.width s.session.height s.marks) ≡ Ok tt
   unfolding model_state
   sides-after = rw state-is (laid-valid p stand ok standing-moves)
 
@@ -138,12 +132,9 @@ answered-is p journal e calls =
           rw (marks-after p ok journal calls e, marks-after p ok other (moves_of moves) f, again, gives-is a, gives-is b) (alike-answers alike (laid p.marks moves));
     }
 
-not_done : (a : SessionAnswer) → (a ≡ SessionAnswer.Done → ⊥) → is_done a ≡ false
-not_done a n = go (is_done a) refl
-  where
-    go : (b : Bool) → is_done a ≡ b → is_done a ≡ false
-    go false q = q
-    go true q = absurd (n (done-is a q))
+not_done : (a : SessionAnswer) → (a ≡ Ok tt → ⊥) → is_done a ≡ false
+not_done (Ok u) n = absurd (n refl)
+not_done (Err r) n = refl
 
 -- a refused opening hands back zeros
 zeros-left : (p : Plan) (journal : List ℕ) → (Opens p journal → ⊥) → (start p journal).session ≡ no_session
@@ -151,7 +142,7 @@ unfolding start opened effect
 zeros-left p journal n = rw (not_done _ n)
 
 -- with which every check ends at 1
-zeros-grid : (marks : List ℕ) (room : ℕ) → session_answer no_session marks room ≡ SessionAnswer.Grid
+zeros-grid : (marks : List ℕ) (room : ℕ) → session_answer no_session marks room ≡ Err SessionRefusal.Grid
 unfolding session_answer open_answer plan_answer check_answer after checked_plan grid_fault
 zeros-grid marks room = refl
 

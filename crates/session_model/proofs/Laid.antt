@@ -8,8 +8,8 @@ use native.Mathlib.Omega.{arith}
 use lib.ListN.{length, get_or, set, length-set}
 use lib.Seq.{get_or-set_same, get_or-set_other, set-set, set-get_or}
 use Rattle.plan.specs.Plan.{Plan, Sized, plan_of, cells, marks_at}
+use Rattle.std.proofs.Common.{Ok}
 use Rattle.plan.specs.Check.{checked_plan, invalid_mark}
-use Rattle.plan.specs.declared.PlanCheck.{PlanCheck}
 use Rattle.plan.proofs.Check.{valid, checked-is, valid-sized, valid-marks}
 use Rattle.plan.proofs.Truth.{equal}
 use Rattle.session.specs.Journal.{depth_max}
@@ -22,7 +22,7 @@ pub data Stands (p : Plan) : List Move → Type 0 where
   more : {m : Move} {moves : List Move} → Stands p moves → m.cell < p.width * p.height → invalid_mark p.width p.height m.cell m.marks ≡ false → length moves < depth_max → Stands p (m ∷ moves)
 
 -- valid marks on a cell of a valid plan leave it valid
-module _ (w h c m : ℕ) (marks : List ℕ) (ok : checked_plan (plan_of w h marks) ≡ PlanCheck.Valid) (inside : c < w * h) (fair : invalid_mark w h c m ≡ false) where
+module _ (w h c m : ℕ) (marks : List ℕ) (ok : checked_plan (plan_of w h marks) ≡ Ok tt) (inside : c < w * h) (fair : invalid_mark w h c m ≡ false) where
   sized : Sized (plan_of w h (set marks c m))
   unfolding cells
   sized =
@@ -37,11 +37,11 @@ module _ (w h c m : ℕ) (marks : List ℕ) (ok : checked_plan (plan_of w h mark
       go (inl e) = let s = valid-sized _ ok in rw (e, get_or-set_same marks c m 0 (omega (arith, s.full))) fair
       go (inr n) = rw (get_or-set_other marks c k m 0 n) (valid-marks _ ok k below)
 
-  pub set-valid : checked_plan (plan_of w h (set marks c m)) ≡ PlanCheck.Valid
+  pub set-valid : checked_plan (plan_of w h (set marks c m)) ≡ Ok tt
   unfolding cells marks_at
   set-valid = checked-is _ (valid sized marks-fair)
 
-pub laid-valid : (p : Plan) (moves : List Move) → checked_plan p ≡ PlanCheck.Valid → Stands p moves → checked_plan (plan_of p.width p.height (laid p.marks moves)) ≡ PlanCheck.Valid
+pub laid-valid : (p : Plan) (moves : List Move) → checked_plan p ≡ Ok tt → Stands p moves → checked_plan (plan_of p.width p.height (laid p.marks moves)) ≡ Ok tt
 unfolding laid
 laid-valid p [] ok none = ok
 laid-valid p (m ∷ before) ok (more s inside fair space) =

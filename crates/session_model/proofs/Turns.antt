@@ -1,21 +1,12 @@
 -- One call: on the state of the standing moves the session gives what the model gives, and leaves the state of the moves that then stand.
-use Prim.Native.Nat.{ℕ, ◌*◌, ◌-◌, ◌≤◌, ◌<◌}
-use mathlib.Core.Bool.{Bool, true, false}
-use mathlib.Core.List.{List, [], ◌∷◌, ◌++◌}
-use mathlib.Core.Path.{◌≡◌, refl}
-use native.Mathlib.Numerals.{add-one}
-use native.Mathlib.Omega.{arith}
+use Rattle.std.proofs.Common.{ℕ, ◌*◌, ◌-◌, ◌≤◌, ◌<◌, Bool, true, false, List, [], ◌∷◌, ◌++◌, ◌≡◌, refl, add-one, arith, eqb, leb, length, length-append, get_or-set_same, Ok, Err}
 use borrow.Author.Tests.{leb-false, lt-leb, eq-eqb, ne_eqb}
-use lib.Dec.{leb}
-use lib.ListN.{length, length-append}
-use lib.Seq.{get_or-set_same}
 use Rattle.plan.specs.Plan.{Plan, cells, marks_at}
 use Rattle.plan.specs.Check.{checked_plan, invalid_mark}
-use Rattle.plan.specs.declared.PlanCheck.{PlanCheck}
 use Rattle.plan.proofs.Check.{valid-sized, valid-marks}
 use Rattle.session.specs.declared.records.Session.{Session}
-use Rattle.session.specs.declared.records.SessionAnswer.{SessionAnswer}
-use Rattle.session.specs.Numbers.{session_number, is_done}
+use Rattle.session.specs.declared.records.SessionRefusal.{SessionRefusal}
+use Rattle.session.specs.Numbers.{SessionAnswer, refusal_number}
 use Rattle.session.specs.Journal.{entry_bytes, depth_max, entry_at}
 use Rattle.session.specs.Answers.{after, move_answer, session_answer, corrupt, newest_at, undo_answer}
 use Rattle.session.specs.Steps.{State, state_of, effect, move_entry, with_move, moved, with_undo, undone}
@@ -40,7 +31,7 @@ pub stands-few : (p : Plan) {moves : List Move} → Stands p moves → length mo
 stands-few p none = omega arith
 stands-few p (more s inside fair space) = omega arith
 
-module _ (p : Plan) (ok : checked_plan p ≡ PlanCheck.Valid) (rest : List ℕ) where
+module _ (p : Plan) (ok : checked_plan p ≡ Ok tt) (rest : List ℕ) where
   module _ (moves : List Move) (s : Stands p moves) where
     abbrev record_of : Session
     record_of = record { width = p.width; height = p.height; depth = length moves }
@@ -52,7 +43,7 @@ module _ (p : Plan) (ok : checked_plan p ≡ PlanCheck.Valid) (rest : List ℕ) 
     journal-of = history p.marks moves ++ rest
 
     -- 1, 2, 3, 9 and 10 are never given
-    intact : session_answer record_of marks-of (length journal-of) ≡ SessionAnswer.Done
+    intact : session_answer record_of marks-of (length journal-of) ≡ Ok tt
     intact =
         done-session record_of marks-of (length journal-of)
         (record {
@@ -64,11 +55,11 @@ module _ (p : Plan) (ok : checked_plan p ≡ PlanCheck.Valid) (rest : List ℕ) 
       abbrev moving : SessionAnswer
       moving = move_answer record_of marks-of (length journal-of) m.cell m.marks
 
-      refused-move : (a : SessionAnswer) → moving ≡ a → is_done a ≡ false → move_number p moves m ≡ session_number a → Turn p moves rest (move m)
+      refused-move : (r : SessionRefusal) → moving ≡ Err r → eqb (refusal_number r) 0 ≡ false → move_number p moves m ≡ refusal_number r → Turn p moves rest (move m)
       unfolding model_state call_gives next moved effect model_gives standing
-      refused-move a e f n = record { gave = rw (e, n); left = simp (e, n, f); stands = simp (n, f) s }
+      refused-move r e f n = record { gave = rw (e, n); left = simp (e, n, f); stands = simp (n, f) s }
 
-      answered-move : moving ≡ SessionAnswer.Done → move_number p moves m ≡ 0 → Stands p (m ∷ moves) → length moves < depth_max → Turn p moves rest (move m)
+      answered-move : moving ≡ Ok tt → move_number p moves m ≡ 0 → Stands p (m ∷ moves) → length moves < depth_max → Turn p moves rest (move m)
       unfolding model_state call_gives next moved effect model_gives standing with_move laid
       answered-move e n more-stand space =
           record {
@@ -82,9 +73,9 @@ module _ (p : Plan) (ok : checked_plan p ≡ PlanCheck.Valid) (rest : List ℕ) 
       move-turn = go (leb (p.width * p.height) m.cell) (invalid_mark p.width p.height m.cell m.marks) (leb depth_max (length moves)) refl refl refl
         where
           go : (out bad full : Bool) → leb (p.width * p.height) m.cell ≡ out → invalid_mark p.width p.height m.cell m.marks ≡ bad → leb depth_max (length moves) ≡ full → Turn p moves rest (move m)
-          go true bad full e f g = refused-move SessionAnswer.Cell (rw (intact, e)) refl (rw e)
-          go false true full e f g = refused-move SessionAnswer.Mark (rw (intact, e, f)) refl (rw (e, f))
-          go false false true e f g = refused-move SessionAnswer.JournalFull (rw (intact, e, f, g)) refl (rw (e, f, g))
+          go true bad full e f g = refused-move SessionRefusal.Cell (rw (intact, e)) refl (rw e)
+          go false true full e f g = refused-move SessionRefusal.Mark (rw (intact, e, f)) refl (rw (e, f))
+          go false false true e f g = refused-move SessionRefusal.JournalFull (rw (intact, e, f, g)) refl (rw (e, f, g))
           go false false false e f g =
               let space = leb-false depth_max (length moves) g in
               answered-move (rw (intact, e, f, g)) (rw (e, f, g)) (more s (leb-false _ _ e) f space) space
@@ -112,7 +103,7 @@ module _ (p : Plan) (ok : checked_plan p ≡ PlanCheck.Valid) (rest : List ℕ) 
         let here = get_or-set_same (laid p.marks before) m.cell m.marks 0 (omega (arith, (valid-sized _ ok-before).full)) in
         simp (lt-leb _ _ inside, valid-marks _ ok-before m.cell inside, eq-eqb _ _ here)
 
-    undoing : undo_answer (record_of moves (more s inside fair space)) (marks-of moves (more s inside fair space)) (journal-of moves (more s inside fair space)) ≡ SessionAnswer.Done
+    undoing : undo_answer (record_of moves (more s inside fair space)) (marks-of moves (more s inside fair space)) (journal-of moves (more s inside fair space)) ≡ Ok tt
     unfolding undo_answer after
     undoing =
         rw (intact moves (more s inside fair space), ne_eqb (length (m ∷ before)) 0 (λ e. omega arith), newest, sound)

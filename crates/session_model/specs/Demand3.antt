@@ -1,10 +1,8 @@
 -- What demand 3 of document 01 says, about the whole list of calls: `Demand3`. Its proof: proofs/Demand3.antt.
 -- The session is the run of the step definitions that the contracts of open, set_marks, undo and the questions equal (Run.antt; `better`, which hands back a reference: Asks/Better.antt); the reference model is Model.antt.
-use Rattle.std.specs.Prelude.{ℕ, List, [], ◌∷◌, ◌++◌, ◌≡◌, length, drop}
+use Rattle.std.specs.Prelude.{ℕ, List, [], ◌∷◌, ◌++◌, ◌≡◌, length, drop, Ok}
 use Rattle.plan.specs.Plan.{Plan, plan_of}
 use Rattle.plan.specs.Check.{checked_plan}
-use Rattle.plan.specs.declared.PlanCheck.{PlanCheck}
-use Rattle.session.specs.declared.records.SessionAnswer.{SessionAnswer}
 use Rattle.session.specs.Journal.{journal_bytes}
 use Rattle.session.specs.Answers.{open_answer}
 use Rattle.session.specs.Steps.{state_of}
@@ -15,7 +13,7 @@ use Rattle.session_model.specs.Run.{start, call_gives, next, session_view, sessi
 
 -- an opening on this plan with this journal answers 0
 abbrev pub Opens : Plan → List ℕ → Type 0
-Opens p journal = open_answer p.width p.height p.marks (length journal) ≡ SessionAnswer.Done
+Opens p journal = open_answer p.width p.height p.marks (length journal) ≡ Ok tt
 
 -- the line at this place of the list holds a reply, and it is the one that the rules give for this question on this plan's bytes
 pub record AnsweredAt (lines : List Line) (place : ℕ) (a : Ask) (marks : List ℕ) : Type 0 where
@@ -34,7 +32,7 @@ pub record Answered (p : Plan) (journal : List ℕ) (calls : List Call) : Type 0
   -- the journal's bytes beyond the used ones stay
   pub beyond : drop journal_bytes (state_after (start p journal) calls).journal ≡ drop journal_bytes journal
   -- the record's sides and the plan's bytes make a valid plan: a question asked with these sides is not refused with 1, 2 or 3
-  pub sides : let s = state_after (start p journal) calls in checked_plan (plan_of s.session.width s.session.height s.marks) ≡ PlanCheck.Valid
+  pub sides : let s = state_after (start p journal) calls in checked_plan (plan_of s.session.width s.session.height s.marks) ≡ Ok tt
   -- a second session on the same plan, given only the moves that still stand, is alike
   pub twin : (other : List ℕ) → Opens p other → session_view (state_after (start p other) (moves_of (standing_after p [] calls))) ≡ session_view (state_after (start p journal) calls)
   -- and gives the same answer to every question put to both

@@ -4,7 +4,7 @@ use player::{Player, Turn, VISIT_WORDS, ended, next, read_net, refill};
 use report::{smaller, write_call};
 use route_call::{Call, ask};
 use script::{Cursor, read_number};
-use session::{SessionStep, open_at, set_marks_at, undo_at};
+use session::{SessionStep, open_at, session_number, set_marks_at, undo_at};
 use std::io::{Result, Write};
 use streams::write_text;
 
@@ -26,10 +26,9 @@ fn stepped<W: Write>(
     p: Player,
 ) -> Result<Turn> {
     let session = step.session;
-    let answer = step.answer;
     let mut q = p;
     q.session = session;
-    let written = write_step(out, name, answer.number(), session.depth);
+    let written = write_step(out, name, session_number(step.answer), session.depth);
     ended(c, q, written)
 }
 

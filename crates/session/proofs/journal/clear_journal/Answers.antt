@@ -1,23 +1,11 @@
-use mathlib.Core.Path.{◌≡◌, refl}
-use native.Mathlib.Omega.{arith}
+-- The filled part is all zeros: a copied byte is the byte.
+use Rattle.std.proofs.Common.{◌≡◌, ℕ, ◌≤◌, List, ◌++◌, length, take, drop, replicate, length-take-le}
 use Rattle.session.specs.Journal.{cleared}
-use Rattle.session.proofs.Bytes.{clear-more, clear-length}
 use Rattle.session.proofs.journal.clear_journal.Goals as goal
 
-pub loop-i-init : goal.loop-i-init
-loop-i-init c = (omega arith, refl)
-
-pub bounds-journal-i : goal.bounds-journal-i
-bounds-journal-i c = omega (arith, clear-length c.loop-i.i c.args.journal.now c.loop-i.journal c.loop-i.invariant.1 (omega arith))
-
-pub loop-i-preserved : goal.loop-i-preserved
-loop-i-preserved c = (omega arith, clear-more _ _ _ c.loop-i.invariant.1 (omega arith))
-
-pub shape_of-journal : goal.shape_of-journal
-shape_of-journal c = clear-length c.loop-i.i c.args.journal.now c.loop-i.journal c.loop-i.invariant.1 (omega arith)
+zeros_before : (n : ℕ) (old new : List ℕ) → new ≡ replicate (length (take n old)) 0 → n ≤ length old → new ++ drop n old ≡ replicate n 0 ++ drop n old
+zeros_before n old new e h = rw (e, length-take-le n old h)
 
 pub returns : goal.returns
 unfolding cleared
-returns c =
-    let end : c.loop-i.i ≡ 1024 = omega arith in
-    rw end at c.loop-i.invariant.1
+returns c = zeros_before 1024 _ _ (c.fill.ensures.after (λ y e. e)) c.requires

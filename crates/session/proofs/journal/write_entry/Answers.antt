@@ -1,25 +1,16 @@
--- Four stores in a row.
-use Prim.Native.Nat.{suc, ◌+◌}
-use mathlib.Core.Path.{◌≡◌}
-use native.Mathlib.Omega.{arith}
-use lib.ListN.{length-set}
+-- Four bytes copied are four stores in a row.
+use Rattle.std.proofs.Common.{◌≡◌, ℕ, ◌+◌, ◌-◌, ◌/◌, ◌%◌, ◌≤◌, List, length, take, drop, append_assoc, sym, drop-drop, mod-eq_of_lt, arith}
+use Rattle.std.proofs.lemmas.List.Edits.{sets, sets-eq}
+use borrow.Rule.Slice.PartMut.{put_mid}
 use Rattle.session.specs.Journal.{written_entry, entry_of}
 use Rattle.session.proofs.journal.write_entry.Goals as goal
 
-pub bounds-journal-at-2 : goal.bounds-journal-at-2
-bounds-journal-at-2 c = simp length-set (omega arith)
-
-pub bounds-journal-at-3 : goal.bounds-journal-at-3
-bounds-journal-at-3 c = simp length-set (omega arith)
-
-pub bounds-journal-at-4 : goal.bounds-journal-at-4
-bounds-journal-at-4 c = simp length-set (omega arith)
+copied : (j new : List ℕ) (at k : ℕ) (vs : List ℕ) → new ≡ vs → k ≡ length vs → at + length vs ≤ length j → put_mid at k j new ≡ sets j at vs
+copied j new at k vs f e h = rw (f, e, drop-drop, sets-eq vs j at h) (sym (append_assoc (take at j) vs (drop (at + length vs) j)))
 
 pub returns : goal.returns
 unfolding written_entry entry_of
 returns c =
+    let high : c.args.entry.cell / 256 % 256 ≡ c.args.entry.cell / 256 = mod-eq_of_lt (omega arith) in
     let at = c.args.at in
-    let e₁ : at + 1 ≡ suc at = omega arith in
-    let e₂ : at + 2 ≡ suc (suc at) = omega arith in
-    let e₃ : at + 3 ≡ suc (suc (suc at)) = omega arith in
-    rw (e₁, e₂, e₃)
+    copied _ _ at (at + 4 - at) (entry_of c.args.entry) (rw high at (rw c.to_le_bytes.ensures at c.copy_from_slice.ensures.after)) (omega arith) c.requires
