@@ -18,8 +18,8 @@ fn legal_ready(plan: &[u8], p: Problem, words: &[u16]) -> bool
     requires { Ready p plan.now × (bad_list words.now ≡ false) }
     ensures { result ≡ legal (rules_for p plan.now) (route_in words.now) }
 {
-    let verdict = judge_ready(plan, p, words);
-    match verdict {
+    // arms, not `matches!`: the must-fail edit `legal_with_fault` turns one of them
+    match judge_ready(plan, p, words) {
         Verdict::Accepted(_) => true,
         Verdict::AtFault(_, _) => false,
         Verdict::Refused(_) => false,
@@ -33,16 +33,12 @@ fn compare_ready(plan: &[u8], p: Problem, a: &[u16], b: &[u16]) -> Comparison
 {
     let first = legal_ready(plan, p, a);
     let second = legal_ready(plan, p, b);
-    if first {
-        if second && ranks_before(b, a) {
-            return Comparison::Second;
-        }
-        return Comparison::First;
+    match (first, second) {
+        (true, true) if ranks_before(b, a) => Comparison::Second,
+        (true, _) => Comparison::First,
+        (false, true) => Comparison::Second,
+        (false, false) => Comparison::Refused(Refusal::NoneLegal),
     }
-    if second {
-        return Comparison::Second;
-    }
-    Comparison::Refused(Refusal::NoneLegal)
 }
 
 // The comparison with a list of buffers that was read and checked.
