@@ -1,66 +1,43 @@
--- A list of words from a place on: its visits with a register's code, and its lexicographic order with another list.
-use Prim.Native.Nat.{ℕ, ◌+◌, ◌*◌, ◌≤◌, ◌<◌}
-use mathlib.Core.Bool.{false, cond, or-false}
-use mathlib.Core.List.{List}
-use mathlib.Core.Path.{◌≡◌}
-use native.Mathlib.Numerals.{add-one}
-use native.Mathlib.Omega.{arith}
-use borrow.Author.Tests.{ne_eqb, eq-eqb}
-use lib.Dec.{eqb, ltb}
-use lib.ListN.{length, drop, get_or, drop_of_length-le}
-use lib.Seq.{drop-cons}
+-- The words of a list of visits as slices see them: its visits with a register's code, and its lexicographic order with another list.
+use Rattle.std.proofs.Common.{◌≡◌, ℕ, suc, ◌+◌, ◌/◌, Bool, true, false, cond, ◌&&◌, ◌||◌, List, [], ◌∷◌, length, get_or, refl, ap, ◌∙◌, arith, eqb, ltb, ◌==◌, Option, Some, Ordering, Less, Equal, Greater}
+use Rattle.std.proofs.lemmas.Bool.Decides.{nat_tests}
+use Rattle.std.specs.List.{count_by}
+use Rattle.std.specs.Simd.{first_chunks}
+use Rattle.std.specs.Ordering.{is_lt, is_some_and, partial_ordering_then, nat_cmp}
+use Rattle.std.specs.Cmp.Lexicographic.{slice_partial_cmp}
+use Rattle.std.proofs.lemmas.Cmp.{same_from_slice_cmp_tested}
+use Rattle.std.proofs.lemmas.List.Sums.{sum_by-cons}
 use Rattle.rules.specs.Rules.{register_code}
 use Rattle.rules.specs.Ranking.{code_sevens, precedes}
-use Rattle.rules.proofs.Order.{precedes-skip}
 use Rattle.verdict.specs.Verdict.{route_in}
-use Rattle.verdict.proofs.Routes.{visits-most, route-cons}
 
--- The registers' codes of one visit more
+-- the visits of a list of words with a register's code
+pub sevens-pairs : (ws : List ℕ) → count_by (λ v. get_or v 1 0 == register_code) (first_chunks 2 (length ws / 2) ws) ≡ code_sevens (route_in ws)
+unfolding code_sevens route_in
+sevens-pairs [] = refl
+sevens-pairs (x ∷ []) = refl
+sevens-pairs (x ∷ (y ∷ ws)) =
+    let half : length (x ∷ y ∷ ws) / 2 ≡ suc (length ws / 2) = omega arith in
+    let one = λ (v : List ℕ). cond (get_or v 1 0 == register_code) 1 0 in
+    rw half (sum_by-cons one (x ∷ y ∷ []) (first_chunks 2 (length ws / 2) ws) ∙ ap (λ (n : ℕ). cond (eqb y register_code) 1 0 + n) (sevens-pairs ws))
 
-sevens-next : (ws : List ℕ) (i : ℕ) → 2 * i + 1 < length ws → code_sevens (drop i (route_in ws)) ≡ cond (eqb (get_or ws (2 * i + 1) 0) register_code) 1 0 + code_sevens (drop (i + 1) (route_in ws))
-unfolding code_sevens
-sevens-next ws i h = rw (route-cons ws i h, code_sevens, add-one i)
-
-sevens-end : (ws : List ℕ) (i : ℕ) → length ws < 2 * i + 2 → code_sevens (drop i (route_in ws)) ≡ 0
-unfolding code_sevens
-sevens-end ws i h = rw (drop_of_length-le (route_in ws) {i = i} (omega (arith, visits-most ws)))
-
--- `n` of the first `i` visits have a register's code
-pub record Counted (ws : List ℕ) (n i : ℕ) : Type 0 where
-  pub whole : n + code_sevens (drop i (route_in ws)) ≡ code_sevens (route_in ws)
-  pub most : n ≤ i
-
-pub counted_none : (ws : List ℕ) → Counted ws 0 0
-counted_none ws = record { whole = omega arith; most = omega arith }
-
-module _ (ws : List ℕ) (n i : ℕ) (so : Counted ws n i) where
-  module _ (inside : 2 * i + 1 < length ws) where
-    pub counted-register : get_or ws (2 * i + 1) 0 ≡ register_code → Counted ws (n + 1) (i + 1)
-    counted-register e =
-        let h = rw (sevens-next ws i inside, eq-eqb _ _ e) at so.whole in
-        record { whole = omega arith; most = omega arith }
-
-    pub counted-other : (get_or ws (2 * i + 1) 0 ≡ register_code → ⊥) → Counted ws n (i + 1)
-    counted-other e =
-        let h = rw (sevens-next ws i inside, ne_eqb _ _ e) at so.whole in
-        record { whole = omega arith; most = omega arith }
-
-  pub counted-all : length ws < 2 * i + 2 → n ≡ code_sevens (route_in ws)
-  counted-all h = omega (arith, sevens-end ws i h)
-
--- Lexicographic order one word further
-
-module _ (b a : List ℕ) (i : ℕ) (in_b : i < length b) (in_a : i < length a) where
-  -- where the two words are equal, by the words after them
-  pub precedes-equal : get_or b i 0 ≡ get_or a i 0 → precedes (drop i b) (drop i a) ≡ precedes (drop (i + 1) b) (drop (i + 1) a)
-  precedes-equal e = rw (drop-cons b i 0, drop-cons a i 0, add-one) (precedes-skip _ _ _ _ e)
-
-  -- where they differ, by the two words
-  pub precedes-differ : (get_or b i 0 ≡ get_or a i 0 → ⊥) → precedes (drop i b) (drop i a) ≡ ltb (get_or b i 0) (get_or a i 0)
-  unfolding precedes
-  precedes-differ e = rw (drop-cons b i 0, drop-cons a i 0, precedes, ne_eqb _ _ e) (or-false _)
-
--- no word is left in either
-pub precedes-end : (b a : List ℕ) (i : ℕ) → length b ≤ i → length a ≤ i → precedes (drop i b) (drop i a) ≡ false
+-- lists are ordered as slices are
+precedes-is : (b a : List ℕ) → is_some_and is_lt (slice_partial_cmp (λ x y. Some (nat_cmp x y)) b a) ≡ precedes b a
 unfolding precedes
-precedes-end b a i h k = rw (drop_of_length-le b {i = i} h, drop_of_length-le a {i = i} k)
+precedes-is b a =
+    same_from_slice_cmp_tested nat_cmp is_lt precedes refl (λ _ _. refl) (λ _ _. refl) (λ x y xs ys o h. grind (arith, nat_tests)) b a _ refl
+
+-- the order of three parts, the first that differs decides
+three-parts : (k l m n : ℕ) (o : Option Ordering) → is_some_and is_lt (partial_ordering_then (partial_ordering_then (Some (nat_cmp k l)) (Some (nat_cmp m n))) o) ≡ (ltb k l || (eqb k l && (ltb m n || (eqb m n && is_some_and is_lt o))))
+three-parts k l m n o = go (ltb k l) (eqb k l) (ltb m n) (eqb m n)
+  where
+    go : (p q r s : Bool) → is_some_and is_lt (partial_ordering_then (partial_ordering_then (Some (cond p Less (cond q Equal Greater))) (Some (cond r Less (cond s Equal Greater)))) o) ≡ (p || (q && (r || (s && is_some_and is_lt o))))
+    go true q r s = refl
+    go false true true s = refl
+    go false true false true = refl
+    go false true false false = refl
+    go false false r s = refl
+
+-- two numbers and a list, ordered as tuples are
+pub tuple-is : (k l m n : ℕ) (b a : List ℕ) → is_some_and is_lt (partial_ordering_then (partial_ordering_then (Some (nat_cmp k l)) (Some (nat_cmp m n))) (slice_partial_cmp (λ x y. Some (nat_cmp x y)) b a)) ≡ (ltb k l || (eqb k l && (ltb m n || (eqb m n && precedes b a))))
+tuple-is k l m n b a = rw (← precedes-is b a) (three-parts k l m n _)

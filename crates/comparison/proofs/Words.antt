@@ -1,6 +1,6 @@
 -- The ranking of two lists by their words: registers, then lengths, then lexicographic order.
 use Prim.Native.Nat.{ℕ, ◌*◌, ◌-◌, ◌%◌, ◌≤◌, ◌<◌}
-use mathlib.Core.Bool.{false, ◌&&◌, ◌||◌, or-false}
+use mathlib.Core.Bool.{false, ◌&&◌, ◌||◌}
 use mathlib.Core.List.{List}
 use mathlib.Core.Path.{◌≡◌, sym, ◌∙◌}
 use mathlib.Core.Logic.{◌⊎◌, inl, inr}
@@ -53,18 +53,7 @@ module _ (a b : List ℕ) (evenA : length a % 2 ≡ 0) (evenB : length b % 2 ≡
   unfolding ranks_before key precedes
   ranks-words = rw (fewer-steps-words, same-steps-words, written-route a evenA, written-route b evenB)
 
--- The ranking of two lists that are not refused, decided by the first of the three that differs
-
-module _ (b a : List ℕ) (goodB : bad_list b ≡ false) (goodA : bad_list a ≡ false) where
-  ranks-good : ranks_before registers (route_in b) (route_in a) ≡ (ltb (registers (route_in b)) (registers (route_in a)) || (eqb (registers (route_in b)) (registers (route_in a)) && (ltb (length b) (length a) || (eqb (length b) (length a) && precedes b a))))
-  ranks-good = ranks-words a b (good-even a goodA) (good-even b goodB) (good_length a goodA) (good_length b goodB)
-
-  pub ranks-by-registers : (registers (route_in b) ≡ registers (route_in a) → ⊥) → ranks_before registers (route_in b) (route_in a) ≡ ltb (registers (route_in b)) (registers (route_in a))
-  ranks-by-registers n = rw (ranks-good, ne_eqb _ _ n) (or-false _)
-
-  module _ (same : registers (route_in b) ≡ registers (route_in a)) where
-    pub ranks-by-lengths : (length b ≡ length a → ⊥) → ranks_before registers (route_in b) (route_in a) ≡ ltb (length b) (length a)
-    ranks-by-lengths n = rw (ranks-good, not-less same, eq-eqb _ _ same, ne_eqb _ _ n) (or-false _)
-
-    pub ranks-by-words : length b ≡ length a → ranks_before registers (route_in b) (route_in a) ≡ precedes b a
-    ranks-by-words e = rw (ranks-good, not-less same, eq-eqb _ _ same, not-less e, eq-eqb _ _ e)
+-- The ranking of two lists that are not refused
+pub ranks-good : (b a : List ℕ) → bad_list b ≡ false → bad_list a ≡ false → ranks_before registers (route_in b) (route_in a) ≡ (ltb (registers (route_in b)) (registers (route_in a)) || (eqb (registers (route_in b)) (registers (route_in a)) && (ltb (length b) (length a) || (eqb (length b) (length a) && precedes b a))))
+ranks-good b a goodB goodA =
+    ranks-words a b (good-even a goodA) (good-even b goodB) (good_length a goodA) (good_length b goodB)

@@ -18,6 +18,7 @@ fn legal_ready(plan: &[u8], p: Problem, words: &[u16]) -> bool
     requires { Ready p plan.now × (bad_list words.now ≡ false) }
     ensures { result ≡ legal (rules_for p plan.now) (route_in words.now) }
 {
+    // arms, not `matches!`: the must-fail edit `legal_with_fault` turns one of them
     match judge_ready(plan, p, words) {
         Finding::Accepted(_) => true,
         Finding::AtFault(_, _) => false,
@@ -31,16 +32,12 @@ fn compare_ready(plan: &[u8], p: Problem, a: &[u16], b: &[u16]) -> Comparison
 {
     let first = legal_ready(plan, p, a);
     let second = legal_ready(plan, p, b);
-    if first {
-        if second && ranks_before(b, a) {
-            return Ok(Which::Second);
-        }
-        return Ok(Which::First);
+    match (first, second) {
+        (true, true) if ranks_before(b, a) => Ok(Which::Second),
+        (true, _) => Ok(Which::First),
+        (false, true) => Ok(Which::Second),
+        (false, false) => Err(Refusal::NoneLegal),
     }
-    if second {
-        return Ok(Which::Second);
-    }
-    Err(Refusal::NoneLegal)
 }
 
 // The comparison with a list of buffers that was read and checked.

@@ -21,7 +21,7 @@ use Rattle.problem.proofs.Sizes.{cells_are}
 use Rattle.verdict.specs.Verdict.{route_in, bad_list, VisitCheck, right, or_wrong, visit_check, first_check, judge_route}
 use Rattle.verdict.specs.Visits.{VisitIs, FirstIs, Judging}
 use Rattle.verdict.specs.declared.gates.Point.{Point}
-use Rattle.verdict.specs.declared.gates.VisitStep.TheVariants.{On, Fault}
+use Rattle.std.specs.Prelude.{Ok, Err}
 use Rattle.verdict.proofs.Routes.{visits-even, good-even, good_length}
 use Rattle.verdict.proofs.Steps.{visit_in, last_in, judge-right, judge-wrong, judge-end, judge-first-right, judge-first-wrong}
 use Rattle.verdict.proofs.Places.{right-cell}
@@ -54,7 +54,7 @@ module _ (p : Problem) (marks ws : List ℕ) (ready : Ready p marks) (good : bad
   R = rules_for p marks
 
   -- the first visit
-  pub judged-first : (b : Point) → FirstIs p marks (visit_in ws 0) (On b) → Judging p marks ws 1 b
+  pub judged-first : (b : Point) → FirstIs p marks (visit_in ws 0) (Ok b) → Judging p marks ws 1 b
   unfolding start_place
   judged-first b s =
       record {
@@ -64,7 +64,7 @@ module _ (p : Problem) (marks ws : List ℕ) (ready : Ready p marks) (good : bad
         judged = rw s.slack (judge-first-right R ws (omega (arith, good_length ws good)) s.is_right);
       }
 
-  pub judged-first-fault : (f : VisitFault) → FirstIs p marks (visit_in ws 0) (Fault f) → judge_route R (route_in ws) ≡ AtFault 0 f
+  pub judged-first-fault : (f : VisitFault) → FirstIs p marks (visit_in ws 0) (Err f) → judge_route R (route_in ws) ≡ AtFault 0 f
   judged-first-fault f e = judge-first-wrong R ws f (omega (arith, good_length ws good)) e
 
   module _ (i : ℕ) (b : Point) (j : Judging p marks ws i b) where
@@ -72,7 +72,7 @@ module _ (p : Problem) (marks ws : List ℕ) (ready : Ready p marks) (good : bad
     not_last k = ne_eqb (suc i) (length (route_in ws)) (λ z. omega (arith, visits-even ws (good-even ws good)))
 
     -- a right visit
-    pub judged-on : (last : Bool) (to : Point) → last ≡ last_in ws i → 2 * i + 1 < length ws → VisitIs p marks b last (visit_in ws i) (On to) → Judging p marks ws (suc i) to
+    pub judged-on : (last : Bool) (to : Point) → last ≡ last_in ws i → 2 * i + 1 < length ws → VisitIs p marks b last (visit_in ws i) (Ok to) → Judging p marks ws (suc i) to
     unfolding next_place
     judged-on last to e h step =
         let s = step j.place j.here in
@@ -84,7 +84,7 @@ module _ (p : Problem) (marks ws : List ℕ) (ready : Ready p marks) (good : bad
         }
 
     -- a visit at fault
-    pub judged-fault : (last : Bool) (f : VisitFault) → last ≡ last_in ws i → 2 * i + 1 < length ws → VisitIs p marks b last (visit_in ws i) (Fault f) → judge_route R (route_in ws) ≡ AtFault i f
+    pub judged-fault : (last : Bool) (f : VisitFault) → last ≡ last_in ws i → 2 * i + 1 < length ws → VisitIs p marks b last (visit_in ws i) (Err f) → judge_route R (route_in ws) ≡ AtFault i f
     judged-fault last f e h step = j.judged ∙ judge-wrong R ws i j.place b.slack f h (rw e at (step j.place j.here))
 
     -- all visits are right

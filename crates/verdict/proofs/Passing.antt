@@ -2,7 +2,6 @@
 use Prim.Native.Nat.{ℕ, ◌+◌, ◌*◌, ◌-◌, ◌≤◌, min}
 use mathlib.Core.Bool.{Bool, true, false, not, ◌||◌}
 use mathlib.Core.Path.{◌≡◌, refl, sym, ap, ◌∙◌}
-use mathlib.Core.Logic.{◌⊎◌, inl, inr}
 use native.Mathlib.Omega.{arith}
 use borrow.Author.Tests.{leb-true, le-leb, le-ltb}
 use lib.Dec.{T, leb}
@@ -148,8 +147,3 @@ module _ (P : Plan) (e : Elements) (from to : ℕ) (a : Place) (cell code : ℕ)
           slack = rw (is_false (is_closing code) no_close) z;
           light = λ f. rw l (leb-true (buffer_load (buffer_of_code e code)) e.limit.0 h);
         }
-
--- a right code that is no register's is not the last visit's
-pub between : (last : Bool) (code : ℕ) (e : Elements) → (code ≡ register_code → ⊥) → (code ≡ register_code) ⊎ ((last ≡ false) × (code ≤ e.count)) → (last ≡ false) × (code ≤ e.count)
-between last code e other (inl h) = absurd (other h)
-between last code e other (inr h) = h

@@ -1,5 +1,5 @@
 -- What the code of the verdict keeps of a place, and what it does at a visit's gate.
-use Rattle.std.specs.Prelude.{ℕ, ◌≤◌, min, Bool, true, false, ◌||◌, ◌⊎◌, ◌≡◌, leb, ℤ}
+use Rattle.std.specs.Prelude.{ℕ, ◌≤◌, min, Bool, true, false, ◌||◌, ◌⊎◌, ◌≡◌, leb, ℤ, Result, Ok, Err}
 use Rattle.plan.specs.Plan.{Plan}
 use Rattle.timing.specs.declared.elements.Elements.{Elements}
 use Rattle.timing.specs.Formulas.{register_load}
@@ -11,8 +11,7 @@ use Rattle.rules.specs.Beginning.{Place, next_place}
 use Rattle.rules.specs.Slack.{slack_at, slack_after}
 use Rattle.verdict.specs.Verdict.{VisitCheck, right, wrong, or_wrong}
 use Rattle.verdict.specs.declared.gates.Point.{Point}
-use Rattle.verdict.specs.declared.gates.VisitStep.{VisitStep}
-use Rattle.verdict.specs.declared.gates.VisitStep.TheVariants.{On, Fault}
+use Rattle.answers.specs.declared.verdicts.VisitFault.{VisitFault}
 
 -- the code counts delays no further: every span that comes so far has the lowest figure
 abbrev pub delay_cap : ℕ
@@ -37,9 +36,9 @@ pub record StepOn (limit : ℕ) (last : Bool) (check : VisitCheck) (to : Place) 
   pub light : last ≡ false → b.load.0 ≤ limit
 
 -- a fault is that of the check
-abbrev pub StepIs : ℕ → Bool → VisitCheck → Place → ℤ → VisitStep → Type 0
-StepIs limit last check to least (On b) = StepOn limit last check to least b
-StepIs limit last check to least (Fault f) = check ≡ wrong f
+abbrev pub StepIs : ℕ → Bool → VisitCheck → Place → ℤ → Result Point VisitFault → Type 0
+StepIs limit last check to least (Ok b) = StepOn limit last check to least b
+StepIs limit last check to least (Err f) = check ≡ wrong f
 
 -- the last two tests of a visit
 unfoldable pub gate_check : Rules → Place → Bool → Visit → VisitCheck
@@ -48,12 +47,12 @@ gate_check R a last v =
     (or_wrong (period_right R a.span a.fifos (arrive R a.cell a.stage v.cell) v) (Period (slack_at R a v)) right)
 
 -- The gate with this code at the point `at`, which has come over the wire from a place before any FIFO, under document 01's rules for any plan and ends.
-abbrev pub GateIs : Elements → Point → Bool → ℕ → VisitStep → Type 0
+abbrev pub GateIs : Elements → Point → Bool → ℕ → Result Point VisitFault → Type 0
 GateIs e at last code r =
     (P : Plan) (from to : ℕ) (a : Place) → a.fifos ≡ 0 → Carries at (arrive (rules_of P e from to) a.cell a.stage at.cell) → StepIs e.limit.0 last (gate_check (rules_of P e from to) a last (record { cell = at.cell; code = code })) (next_place (rules_of P e from to) a (record { cell = at.cell; code = code })) (slack_after (rules_of P e from to) a at.slack (record { cell = at.cell; code = code })) r
 
 -- The same for a register or the source, where its own load is within the limit or need not be.
-abbrev pub ClosedIs : Elements → Point → VisitStep → Type 0
+abbrev pub ClosedIs : Elements → Point → Result Point VisitFault → Type 0
 ClosedIs e at r =
     (last : Bool) → (last || leb (register_load e.register) e.limit.0) ≡ true → GateIs e at last register_code r
 

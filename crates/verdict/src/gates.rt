@@ -15,12 +15,6 @@ pub struct Point {
     pub slack: i32,
 }
 
-#[derive(Clone, Copy)]
-pub enum VisitStep {
-    On(Point),
-    Fault(VisitFault),
-}
-
 // Twice the longest period and the largest miss that is told: a span that comes so far has the lowest figure, whatever follows, so that nothing more need be counted.
 pub const DELAY_CAP: u32 = 1_000_060_000;
 
@@ -28,77 +22,62 @@ pub const DELAY_CAP: u32 = 1_000_060_000;
 pub fn capped(delay: HalfTicks) -> HalfTicks
     ensures { result.0 ≡ min delay.0 delay_cap }
 {
-    if DELAY_CAP < delay.0 {
-        return HalfTicks(DELAY_CAP);
-    }
-    delay
+    HalfTicks(delay.0.min(DELAY_CAP))
 }
 
 // The period test at a register or the source, and a new span.
-fn closed(elements: Elements, at: Point) -> VisitStep
+fn closed(elements: Elements, at: Point) -> Result<Point, VisitFault>
     requires { CloseAsks elements at }
     ensures { ClosedIs elements at result }
 {
     let close = elements.slack(at.load, at.delay);
     if close < 0 {
-        return VisitStep::Fault(VisitFault::Period(close));
+        return Err(VisitFault::Period(close));
     }
-    let register = elements.register;
-    VisitStep::On(Point {
-        cell: at.cell,
-        load: register.load(),
-        delay: register.start_delay(),
+    Ok(Point {
+        load: elements.register.load(),
+        delay: elements.register.start_delay(),
         slack: smaller_slack(at.slack, close),
+        ..at
     })
 }
 
 // A register, or the source: "the source only the load before".
-fn close_span(elements: Elements, at: Point, last: bool) -> VisitStep
+fn close_span(elements: Elements, at: Point, last: bool) -> Result<Point, VisitFault>
     requires { CloseAsks elements at }
     ensures { GateIs elements at last register_code result }
 {
-    if last {
-        return closed(elements, at);
-    }
-    let register = elements.register;
-    if !register.load().at_most(elements.limit) {
-        return VisitStep::Fault(VisitFault::Load);
+    if !last && !elements.register.load().at_most(elements.limit) {
+        return Err(VisitFault::Load);
     }
     closed(elements, at)
 }
 
 // A buffer.
-fn drive(elements: Elements, at: Point, code: u16) -> VisitStep
+fn drive(elements: Elements, at: Point, code: u16) -> Result<Point, VisitFault>
     requires { CloseAsks elements at × ((1 ≤ code) × (code ≤ elements.count)) }
     ensures { GateIs elements at false code result }
 {
-    let i = (code - 1) as usize;
-    let buffer = elements.buffers[i];
-    let own = buffer.load();
-    if !own.at_most(elements.limit) {
-        return VisitStep::Fault(VisitFault::Load);
+    let buffer = elements.buffers[code as usize - 1];
+    let load = buffer.load();
+    if !load.at_most(elements.limit) {
+        return Err(VisitFault::Load);
     }
-    VisitStep::On(Point {
-        cell: at.cell,
-        load: own,
-        delay: capped(buffer.driver().after(at.load, at.delay)),
-        slack: at.slack,
-    })
+    let delay = capped(buffer.driver().after(at.load, at.delay));
+    Ok(Point { load, delay, ..at })
 }
 
 // The tests of load and period at a visit whose code is right, and the point after its gate. `at` is the point before it.
-pub fn pass_gate(elements: Elements, at: Point, last: bool, code: u16) -> VisitStep
+pub fn pass_gate(elements: Elements, at: Point, last: bool, code: u16) -> Result<Point, VisitFault>
     requires { GateAsks elements at last code }
     ensures { GateIs elements at last code result }
 {
     if !at.load.at_most(elements.limit) {
-        return VisitStep::Fault(VisitFault::Load);
+        return Err(VisitFault::Load);
     }
-    if code == 0 {
-        return VisitStep::On(at);
+    match code {
+        0 => Ok(at),
+        7 => close_span(elements, at, last),
+        _ => drive(elements, at, code),
     }
-    if code == 7 {
-        return close_span(elements, at, last);
-    }
-    drive(elements, at, code)
 }

@@ -4,7 +4,7 @@ ghost use Rattle.problem.specs.Problem.{rules_for, Ready};
 ghost use Rattle.verdict.specs.Verdict.{route_in, bad_list, judge_route};
 ghost use Rattle.verdict.specs.Visits.{Judging};
 
-use crate::gates::{Point, VisitStep};
+use crate::gates::Point;
 use crate::visits::{judge_first, judge_visit};
 use answers::Finding;
 use problem::Problem;
@@ -13,10 +13,7 @@ use problem::Problem;
 pub fn bad_list(words: &[u16]) -> bool
     ensures { result ≡ bad_list words.now }
 {
-    if words.len() % 2 == 1 {
-        return true;
-    }
-    words.len() < 4
+    words.len() % 2 == 1 || words.len() < 4
 }
 
 // The visits after the first, from the point after it.
@@ -26,19 +23,12 @@ fn judge_rest(plan: &[u8], p: Problem, words: &[u16], start: Point) -> Finding
 {
     let n = words.len() / 2;
     let mut at = start;
-    let mut i = 1;
-    while i < n {
-        let cell = words[2 * i] as usize;
-        let step = judge_visit(plan, p, at, i + 1 == n, cell, words[2 * i + 1]);
-        match step {
-            VisitStep::Fault(f) => {
-                return Finding::AtFault(i, f);
-            }
-            VisitStep::On(to) => {
-                at = to;
-            }
+    for i in 1..n {
+        let last = i + 1 == n;
+        match judge_visit(plan, p, at, last, words[2 * i] as usize, words[2 * i + 1]) {
+            Ok(to) => at = to,
+            Err(f) => return Finding::AtFault(i, f),
         }
-        i += 1;
     }
     Finding::Accepted(at.slack)
 }
@@ -48,13 +38,8 @@ pub fn judge_ready(plan: &[u8], p: Problem, words: &[u16]) -> Finding
     requires { Ready p plan.now × (bad_list words.now ≡ false) }
     ensures { result ≡ judge_route (rules_for p plan.now) (route_in words.now) }
 {
-    let first = judge_first(plan, p, words[0] as usize, words[1]);
-    match first {
-        VisitStep::Fault(f) => {
-            return Finding::AtFault(0, f);
-        }
-        VisitStep::On(start) => {
-            return judge_rest(plan, p, words, start);
-        }
+    match judge_first(plan, p, words[0] as usize, words[1]) {
+        Ok(start) => judge_rest(plan, p, words, start),
+        Err(f) => Finding::AtFault(0, f),
     }
 }

@@ -14,19 +14,13 @@ fn may_stand(plan: &[u8], p: Problem, cell: usize, code: u16) -> bool
     if code == 0 {
         return true;
     }
-    if cell == p.sink {
-        return false;
-    }
-    if cell == p.source {
+    if cell == p.sink || cell == p.source {
         return false;
     }
     if code == 7 {
         return takes_register(plan[cell]);
     }
-    if p.elements.count < code as usize {
-        return false;
-    }
-    !is_blocked(plan[cell])
+    code as usize <= p.elements.count && !is_blocked(plan[cell])
 }
 
 // Whether the code is allowed at the visit.
@@ -35,7 +29,8 @@ pub fn code_right(plan: &[u8], p: Problem, last: bool, cell: usize, code: u16) -
     ensures { result ≡ code_right (rules_for p plan.now) 0 last (record { cell = cell; code = code }) }
 {
     if last {
-        return code == 7;
+        code == 7
+    } else {
+        may_stand(plan, p, cell, code)
     }
-    may_stand(plan, p, cell, code)
 }

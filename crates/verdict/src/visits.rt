@@ -4,9 +4,9 @@ ghost use Rattle.rules.specs.Legal.{cell_right};
 ghost use Rattle.problem.specs.Problem.{rules_for, Ready};
 ghost use Rattle.verdict.specs.Visits.{Standing, VisitIs, FirstIs};
 
-use crate::gates::{Point, VisitStep, capped, pass_gate};
+use crate::gates::{Point, capped, pass_gate};
 use crate::sites::code_right;
-use crate::wires::{Link, wire_between};
+use crate::wires::wire_between;
 use answers::VisitFault;
 use problem::Problem;
 use timing::SLACK_MOST;
@@ -16,13 +16,7 @@ fn cell_right(plan: &[u8], p: Problem, last: bool, cell: usize, code: u16) -> bo
     requires { Ready p plan.now }
     ensures { result ≡ cell_right (rules_for p plan.now) last (record { cell = cell; code = code }) }
 {
-    if plan.len() <= cell {
-        return false;
-    }
-    if last {
-        return cell == p.source;
-    }
-    true
+    cell < plan.len() && (!last || cell == p.source)
 }
 
 // A visit after the first, from the point before it.
@@ -33,51 +27,52 @@ pub fn judge_visit(
     last: bool,
     cell: usize,
     code: u16,
-) -> VisitStep
+) -> Result<Point, VisitFault>
     requires { Ready p plan.now × Standing p (length plan.now) from }
     ensures { VisitIs p plan.now from last (record { cell = cell; code = code }) result }
 {
     if !cell_right(plan, p, last, cell, code) {
-        return VisitStep::Fault(VisitFault::Cell);
+        return Err(VisitFault::Cell);
     }
-    let link = wire_between(plan, p, from.cell, cell);
-    let Link::Over(wire) = link else {
-        return VisitStep::Fault(VisitFault::Wire);
-    };
+    let wire = wire_between(plan, p, from.cell, cell).ok_or(VisitFault::Wire)?;
     if !code_right(plan, p, last, cell, code) {
-        return VisitStep::Fault(VisitFault::Site);
+        return Err(VisitFault::Site);
     }
-    let elements = p.elements;
-    let at = Point {
-        cell: cell,
-        load: from.load.plus(wire.load()),
-        delay: capped(from.delay.plus(wire.delay(from.load))),
-        slack: from.slack,
-    };
-    pass_gate(elements, at, last, code)
+    let load = from.load.plus(wire.load());
+    let delay = capped(from.delay.plus(wire.delay(from.load)));
+    pass_gate(
+        p.elements,
+        Point {
+            cell,
+            load,
+            delay,
+            ..from
+        },
+        last,
+        code,
+    )
 }
 
 // The first visit: the sink.
-pub fn judge_first(plan: &[u8], p: Problem, cell: usize, code: u16) -> VisitStep
+pub fn judge_first(plan: &[u8], p: Problem, cell: usize, code: u16) -> Result<Point, VisitFault>
     requires { Ready p plan.now }
     ensures { FirstIs p plan.now (record { cell = cell; code = code }) result }
 {
     if cell != p.sink {
-        return VisitStep::Fault(VisitFault::Cell);
+        return Err(VisitFault::Cell);
     }
     if code != 7 {
-        return VisitStep::Fault(VisitFault::Site);
+        return Err(VisitFault::Site);
     }
-    let elements = p.elements;
-    let register = elements.register;
-    let own = register.load();
-    if !own.at_most(elements.limit) {
-        return VisitStep::Fault(VisitFault::Load);
+    let load = p.elements.register.load();
+    if !load.at_most(p.elements.limit) {
+        return Err(VisitFault::Load);
     }
-    VisitStep::On(Point {
-        cell: cell,
-        load: own,
-        delay: register.start_delay(),
+    let delay = p.elements.register.start_delay();
+    Ok(Point {
+        cell,
+        load,
+        delay,
         slack: SLACK_MOST,
     })
 }

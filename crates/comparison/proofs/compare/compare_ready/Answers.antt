@@ -1,27 +1,24 @@
 -- The comparison by its three tests; the ranking is tried only where both lists are legal.
-use mathlib.Core.Bool.{true, false}
-use mathlib.Core.Path.{refl, sym, ◌∙◌}
+use Rattle.std.proofs.Common.{true, false, refl, sym, ◌∙◌}
 use Rattle.comparison.proofs.Better.{known}
 use Rattle.comparison.proofs.compare.compare_ready.Goals as goal
-use Rattle.comparison.proofs.compare.compare_ready.Goals.{else-second-via-then-second+else-ranks_before, else-second-via-else-second}
 
-pub returns-then-ranks_before : goal.returns-then-ranks_before
-returns-then-ranks_before c =
-    known _ _ _ true true true (sym c.legal_ready-first.ensures ∙ c.if-first.true) (sym c.legal_ready-second.ensures ∙ c.if-second.true) (sym c.ranks_before.ensures ∙ c.if-ranks_before.true)
+pub returns-in-true-true : goal.returns-in-true-true
+returns-in-true-true c =
+    known _ _ _ true true true (sym c.in-true-true.ensures) (sym c.in-true-true.ensures') (sym c.ranks_before.ensures ∙ c.if-ranks_before.true)
 
-pub returns-then-first : goal.returns-then-first
-returns-then-first c =
-    let first = sym c.legal_ready-first.ensures ∙ c.if-first.true in
-    elim c.else-second.branch [
-      | else-second-via-then-second+else-ranks_before w ↦
-          known _ _ _ true true false first (sym c.legal_ready-second.ensures ∙ w.if-second.true) (sym w.ranks_before.ensures ∙ w.if-ranks_before.false)
-      | else-second-via-else-second w ↦ known _ _ _ true false _ first (sym c.legal_ready-second.ensures ∙ w.if-second.false) refl
-    ]
+pub returns-in-true-default : goal.returns-in-true-default
+returns-in-true-default c =
+    known _ _ _ true true false (sym c.in-true-true.ensures) (sym c.in-true-true.ensures') (sym c.ranks_before.ensures ∙ c.if-ranks_before.false)
 
-pub returns-then-second-2 : goal.returns-then-second-2
-returns-then-second-2 c =
-    known _ _ _ false true _ (sym c.legal_ready-first.ensures ∙ c.if-first.false) (sym c.legal_ready-second.ensures ∙ c.if-second-2.true) refl
+pub returns-in-true-default-2 : goal.returns-in-true-default-2
+returns-in-true-default-2 c =
+    known _ _ _ true false _ (sym c.in-true-default.ensures) (sym c.in-true-default.ensures') refl
 
-pub returns : goal.returns
-returns c =
-    known _ _ _ false false _ (sym c.legal_ready-first.ensures ∙ c.if-first.false) (sym c.legal_ready-second.ensures ∙ c.if-second-2.false) refl
+pub returns-in-false-true : goal.returns-in-false-true
+returns-in-false-true c =
+    known _ _ _ false true _ (sym c.in-false-true.ensures) (sym c.in-false-true.ensures') refl
+
+pub returns-in-false-false : goal.returns-in-false-false
+returns-in-false-false c =
+    known _ _ _ false false _ (sym c.in-false-false.ensures) (sym c.in-false-false.ensures') refl

@@ -7,6 +7,6 @@ pub returns-then-words-eq1 : goal.returns-then-words-eq1
 unfolding bad_list
 returns-then-words-eq1 c = simp (eq-eqb _ _ c.if-words-eq1.true)
 
-pub returns : goal.returns
+pub returns-else-words-eq1 : goal.returns-else-words-eq1
 unfolding bad_list
-returns c = simp (ne_eqb _ _ c.if-words-eq1.false)
+returns-else-words-eq1 c = simp (ne_eqb _ _ c.if-words-eq1.false)

@@ -1,6 +1,6 @@
 -- The first visit's three tests.
 use mathlib.Core.Path.{◌≡◌, refl, sym, ◌∙◌}
-use borrow.Author.Tests.{leb-true, not-true, not-false}
+use borrow.Author.Tests.{leb-true}
 use lib.Dec.{leb}
 use Rattle.timing.specs.Formulas.{register_load}
 use Rattle.verdict.proofs.Arriving.{first_cell, first-site, first_load, first-right, start-at}
@@ -8,7 +8,7 @@ use Rattle.verdict.proofs.visits.judge_first.Goals as goal
 use Rattle.verdict.proofs.visits.judge_first.Goals.{After-at_most}
 
 own : (c : After-at_most) → leb (register_load c.args.p.elements.register) c.args.p.elements.limit.0 ≡ c.at_most.result
-own c = sym (rw c.load-own.ensures at c.at_most.ensures)
+own c = sym (rw c.load-load.ensures at c.at_most.ensures)
 
 pub returns-then-cell-p : goal.returns-then-cell-p
 returns-then-cell-p c =
@@ -20,17 +20,14 @@ returns-then-code-ne7 c =
 
 pub returns-then-not-at_most : goal.returns-then-not-at_most
 returns-then-not-at_most c =
-    first_load c.args.p c.args.plan.now c.requires (record { cell = c.args.cell; code = c.args.code }) c.if-cell-p.false c.if-code-ne7.false (own (goal.at.returns-then-not-at_most c).After-at_most ∙ not-true _ c.if-not-at_most.true-raw)
-
-pub start_delay-requires : goal.start_delay-requires
-start_delay-requires c = c.requires.valid.register
+    first_load c.args.p c.args.plan.now c.requires (record { cell = c.args.cell; code = c.args.code }) c.if-cell-p.false c.if-code-ne7.false (own (goal.at.returns-then-not-at_most c).After-at_most ∙ c.if-not-at_most.true)
 
 pub returns : goal.returns
 returns c =
-    let light = own (goal.at.returns c).After-at_most ∙ not-false _ c.if-not-at_most.false-raw in
+    let light = own (goal.at.returns c).After-at_most ∙ c.if-not-at_most.false in
     record {
       is_right = first-right c.args.p c.args.plan.now c.requires (record { cell = c.args.cell; code = c.args.code }) c.if-cell-p.false c.if-code-ne7.false light;
-      here = start-at c.args.p c.args.plan.now c.requires _ _ refl c.load-own.ensures c.start_delay.ensures;
+      here = start-at c.args.p c.args.plan.now c.requires _ _ refl c.load-load.ensures c.start_delay-delay.ensures;
       slack = refl;
-      light = λ e. rw c.load-own.ensures (leb-true (register_load c.args.p.elements.register) c.args.p.elements.limit.0 light);
+      light = λ e. rw c.load-load.ensures (leb-true (register_load c.args.p.elements.register) c.args.p.elements.limit.0 light);
     }

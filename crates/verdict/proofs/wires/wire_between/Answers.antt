@@ -1,8 +1,8 @@
 -- The neighbour step gives exactly the joined cells, each on its side (document 02, C-14).
-use native.Mathlib.Omega.{arith}
+use Rattle.std.proofs.Common.{arith, inl, inr}
 use Rattle.problem.specs.Problem.{plan_for}
 use Rattle.problem.proofs.Sizes.{cells-product}
-use Rattle.verdict.proofs.Links.{over-left, over-right, over-up, over-down, no-wire}
+use Rattle.verdict.proofs.Links.{over-across, over-along, no-wire}
 use Rattle.verdict.proofs.wires.wire_between.Goals as goal
 
 pub neighbours_of-near-requires : goal.neighbours_of-near-requires
@@ -13,22 +13,12 @@ neighbours_of-near-requires c =
 pub returns-then-cell-near : goal.returns-then-cell-near
 unfolding plan_for
 returns-then-cell-near c =
-    over-left c.args.p c.args.plan.now c.requires.0 c.args.from c.requires.1.0 c.args.cell c.requires.1.1 c.neighbours_of-near.result c.neighbours_of-near.ensures.is c.if-cell-near.true
-
-pub returns-then-cell-near-2 : goal.returns-then-cell-near-2
-unfolding plan_for
-returns-then-cell-near-2 c =
-    over-right c.args.p c.args.plan.now c.requires.0 c.args.from c.requires.1.0 c.args.cell c.requires.1.1 c.neighbours_of-near.result c.neighbours_of-near.ensures.is c.if-cell-near-2.true
+    over-across c.args.p c.args.plan.now c.requires.0 c.args.from c.requires.1.0 c.args.cell c.requires.1.1 c.neighbours_of-near.result c.neighbours_of-near.ensures.is (elim c.then-cell-near.either [ inl e ↦ inl e | inr e ↦ inr e.1 ])
 
 pub returns-then-cell-near-3 : goal.returns-then-cell-near-3
 unfolding plan_for
 returns-then-cell-near-3 c =
-    over-up c.args.p c.args.plan.now c.requires.0 c.args.from c.requires.1.0 c.args.cell c.requires.1.1 c.neighbours_of-near.result c.neighbours_of-near.ensures.is c.if-cell-near-3.true
-
-pub returns-then-cell-near-4 : goal.returns-then-cell-near-4
-unfolding plan_for
-returns-then-cell-near-4 c =
-    over-down c.args.p c.args.plan.now c.requires.0 c.args.from c.requires.1.0 c.args.cell c.requires.1.1 c.neighbours_of-near.result c.neighbours_of-near.ensures.is c.if-cell-near-4.true
+    over-along c.args.p c.args.plan.now c.requires.0 c.args.from c.requires.1.0 c.args.cell c.requires.1.1 c.neighbours_of-near.result c.neighbours_of-near.ensures.is (elim c.then-cell-near-3.either [ inl e ↦ inl e | inr e ↦ inr e.1 ])
 
 pub returns : goal.returns
 unfolding plan_for
