@@ -1,12 +1,5 @@
 -- Laws of adding labels: none, one, one part after another, and what the search needs of the whole.
-use Prim.Native.Nat.{ℕ, ◌+◌, ◌*◌, ◌≤◌, ◌<◌}
-use mathlib.Core.Path.{◌≡◌, refl, sym, ap, ◌∙◌}
-use mathlib.Core.Bool.{false, not}
-use mathlib.Core.Logic.{◌⊎◌, inl, inr}
-use mathlib.Core.List.{List}
-use native.Mathlib.Omega.{arith}
-use lib.Dec.{T, T_not}
-use lib.ListN.{get_or}
+use Rattle.std.proofs.Common.{ℕ, ◌+◌, ◌*◌, ◌≤◌, ◌<◌, ◌≡◌, refl, sym, ap, ◌∙◌, false, not, ◌⊎◌, inl, inr, List, arith, T, T_not, get_or}
 use Rattle.rules.specs.Rules.{Rules, register_code, is_closing, side_after}
 use Rattle.rules.specs.Legal.{may_stand}
 use Rattle.plan.proofs.Truth.{split, equal, decided}

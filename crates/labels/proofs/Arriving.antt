@@ -1,12 +1,5 @@
 -- New seeds are listed, or give nothing more, so the active list stays right.
-use Prim.Native.Nat.{ℕ, zero, suc, ◌+◌, ◌*◌, ◌≤◌, ◌<◌}
-use mathlib.Core.Path.{◌≡◌, refl, ◌∙◌}
-use mathlib.Core.Bool.{Bool, false}
-use mathlib.Core.Logic.{◌⊎◌, inl, inr}
-use mathlib.Core.List.{List}
-use native.Mathlib.Omega.{arith}
-use lib.Dec.{T}
-use lib.ListN.{get_or}
+use Rattle.std.proofs.Common.{ℕ, zero, suc, ◌+◌, ◌*◌, ◌≤◌, ◌<◌, ◌≡◌, refl, ◌∙◌, Bool, false, ◌⊎◌, inl, inr, List, arith, T, get_or}
 use Rattle.rules.specs.Rules.{Rules, register_code, fifo_code, is_closing}
 use Rattle.rules.proofs.View.{closing-codes, register-closing, fifo-closing}
 use Rattle.plan.proofs.Truth.{split, equal}

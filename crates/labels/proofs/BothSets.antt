@@ -1,11 +1,5 @@
 -- Labels of registers, and then those of FIFOs, become seeds.
-use Prim.Native.Nat.{ℕ, ◌+◌, ◌*◌, ◌≤◌, ◌<◌}
-use mathlib.Core.Path.{◌≡◌, refl, sym, ◌∙◌}
-use mathlib.Core.Logic.{inl, inr}
-use mathlib.Core.List.{List}
-use native.Mathlib.Omega.{arith}
-use lib.Dec.{T}
-use lib.ListN.{get_or}
+use Rattle.std.proofs.Common.{ℕ, ◌+◌, ◌*◌, ◌≤◌, ◌<◌, ◌≡◌, refl, sym, ◌∙◌, inl, inr, List, arith, T, get_or}
 use Rattle.rules.specs.Rules.{register_code, fifo_code}
 use Rattle.rules.proofs.View.{register-closing, fifo-closing}
 use Rattle.layout.specs.Layout.{labels_at, exits_at, order_in}

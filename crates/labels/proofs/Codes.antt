@@ -1,9 +1,5 @@
 -- The two codes that close a span: the other one of a code.
-use Prim.Native.Nat.{ℕ, ◌≤◌}
-use mathlib.Core.Path.{◌≡◌}
-use mathlib.Core.Logic.{◌⊎◌, inl, inr}
-use native.Mathlib.Omega.{arith}
-use lib.Dec.{T}
+use Rattle.std.proofs.Common.{ℕ, ◌≤◌, ◌≡◌, ◌⊎◌, inl, inr, arith, T}
 use Rattle.rules.specs.Rules.{register_code, fifo_code, is_closing}
 use Rattle.rules.proofs.View.{closing-codes, register-closing, fifo-closing}
 use Rattle.labels.specs.Labels.{other_code}

@@ -1,10 +1,5 @@
 -- A seed that closes no quicker than another seed of its cell gives nothing more.
-use Prim.Native.Nat.{ℕ, ◌-◌, ◌≤◌, ◌<◌, max}
-use mathlib.Core.Path.{◌≡◌, refl}
-use mathlib.Core.Bool.{Bool, true, false}
-use mathlib.Core.Logic.{◌⊎◌, inl, inr}
-use native.Mathlib.Omega.{arith}
-use lib.Dec.{T, leb}
+use Rattle.std.proofs.Common.{ℕ, ◌-◌, ◌≤◌, ◌<◌, max, ◌≡◌, refl, Bool, true, false, ◌⊎◌, inl, inr, arith, T, leb}
 use Rattle.timing.specs.Formulas.{wire_delay}
 use Rattle.plan.proofs.Truth.{split}
 use Rattle.rules.specs.Rules.{Rules, register_code, fifo_code, is_closing}

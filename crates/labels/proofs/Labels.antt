@@ -1,13 +1,6 @@
 -- Laws of the labels in the scratch words and of their order.
-use Prim.Native.Nat.{ℕ, ◌+◌, ◌*◌, ◌≤◌, ◌<◌}
-use mathlib.Core.Path.{◌≡◌, refl, sym, ap, ◌∙◌}
-use mathlib.Core.Bool.{Bool, true, false, ◌&&◌, not, cond}
-use mathlib.Core.Logic.{◌⊎◌, inl, inr}
-use mathlib.Core.List.{List}
-use native.Mathlib.Omega.{arith}
-use borrow.Author.Tests.{eq-eqb, ne_eqb, lt-ltb, le-ltb}
-use lib.Dec.{T, eqb, ltb, not_T}
-use lib.ListN.{length, get_or}
+use Rattle.std.proofs.Common.{ℕ, ◌+◌, ◌*◌, ◌≤◌, ◌<◌, ◌≡◌, refl, sym, ap, ◌∙◌, Bool, true, false, ◌&&◌, not, cond, ◌⊎◌, inl, inr, List, arith, eq-eqb, ne_eqb, lt-ltb, le-ltb, T, eqb, ltb, length, get_or}
+use lib.Dec.{not_T}
 use Rattle.rules.specs.Rules.{Rules, register_code, fifo_code}
 use Rattle.plan.proofs.Truth.{both, fst, snd, tests, split, equal, decided, is_true, is_false}
 use Rattle.budget.specs.Done.{NotAfter, Labels, Covers, After, Labelled}

@@ -1,9 +1,5 @@
 -- The rules of a ready net.
-use Prim.Native.Nat.{ℕ, ◌+◌, ◌*◌, ◌-◌, ◌≤◌}
-use mathlib.Core.Path.{◌≡◌}
-use mathlib.Core.List.{List}
-use native.Mathlib.Omega.{arith}
-use lib.ListN.{length}
+use Rattle.std.proofs.Common.{ℕ, ◌+◌, ◌*◌, ◌-◌, ◌≤◌, ◌≡◌, List, arith, length}
 use Rattle.plan.specs.Apart.{apart_by}
 use Rattle.rules.specs.Crossing.{period_on}
 use Rattle.budget.specs.Done.{Least, Lawful}

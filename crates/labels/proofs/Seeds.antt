@@ -1,10 +1,5 @@
 -- A layer depends on the seeds of the plan's cells alone; the order and its labels stay with their words.
-use Prim.Native.Nat.{ℕ, ◌+◌, ◌*◌, ◌<◌}
-use mathlib.Core.Path.{◌≡◌, refl}
-use mathlib.Core.Bool.{Bool, true, false}
-use mathlib.Core.List.{List}
-use native.Mathlib.Omega.{arith}
-use lib.Dec.{T}
+use Rattle.std.proofs.Common.{ℕ, ◌+◌, ◌*◌, ◌<◌, ◌≡◌, refl, Bool, true, false, List, arith, T}
 use Rattle.rules.specs.Rules.{Rules, is_closing}
 use Rattle.budget.specs.Table.{Table, Seeds, arrival, given, layer}
 use Rattle.budget.proofs.Active.{max-same, arrival-row, given-row}

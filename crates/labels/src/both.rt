@@ -60,7 +60,7 @@ pub fn arrive_both(
     if exit == exits {
         return BothArrivals {
             at: near.at,
-            exit: exit,
+            exit,
             active: near.active,
         };
     }

@@ -53,12 +53,12 @@ pub fn is_after(scratch: &[u16], n: usize, set: usize, cell: usize, weight: u32,
 {
     let word = weight_word(scratch, n, set, cell);
     if word <= weight {
-        return false;
+        false
+    } else if word - 1 == weight {
+        steps < steps_of(scratch, n, set, cell)
+    } else {
+        true
     }
-    if word - 1 == weight {
-        return steps < steps_of(scratch, n, set, cell);
-    }
-    true
 }
 
 // The number is put into the two words.
@@ -104,12 +104,12 @@ fn marked(mark: u16, code: u16) -> u16
     ensures { MarkedWith mark code result }
 {
     if marks_seed(mark, code) {
-        return mark;
+        mark
+    } else if marks_seed(mark, 15 - code) {
+        15
+    } else {
+        code
     }
-    if marks_seed(mark, 15 - code) {
-        return 15;
-    }
-    code
 }
 
 // The cell becomes a seed for gates of this code and joins the active list, but for an idle code where the cell is a seed of the other. The list's new count.
@@ -119,10 +119,8 @@ fn plant(scratch: &mut [u16], n: usize, cell: usize, code: u16, idle: bool, acti
 {
     let mark = scratch[n * SEEDS + cell];
     scratch[n * SEEDS + cell] = marked(mark, code);
-    if idle {
-        if marks_seed(mark, 15 - code) {
-            return active;
-        }
+    if idle && marks_seed(mark, 15 - code) {
+        return active;
     }
     enlist(scratch, n, n * ACTIVE, active, cell)
 }
@@ -149,9 +147,8 @@ pub fn arrive(
     requires { ArriveAsks n set code at count active scratch.old }
     ensures { ArrivedAll n set code idle at count weight steps scratch.old scratch.new result.at result.active }
 {
-    let mut i = at;
     let mut listed = active;
-    while i < count {
+    for i in at..count {
         let cell = scratch[set + n * ORDER + i] as usize;
         if is_after(scratch, n, set, cell, weight, steps) {
             return Arrivals {
@@ -160,10 +157,9 @@ pub fn arrive(
             };
         }
         listed = plant(scratch, n, cell, code, idle, listed);
-        i += 1;
     }
     Arrivals {
-        at: i,
+        at: count,
         active: listed,
     }
 }

@@ -10,10 +10,5 @@ pub fn copy_set(scratch: &mut [u16], n: usize, from: usize, to: usize)
     requires { CopyAsks n from to scratch.old }
     ensures { Filled (λ k. get_or scratch.old (from + k) 0) to (n * label_words) scratch.old scratch.new }
 {
-    let count = n * LABEL_WORDS;
-    let mut i = 0;
-    while i < count {
-        scratch[to + i] = scratch[from + i];
-        i += 1;
-    }
+    scratch.copy_within(from..from + n * LABEL_WORDS, to);
 }

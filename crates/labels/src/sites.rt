@@ -22,13 +22,7 @@ pub fn may_register(plan: &[u8], p: Problem, cell: usize) -> bool
     requires { Ready p plan.now × (cell < length plan.now) }
     ensures { result ≡ may_stand (rules_for p plan.now) cell register_code }
 {
-    if cell == p.source {
-        return false;
-    }
-    if cell == p.sink {
-        return false;
-    }
-    takes_register(plan[cell])
+    cell != p.source && cell != p.sink && takes_register(plan[cell])
 }
 
 // The state after this gate at the cell has come into the table.
@@ -57,13 +51,10 @@ fn label_cell(
     ensures { LabelsAddedAmong (net_rules net plan.now) (length plan.now) code set (λ c. c ≡ cell) weight steps scratch.old scratch.new count result }
 {
     let n = plan.len();
-    if 0 < weight_word(scratch, n, set, cell) {
-        return count;
-    }
-    if !fresh_in(scratch, net.gate(code), cell) {
-        return count;
-    }
-    if !may_register(plan, net.problem, cell) {
+    if 0 < weight_word(scratch, n, set, cell)
+        || !fresh_in(scratch, net.gate(code), cell)
+        || !may_register(plan, net.problem, cell)
+    {
         return count;
     }
     label(scratch, n, set, cell, weight, steps, count);
@@ -87,11 +78,9 @@ pub fn label_active(
 {
     let n = plan.len();
     let mut known = count;
-    let mut i = 0;
-    while i < active {
+    for i in 0..active {
         let cell = scratch[n * ACTIVE + i] as usize;
         known = label_cell(plan, scratch, net, code, set, cell, weight, steps, known);
-        i += 1;
     }
     known
 }

@@ -2,7 +2,7 @@
 use Rattle.std.proofs.Common.{ℕ, ◌+◌, ◌≤◌, ◌<◌, ◌≡◌, ◌∙◌, ◌⊎◌, inl, inr, List, arith, get_or}
 use Rattle.lists.specs.Lists.{flag_of, ListedAt, Listed, Enlisted}
 use Rattle.plan.proofs.Truth.{equal}
-use Rattle.lists.proofs.Sums.{sum_same, sum_bound, sum-part, sum-none, sum-zero, sum_more, sum-short}
+use Rattle.lists.proofs.Sums.{sum_same, sum_bound, sum-none, sum-zero, sum_more, sum-short}
 
 -- a bit is 0 or 1
 pub bit-cases : (b : ℕ) → b ≤ 1 → (b ≡ 0) ⊎ (b ≡ 1)
@@ -20,15 +20,9 @@ module _ {n : ℕ} {words : List ℕ} {base count : ℕ} (l : Listed n words bas
   pub listed-room : (c : ℕ) → c < n → flag_of n words c ≡ 0 → count < n
   listed-room c h e = omega (arith, sum-short n (flag_of n words) c l.bits h e)
 
-  pub listed-some : (c : ℕ) → c < n → flag_of n words c ≡ 1 → 0 < count
-  listed-some c h e = omega (arith, sum-part n (flag_of n words) c h)
-
   -- the list is empty just where no cell is flagged
   pub empty-flags : count ≡ 0 → (c : ℕ) → c < n → flag_of n words c ≡ 0
   empty-flags e c h = sum-zero n (flag_of n words) c (omega arith) h
-
-  pub flags-empty : ((c : ℕ) → c < n → flag_of n words c ≡ 0) → count ≡ 0
-  flags-empty h = omega (arith, sum-none n (flag_of n words) h)
 
 -- no cell is flagged
 pub listed-none : (n : ℕ) (words : List ℕ) (base : ℕ) → ((c : ℕ) → c < n → flag_of n words c ≡ 0) → Listed n words base 0

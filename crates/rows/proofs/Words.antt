@@ -1,8 +1,8 @@
 -- The laws of `Filled`: nothing filled, one word more, and what a caller reads off.
-use Rattle.std.proofs.Common.{ℕ, ◌+◌, ◌-◌, ◌≤◌, ◌<◌, ◌≡◌, refl, sym, ◌∙◌, ◌⊎◌, inl, inr, List, arith, below_more, length, get_or, set, length-set, get_or-set_same, get_or-set_other, ext_get_or}
+use Rattle.std.proofs.Common.{ℕ, ◌+◌, ◌-◌, ◌≤◌, ◌<◌, ◌≡◌, refl, ◌∙◌, ◌⊎◌, inl, inr, List, arith, below_more, length, get_or, set, length-set, get_or-set_same, get_or-set_other, ext_get_or}
 use Rattle.std.specs.List.{CopiedTo, SameBelow, SameFrom}
 use Rattle.plan.proofs.Truth.{split}
-use Rattle.rows.specs.Words.{Filled, Kept, KeptFrom}
+use Rattle.rows.specs.Words.{Filled}
 
 pub filled_none : (F : ℕ → ℕ) (at : ℕ) (words : List ℕ) → Filled F at 0 words words
 filled_none F at words =
@@ -61,31 +61,6 @@ module _ {F : ℕ → ℕ} {at n : ℕ} {old new : List ℕ} (f : Filled F at n 
       let e : at + (k - at) ≡ k = omega arith in
       rw e at (f.done (k - at) (omega arith))
 
-  -- a word outside it
-  pub filled-outside : (k : ℕ) → (k < at) ⊎ (at + n ≤ k) → get_or new k 0 ≡ get_or old k 0
-  filled-outside k (inl l) = f.low k l
-  filled-outside k (inr l) = f.high k l
-
-  -- what lies wholly before it or wholly after it
-  pub filled-kept : (a b : ℕ) → (b ≤ at) ⊎ (at + n ≤ a) → Kept a b old new
-  filled-kept a b (inl h) k l m = f.low k (omega arith)
-  filled-kept a b (inr h) k l m = f.high k (omega arith)
-
-  pub filled-kept-from : (a : ℕ) → at + n ≤ a → KeptFrom a old new
-  filled-kept-from a h k l = f.high k (omega arith)
-
 -- two lists of one length with the same words
 pub same-words : (a b : List ℕ) → length a ≡ length b → ((k : ℕ) → get_or a k 0 ≡ get_or b k 0) → a ≡ b
 same-words a b e h = ext_get_or 0 a b e (λ k l. h k)
-
--- a stretch filled alike from the same words
-pub filled-same : {F : ℕ → ℕ} {at n : ℕ} {old a b : List ℕ} → Filled F at n old a → Filled F at n old b → a ≡ b
-filled-same {F} {at} {n} {old} {a} {b} f g = same-words a b (f.same ∙ sym g.same) (λ k. go k (split at k))
-  where
-    far : (k : ℕ) → at ≤ k → (at + n ≤ k) ⊎ (k < at + n) → get_or a k 0 ≡ get_or b k 0
-    far k h (inl l) = f.high k l ∙ sym (g.high k l)
-    far k h (inr l) = filled_at f k h l ∙ sym (filled_at g k h l)
-
-    go : (k : ℕ) → (at ≤ k) ⊎ (k < at) → get_or a k 0 ≡ get_or b k 0
-    go k (inl h) = far k h (split (at + n) k)
-    go k (inr h) = f.low k h ∙ sym (g.low k h)

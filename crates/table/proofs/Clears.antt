@@ -4,8 +4,8 @@ use Rattle.plan.proofs.Truth.{split, equal}
 use Rattle.layout.specs.Layout.{active_at, listed_at, seeds_at, cell_words, trail_at}
 use Rattle.rows.specs.Words.{Kept, KeptFrom}
 use Rattle.costs.specs.Costs.{CostsOf}
-use Rattle.lists.specs.Lists.{flag_of, ListedAt, Listed}
-use Rattle.lists.proofs.Lists.{bit-cases, listed-count}
+use Rattle.lists.specs.Lists.{flag_of, Listed}
+use Rattle.lists.proofs.Lists.{listed-count}
 use Rattle.trail.specs.declared.Trail.{Trail}
 use Rattle.trail.specs.Trail.{Sound}
 use Rattle.trail.proofs.History.{sound-kept}
@@ -32,24 +32,6 @@ clear_none n old =
       low = λ k lo hi. refl;
       rest = λ k lo. refl;
     }
-
--- all are
-pub clear-all : {n active : ℕ} {old now : List ℕ} → Listed n old (n * active_at) active → Clearing n active old now → FlagsCleared n old now
-clear-all {n} {active} {old} {now} listed f =
-    record {
-      same = f.same;
-      cleared = λ c h. clear c h (bit-cases (flag_of n old c) (listed.bits c h)) (f.flags c h);
-      low = f.low;
-      rest = f.rest;
-    }
-  where
-    listed-clear : (c : ℕ) → ListedAt n old (n * active_at) active c → flag_of n now c ≡ 0
-    listed-clear c p = rw p.holds at (f.cleared p.at p.below)
-
-    clear : (c : ℕ) → c < n → (flag_of n old c ≡ 0) ⊎ (flag_of n old c ≡ 1) → (flag_of n now c ≡ 0) ⊎ (flag_of n now c ≡ flag_of n old c) → flag_of n now c ≡ 0
-    clear c h a (inl z) = z
-    clear c h (inl a) (inr z) = z ∙ a
-    clear c h (inr a) (inr z) = listed-clear c (listed.covered c h a)
 
 -- one more
 module _ (n active i : ℕ) (old now : List ℕ) (listed : Listed n old (n * active_at) active) (room : n * trail_at ≤ length old) (short : i < active) (before : Clearing n i old now) where

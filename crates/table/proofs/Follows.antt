@@ -6,7 +6,7 @@ use Rattle.layout.specs.Layout.{arrival_at, labels_at, listed_at, trail_at}
 use Rattle.rows.specs.Words.{Kept, KeptFrom}
 use Rattle.lists.specs.Lists.{flag_of}
 use Rattle.trail.specs.declared.Trail.{Trail}
-use Rattle.trail.specs.Trail.{Sound, TrailKept, Noted, Saved}
+use Rattle.trail.specs.Trail.{Sound, TrailKept, Noted}
 use Rattle.trail.proofs.History.{SameView, sound-kept, noted-kept, history-kept, history-pushed}
 use Rattle.table.specs.Layer.{FlagsNoted, Follows, NotedRow}
 
@@ -49,30 +49,6 @@ follows-kept {n} {t} {old} {new} some s low high =
   where
     kept : TrailKept n old new
     kept = record { near = λ k lo hi. high k lo; far = λ k lo hi. high k (omega arith) }
-
--- the cell was listed
-pub noted-listed : {n cell : ℕ} {words : List ℕ} {t : Trail} → Sound n words t → cell < n → flag_of n words cell ≡ 1 → NotedRow n cell words t words t
-noted-listed s h e = record { same = refl; low = λ k lo hi. refl; labels = λ k lo hi. refl; follows = follows_same s; noted = λ f. f _ h e }
-
--- it was not
-pub noted-saved : {n cell : ℕ} {old new : List ℕ} {t r : Trail} → Saved n cell old t new r → NotedRow n cell old t new r
-noted-saved {n} {cell} {old} {new} {t} {r} x =
-    record {
-      same = x.same;
-      low = x.low;
-      labels = x.labels;
-      follows =
-          record {
-            sound = x.sound;
-            room = x.room;
-            stamp = x.stamp;
-            near = x.near;
-            beyond = x.high;
-            noted = λ f c h e. x.others c (f c h (sym (x.labels (n * listed_at + c) (omega arith) (omega arith)) ∙ e));
-            history = λ f u Z below past. x.history u Z below past;
-          };
-      noted = λ f. x.noted;
-    }
 
 -- then its row and its flag change
 module _ (n cell : ℕ) (old : List ℕ) (t : Trail) (mid : List ℕ) (r : Trail) (note : NotedRow n cell old t mid r) (new : List ℕ) (near : Kept (n * arrival_at + row_words) (n * labels_at) mid new) (high : KeptFrom (n * trail_at) mid new) (rows : (c : ℕ) → c < n → (c ≡ cell → ⊥) → SameView mid new c) (flags : (c : ℕ) → c < n → (c ≡ cell → ⊥) → flag_of n new c ≡ flag_of n mid c) where

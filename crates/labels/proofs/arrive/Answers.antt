@@ -1,40 +1,14 @@
-use Prim.Native.Nat.{ℕ, ◌+◌, ◌*◌, ◌<◌, ◌≤◌}
-use mathlib.Core.Path.{◌≡◌, refl, sym, ◌∙◌}
-use mathlib.Core.Bool.{Bool}
-use mathlib.Core.Logic.{◌⊎◌, inl, inr}
-use mathlib.Core.List.{List}
-use native.Mathlib.Omega.{arith}
-use lib.Dec.{T}
-use lib.ListN.{get_or}
+use Rattle.std.proofs.Common.{ℕ, ◌+◌, ◌*◌, ◌<◌, ◌≤◌, ◌≡◌, sym, ◌∙◌, Bool, ◌⊎◌, inl, inr, List, arith, T, get_or}
 use Rattle.plan.proofs.Truth.{equal}
 use Rattle.rules.specs.Rules.{is_closing}
 use Rattle.layout.specs.Layout.{order_in, label_words, active_at, trail_at}
-use Rattle.lists.specs.Lists.{flag_of, Listed}
+use Rattle.lists.specs.Lists.{flag_of}
 use Rattle.table.specs.Problem.{seed_of}
 use Rattle.labels.specs.Labels.{known_of, order_of, other_code, ListedOr, LabelBy, Apart, SameLabel, Planted, Arrived}
 use Rattle.labels.proofs.Codes.{other-closes, other_differs}
 use Rattle.labels.proofs.Labels.{known-below, label_kept}
 use Rattle.labels.proofs.arrive.Goals as goal
 use Rattle.labels.proofs.arrive.Goals.{In-loop-i}
-
-arrived-none : (n set code : ℕ) (idle : Bool) (from k s : ℕ) (words : List ℕ) (active : ℕ) → Listed n words (n * active_at) active → Arrived n set code idle from from k s words words active
-arrived-none n set code idle from k s words active l =
-    record {
-      same = refl;
-      forth = omega arith;
-      in_time = λ i h k. absurd (omega arith);
-      listed = l;
-      seeds = λ i h k. absurd (omega arith);
-      seeds_stay = λ c h e. e;
-      other_seeds = λ c h e. refl;
-      other_codes = λ a z f c h. refl;
-      now_listed = λ i h k. absurd (omega arith);
-      flags_stay = λ c h e. e;
-      other_flags = λ c h e. refl;
-      low = λ k h. refl;
-      middle = λ k h j. refl;
-      high = λ k h. refl;
-    }
 
 -- the words of the set stay
 module _ {n set code : ℕ} {idle : Bool} {from to k s : ℕ} {old new : List ℕ} {active : ℕ} (apart : Apart n set) (a : Arrived n set code idle from to k s old new active) where
@@ -109,7 +83,7 @@ module _ (c : In-loop-i) where
   few = c.requires.short
 
   cell_same : order_of c.args.n c.args.set c.loop-i.scratch c.loop-i.i ≡ order_of c.args.n c.args.set c.args.scratch.now c.loop-i.i
-  cell_same = order-stays c.requires.apart c.loop-i.invariant.1 c.loop-i.i (omega (arith, few))
+  cell_same = order-stays c.requires.apart c.loop-i.invariant c.loop-i.i (omega (arith, few))
 
   cell-known : T (known_of c.args.n c.args.set c.args.scratch.now (order_of c.args.n c.args.set c.loop-i.scratch c.loop-i.i))
   cell-known = rw cell_same (c.requires.known c.loop-i.i (omega arith))
@@ -118,64 +92,32 @@ module _ (c : In-loop-i) where
   cell_below = known-below _ _ _ _ cell-known
 
   label_same : SameLabel c.args.n c.args.set c.args.scratch.now c.loop-i.scratch (order_of c.args.n c.args.set c.loop-i.scratch c.loop-i.i)
-  label_same = label-stays c.requires.apart c.loop-i.invariant.1 _ cell_below
-
-pub loop-i-init : goal.loop-i-init
-loop-i-init c = (c.requires.start, arrived-none _ _ _ _ _ _ _ _ _ c.requires.listed)
-
-pub overflow_mul-cell : goal.overflow_mul-cell
-overflow_mul-cell c = omega (arith, c.requires.set_in.small)
-
-pub overflow_add-cell : goal.overflow_add-cell
-overflow_add-cell c = omega (arith, c.requires.set_in.small, c.requires.set_in.low)
-
-pub overflow_add-cell-in-loop-i : goal.overflow_add-cell-in-loop-i
-overflow_add-cell-in-loop-i c = omega (arith, c.requires.set_in.small, c.requires.set_in.low, few c)
-
-pub offset_bounds-scratch-set : goal.offset_bounds-scratch-set
-offset_bounds-scratch-set c = omega (arith, c.requires.set_in.small, c.requires.set_in.low, few c)
-
-pub bounds-scratch-set : goal.bounds-scratch-set
-bounds-scratch-set c =
-    omega (arith, c.requires.set_in.room, few (goal.at.bounds-scratch-set c).In-loop-i, c.loop-i.invariant.1.same, c.loop-i-test.true)
-
-pub overflow_cast-cell : goal.overflow_cast-cell
-overflow_cast-cell c = omega (arith, cell_below (goal.at.overflow_cast-cell c).In-loop-i, c.requires.set_in.small)
+  label_same = label-stays c.requires.apart c.loop-i.invariant _ cell_below
 
 pub is_after-requires : goal.is_after-requires
 is_after-requires c =
     let w = (goal.at.is_after-requires c).In-loop-i in
     let a = w.requires.set_in in
-    (record { small = a.small; low = a.low; room = omega (arith, a.room, w.loop-i.invariant.1.same) }, rw (label_same w).known (cell-known w))
+    (record { small = a.small; low = a.low; room = omega (arith, a.room, w.loop-i.invariant.same) }, rw (label_same w).known (cell-known w))
 
 pub returns-then-is_after : goal.returns-then-is_after
 returns-then-is_after c =
     let w = (goal.at.returns-then-is_after c).In-loop-i in
     record {
-      within = w.loop-i.invariant.0;
+      within = omega arith;
       late = λ h. rw (← cell_same w) (rw (← (label_same w).weight, ← (label_same w).steps) (c.is_after.ensures.after c.if-is_after.true));
-      arrived = w.loop-i.invariant.1;
+      arrived = w.loop-i.invariant;
     }
 
 pub plant-listed-requires : goal.plant-listed-requires
 plant-listed-requires c =
     let w = (goal.at.plant-listed-requires c).In-loop-i in
     let a = w.requires in
-    (a.closes, (w.loop-i.invariant.1.listed, (cell_below w, (a.set_in.small, omega (arith, a.room, w.loop-i.invariant.1.same)))))
+    (a.closes, (w.loop-i.invariant.listed, (cell_below w, (a.set_in.small, omega (arith, a.room, w.loop-i.invariant.same)))))
 
 pub loop-i-preserved : goal.loop-i-preserved
 loop-i-preserved c =
-    let w = (goal.at.loop-i-preserved c).In-loop-i in (
-      omega arith,
-      arrived-more w.requires.closes w.loop-i.invariant.1 (cell_same w) (cell_below w) c.plant-listed.ensures
-          (λ j h. known-below _ _ _ _ (w.requires.known j (omega arith)))
-          (rw (← cell_same w) (rw (← (label_same w).weight, ← (label_same w).steps) (c.is_after.ensures.by c.if-is_after.false))),
-    )
-
-pub returns : goal.returns
-returns c =
-    record {
-      within = c.loop-i.invariant.0;
-      late = λ h. absurd (omega arith);
-      arrived = c.loop-i.invariant.1;
-    }
+    let w = (goal.at.loop-i-preserved c).In-loop-i in
+    arrived-more w.requires.closes w.loop-i.invariant (cell_same w) (cell_below w) c.plant-listed.ensures
+    (λ j h. known-below _ _ _ _ (w.requires.known j (omega arith)))
+    (rw (← cell_same w) (rw (← (label_same w).weight, ← (label_same w).steps) (c.is_after.ensures.by c.if-is_after.false)))

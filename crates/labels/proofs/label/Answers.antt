@@ -1,11 +1,5 @@
 -- `labels::label`: the words are written where nothing else is kept, and the cell takes the last place of the order.
-use Prim.Native.Nat.{ℕ, ◌+◌, ◌*◌, ◌<◌}
-use mathlib.Core.Path.{◌≡◌, ◌∙◌}
-use mathlib.Core.List.{List}
-use native.Mathlib.Omega.{arith}
-use lib.Dec.{T}
-use lib.ListN.{get_or, set, length-set}
-use lib.Seq.{get_or-set_same, get_or-set_other}
+use Rattle.std.proofs.Common.{ℕ, ◌+◌, ◌*◌, ◌<◌, ◌≡◌, ◌∙◌, List, arith, T, get_or, set, length-set, get_or-set_same, get_or-set_other}
 use Rattle.layout.specs.Layout.{weight_high, steps_low, steps_high, order_in}
 use Rattle.labels.specs.Labels.{known_of, weight_word, weight_of, steps_of, order_of, LabelBy, PairSet, SameLabel, Labelable, LabelAdded}
 use Rattle.labels.proofs.Labels.{word-known, same-label, ordered-room, ordered-more}
@@ -86,9 +80,6 @@ offset_bounds-scratch-set c = omega (arith, room (goal.at.offset_bounds-scratch-
 
 pub bounds-scratch-set : goal.bounds-scratch-set
 bounds-scratch-set c = omega (arith, room (goal.at.bounds-scratch-set c).Start)
-
-pub shape_of-scratch : goal.shape_of-scratch
-shape_of-scratch c = simp length-set (omega arith)
 
 pub returns : goal.returns
 returns c =

@@ -1,12 +1,5 @@
 -- `labels::marked`: the codes that close a span are 7 and 8, so the other one is 15 less the code.
-use Prim.Native.Nat.{ℕ, ◌-◌, ◌≤◌, ◌<◌}
-use mathlib.Core.Path.{◌≡◌, refl, sym, ◌∙◌}
-use mathlib.Core.Bool.{true, false}
-use mathlib.Core.Logic.{◌⊎◌, inl, inr}
-use native.Mathlib.Omega.{arith}
-use borrow.Author.Tests.{eq-eqb, ne_eqb}
-use lib.Dec.{T}
-use Rattle.plan.proofs.Truth.{of-true}
+use Rattle.std.proofs.Common.{ℕ, ◌-◌, ◌≤◌, ◌<◌, ◌≡◌, refl, sym, ◌∙◌, true, false, ◌⊎◌, inl, inr, arith, eq-eqb, ne_eqb, T}
 use Rattle.rules.specs.Rules.{register_code, fifo_code, is_closing}
 use Rattle.rules.proofs.View.{closing-codes}
 use Rattle.table.specs.Problem.{marks_seed}
@@ -50,14 +43,11 @@ module _ (code : ℕ) (closes : T (is_closing code)) where
         others = λ a z f. rw (other a z f) (simp (ne_eqb code (15 - code) (λ z. other_differs code closes (sym z)), ne_eqb code 15 (λ z. omega (arith, small))) (sym h));
       }
 
-pub returns-then-marks_seed : goal.returns-then-marks_seed
-returns-then-marks_seed c = record { has = of-true _ (sym c.marks_seed.ensures ∙ c.if-marks_seed.true); others = λ a z f. refl }
-
 pub overflow_sub-code : goal.overflow_sub-code
 overflow_sub-code c = omega (arith, small _ c.requires)
 
 pub returns-then-marks_seed-2 : goal.returns-then-marks_seed-2
-returns-then-marks_seed-2 c = both-marked _ c.requires _ (sym c.marks_seed-2.ensures ∙ c.if-marks_seed-2.true)
+returns-then-marks_seed-2 c = both-marked _ c.requires _ (sym c.marks_seed-else-marks_seed.ensures ∙ c.if-marks_seed-2.true)
 
-pub returns : goal.returns
-returns c = newly-marked _ c.requires _ (sym c.marks_seed-2.ensures ∙ c.if-marks_seed-2.false)
+pub returns-else-marks_seed-2 : goal.returns-else-marks_seed-2
+returns-else-marks_seed-2 c = newly-marked _ c.requires _ (sym c.marks_seed-else-marks_seed.ensures ∙ c.if-marks_seed-2.false)

@@ -1,13 +1,5 @@
 -- `labels::plant`: the seed flag is outside of the list and its flags, and `enlist` leaves the seed flags as they are.
-use Prim.Native.Nat.{ℕ, ◌+◌, ◌*◌, ◌<◌, ◌≤◌}
-use mathlib.Core.Path.{◌≡◌, refl, sym, ◌∙◌}
-use mathlib.Core.Bool.{Bool}
-use mathlib.Core.Logic.{◌⊎◌, inl, inr}
-use mathlib.Core.List.{List}
-use native.Mathlib.Omega.{arith}
-use lib.Dec.{T}
-use lib.ListN.{length, get_or, set, length-set}
-use lib.Seq.{get_or-set_same, get_or-set_other}
+use Rattle.std.proofs.Common.{ℕ, ◌+◌, ◌*◌, ◌<◌, ◌≤◌, ◌≡◌, refl, sym, ◌∙◌, Bool, ◌⊎◌, inl, inr, List, arith, T, length, get_or, set, length-set, get_or-set_same, get_or-set_other}
 use Rattle.layout.specs.Layout.{active_at, listed_at, seeds_at, trail_at}
 use Rattle.lists.specs.Lists.{Listed, Enlisted}
 use Rattle.lists.proofs.Lists.{listed-count, listed_kept}
@@ -93,9 +85,6 @@ unlisted n cell code idle mark active old h r marks l i o =
 pub overflow_sub-code : goal.overflow_sub-code
 overflow_sub-code c = omega (arith, closing-small _ c.requires.0)
 
-pub shape_of-scratch-then-marks_seed : goal.shape_of-scratch-then-marks_seed
-shape_of-scratch-then-marks_seed c = simp length-set
-
 pub returns-then-marks_seed : goal.returns-then-marks_seed
 returns-then-marks_seed c =
     unlisted _ _ _ _ _ _ _ (omega arith) (omega arith) c.marked.ensures c.requires.1.0 (of-true _ c.if-idle.true) (of-true _ (sym c.marks_seed.ensures ∙ c.if-marks_seed.true))
@@ -103,9 +92,6 @@ returns-then-marks_seed c =
 pub enlist-requires : goal.enlist-requires
 enlist-requires c =
     (seed-listed _ _ _ _ _ c.requires.1.0, (omega arith, (omega arith, (omega arith, simp length-set (omega arith)))))
-
-pub shape_of-scratch : goal.shape_of-scratch
-shape_of-scratch c = simp length-set at c.enlist.ensures.same
 
 pub returns : goal.returns
 returns c = planted _ _ _ _ _ _ _ _ _ (omega arith) (omega arith) c.marked.ensures c.enlist.ensures

@@ -1,5 +1,5 @@
 -- `trail::save`: without a slot nothing is kept; else the words of the free slot are written, and no others.
-use Rattle.std.proofs.Common.{ℕ, ◌+◌, ◌*◌, ◌/◌, ◌%◌, ◌≤◌, ◌<◌, ◌≡◌, refl, sym, ◌∙◌, ◌⊎◌, inl, inr, List, arith, length, get_or, set, length-set, get_or-set_same, get_or-set_other}
+use Rattle.std.proofs.Common.{ℕ, ◌+◌, ◌*◌, ◌/◌, ◌%◌, ◌≤◌, ◌<◌, ◌≡◌, refl, ◌∙◌, ◌⊎◌, inl, inr, List, arith, length, get_or, set, length-set, get_or-set_same, get_or-set_other}
 use Rattle.layout.specs.Layout.{cell_words, slot_words, slot_cell, slot_low, slot_high}
 use Rattle.rows.specs.Words.{Filled}
 use Rattle.costs.specs.Costs.{row_words}
@@ -7,27 +7,9 @@ use Rattle.rows.proofs.Words.{filled_copied}
 use Rattle.trail.specs.declared.Trail.{Trail}
 use Rattle.trail.specs.Trail.{place_of, stamp_of, TrailAsks, RoomMade, Saved}
 use Rattle.trail.proofs.Slots.{place-in}
-use Rattle.trail.proofs.History.{sound_none}
 use Rattle.trail.proofs.Changes.{saved}
 use Rattle.trail.proofs.save.Goals as goal
 use Rattle.trail.proofs.save.Goals.{After-place-at}
-
--- no slots: nothing can be had back any more
-pub save-nothing : (n cell : ℕ) (words : List ℕ) (t : Trail) → t.room ≡ 0 → Saved n cell words t words (record { room = 0; start = 0; count = 0; low = t.stamp; stamp = t.stamp })
-save-nothing n cell words t none =
-    record {
-      same = refl;
-      low = λ k lo hi. refl;
-      near = λ few k lo hi. refl;
-      labels = λ k lo hi. refl;
-      high = λ k h. refl;
-      sound = sound_none n words _ refl refl (omega arith) (omega arith);
-      room = sym none;
-      stamp = refl;
-      history = λ u Z below past s c lo hi h. absurd (omega arith);
-      noted = inl (omega arith);
-      others = λ c h. inl (omega arith);
-    }
 
 -- the words after the stores
 module _ (n cell : ℕ) (old : List ℕ) (t k : Trail) (stamp : ℕ) (asks : TrailAsks n old t) (cell_in : cell < n) (made : RoomMade n old t k) (stampIs : stamp ≡ t.stamp) (at : ℕ) (atIs : at ≡ place_of n k k.count) (mid : List ℕ) (f : Filled (λ l. get_or old (cell * row_words + l) 0) at row_words old mid) where

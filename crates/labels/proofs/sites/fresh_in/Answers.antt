@@ -1,10 +1,5 @@
 -- `labels::sites::fresh_in`: the word that it reads is the table's, where a span starts with the gate's load and setup.
-use Prim.Native.Nat.{ℕ, ◌+◌, ◌*◌, ◌≤◌}
-use mathlib.Core.Path.{◌≡◌}
-use mathlib.Core.List.{List}
-use native.Mathlib.Omega.{arith}
-use lib.Dec.{ltb}
-use lib.ListN.{get_or}
+use Rattle.std.proofs.Common.{ℕ, ◌+◌, ◌*◌, ◌≤◌, ◌≡◌, List, arith, ltb, get_or}
 use Rattle.timing.specs.declared.elements.Register.{Register}
 use Rattle.timing.specs.Ranges.{load_max, setup_max}
 use Rattle.timing.specs.Formulas.{register_load, setup_delay}

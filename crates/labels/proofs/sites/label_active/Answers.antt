@@ -1,9 +1,4 @@
-use Prim.Native.Nat.{ℕ, ◌+◌, ◌*◌, ◌<◌, ◌≤◌}
-use mathlib.Core.Path.{◌≡◌, refl}
-use mathlib.Core.Logic.{◌⊎◌, inl, inr}
-use mathlib.Core.List.{List}
-use native.Mathlib.Omega.{arith}
-use lib.ListN.{length, get_or}
+use Rattle.std.proofs.Common.{ℕ, ◌+◌, ◌*◌, ◌<◌, ◌≤◌, ◌≡◌, refl, ◌⊎◌, inl, inr, List, arith, length, get_or}
 use Rattle.layout.specs.Layout.{label_words, active_at, trail_at}
 use Rattle.lists.specs.Lists.{flag_of, Listed}
 use Rattle.lists.proofs.Lists.{listed-count}
@@ -11,7 +6,7 @@ use Rattle.problem.specs.declared.net.Net.{Net}
 use Rattle.table.specs.Problem.{net_rules}
 use Rattle.problem.proofs.Sizes.{few-cells}
 use Rattle.labels.specs.Additions.{LabelAsks, LabelsAdded}
-use Rattle.labels.proofs.Additions.{labels-none, labels-more, labels-among, labels-last}
+use Rattle.labels.proofs.Additions.{labels-more, labels-among, labels-last}
 use Rattle.labels.proofs.sites.label_active.Invariants.{Tried}
 use Rattle.labels.proofs.sites.label_active.Goals as goal
 use Rattle.labels.proofs.sites.label_active.Goals.{In-loop-i}
@@ -25,9 +20,6 @@ module _ (net : Net) (marks : List ℕ) (code set active weight steps count : �
 
   short : active ≤ n
   short = listed-count listed
-
-  tried-none : Tried net marks code set weight steps count old 0 old count
-  tried-none = labels-none _ old count asks.ordered (λ c t s f. absurd (omega (arith, t.below)))
 
   module _ (i : ℕ) (mid : List ℕ) (known : ℕ) (a : Tried net marks code set weight steps count old i mid known) where
     -- the set is apart from the list
@@ -66,41 +58,20 @@ few-in c = few _ _ _ _ _ _ _ _ _ c.requires.0 c.requires.1
 short-in : (c : In-loop-i) → c.args.active ≤ length c.args.plan.now
 short-in c = short _ _ _ _ _ _ _ _ _ c.requires.0 c.requires.1
 
-pub loop-i-init : goal.loop-i-init
-loop-i-init c = (omega arith, tried-none _ _ _ _ _ _ _ _ _ c.requires.0 c.requires.1)
-
-pub overflow_mul-cell : goal.overflow_mul-cell
-overflow_mul-cell c = omega (arith, few-in c)
-
 pub overflow_add-cell : goal.overflow_add-cell
-overflow_add-cell c = omega (arith, few-in c, short-in c, c.loop-i.invariant.0)
+overflow_add-cell c = omega (arith, few-in c, short-in c)
 
 pub offset_bounds-scratch-n : goal.offset_bounds-scratch-n
-offset_bounds-scratch-n c = omega (arith, few-in c, short-in c, c.loop-i.invariant.0)
+offset_bounds-scratch-n c = omega (arith, few-in c, short-in c)
 
 pub bounds-scratch-n : goal.bounds-scratch-n
 bounds-scratch-n c =
-    omega (arith, c.requires.0.room, short-in (goal.at.bounds-scratch-n c).In-loop-i, c.loop-i.invariant.1.same, c.loop-i-test.true)
-
-pub overflow_cast-cell : goal.overflow_cast-cell
-overflow_cast-cell c =
-    omega (arith, few-in (goal.at.overflow_cast-cell c).In-loop-i, cell_below _ _ _ _ _ _ _ _ _ c.requires.0 c.requires.1 _ _ _ c.loop-i.invariant.1 c.loop-i-test.true)
+    omega (arith, c.requires.0.room, short-in (goal.at.bounds-scratch-n c).In-loop-i, c.loop-i.invariant.same, c.loop-i-test.true)
 
 pub label_cell-known-requires : goal.label_cell-known-requires
 label_cell-known-requires c =
-    next-asks _ _ _ _ _ _ _ _ _ c.requires.0 c.requires.1 _ _ _ c.loop-i.invariant.1 c.loop-i-test.true
-
-pub overflow_add-i : goal.overflow_add-i
-overflow_add-i c =
-    omega (arith, few-in (goal.at.overflow_add-i c).In-loop-i, short-in (goal.at.overflow_add-i c).In-loop-i, c.loop-i-test.true)
+    next-asks _ _ _ _ _ _ _ _ _ c.requires.0 c.requires.1 _ _ _ c.loop-i.invariant c.loop-i-test.true
 
 pub loop-i-preserved : goal.loop-i-preserved
 loop-i-preserved c =
-    (omega arith, labels-more c.requires.0.apart.past (list-stays _ _ _ _ _ _ _ _ _ c.requires.0 c.requires.1 _ _ _ c.loop-i.invariant.1 c.loop-i-test.true) c.loop-i.invariant.1 refl c.label_cell-known.ensures)
-
-pub shape_of-scratch : goal.shape_of-scratch
-shape_of-scratch c = c.loop-i.invariant.1.same
-
-pub returns : goal.returns
-returns c =
-    tried-all _ _ _ _ _ _ _ _ _ c.requires.0 c.requires.1 _ _ _ c.loop-i.invariant.1 (omega arith)
+    labels-more c.requires.0.apart.past (list-stays _ _ _ _ _ _ _ _ _ c.requires.0 c.requires.1 _ _ _ c.loop-i.invariant c.loop-i-test.true) c.loop-i.invariant refl c.label_cell-known.ensures

@@ -1,7 +1,5 @@
 -- `labels::sites::label_active`: the invariant: the first i cells of the list have been tried. They are the list of the words at entry, which stays.
-use Prim.Native.Nat.{ℕ, ◌*◌, ◌-◌, ◌≤◌}
-use mathlib.Core.List.{List}
-use lib.ListN.{length}
+use Rattle.std.proofs.Common.{ℕ, ◌*◌, List, length}
 use Rattle.layout.specs.Layout.{active_at}
 use Rattle.lists.specs.Lists.{ListedAt}
 use Rattle.problem.specs.declared.net.Net.{Net}
@@ -16,7 +14,4 @@ Tried net marks code set weight steps count old i new known =
 
 abbrev pub invariant-loop-i : goal.invariant-loop-i
 invariant-loop-i l =
-    (l.i ≤ l.active) × Tried l.net l.plan l.code l.set l.weight l.steps l.count l.initial.scratch l.i l.scratch l.known
-
-abbrev pub decreases-loop-i : goal.decreases-loop-i
-decreases-loop-i l = l.active - l.i
+    Tried l.net l.plan l.code l.set l.weight l.steps l.count l.initial.scratch l.i l.scratch l.known

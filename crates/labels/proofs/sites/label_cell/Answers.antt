@@ -1,13 +1,5 @@
 -- `labels::sites::label_cell`: on each early return the cell has a label or may have none; otherwise `label` adds one.
-use Prim.Native.Nat.{ℕ, ◌+◌, ◌<◌, ◌≤◌}
-use mathlib.Core.Bool.{Bool, true, false, not}
-use mathlib.Core.Path.{◌≡◌, sym, ◌∙◌}
-use mathlib.Core.Logic.{inl, inr}
-use mathlib.Core.List.{List}
-use native.Mathlib.Omega.{arith}
-use borrow.Author.Tests.{ltb-true, ltb-false, not-true, not-false}
-use lib.Dec.{T, ltb}
-use lib.ListN.{length}
+use Rattle.std.proofs.Common.{ℕ, ◌+◌, ◌<◌, ◌≤◌, Bool, true, false, ◌≡◌, sym, ◌∙◌, inl, inr, List, arith, ltb-true, ltb-false, T, ltb, length}
 use Rattle.rules.specs.Rules.{Rules, register_code}
 use Rattle.rules.specs.Legal.{may_stand}
 use Rattle.plan.proofs.Truth.{of-true}
@@ -23,7 +15,7 @@ use Rattle.labels.specs.Additions.{FreshIn, GateIn, LabelAsks, LabelsAddedAmong}
 use Rattle.labels.proofs.Labels.{word-known, word-unknown, unknown-not, ordered-count}
 use Rattle.labels.proofs.Additions.{labels-none, labels-one}
 use Rattle.labels.proofs.sites.label_cell.Goals as goal
-use Rattle.labels.proofs.sites.label_cell.Goals.{Else-weight_word-gt0}
+use Rattle.labels.proofs.sites.label_cell.Goals.{Else-weight_word-gt0, then-weight_word-gt0-via-then-weight_word-gt0, then-weight_word-gt0-via-else-weight_word-gt0+then-not-fresh_in, then-weight_word-gt0-via-else-weight_word-gt0+else-not-fresh_in+then-not-may_register}
 
 module _ (net : Net) (marks : List ℕ) (code set weight steps count : ℕ) (words : List ℕ) (cell : ℕ) (asks : LabelAsks net marks code set weight steps count words) (in_plan : cell < length marks) where
   abbrev n : ℕ
@@ -57,13 +49,13 @@ module _ (net : Net) (marks : List ℕ) (code set weight steps count : ℕ) (wor
   labelled : 0 < weight_word n set words cell → Added words count
   labelled k = none (λ s b. word-known n set words cell in_plan k)
 
-  not-fresh : (r : Bool) → FreshIn gate words cell r → not r ≡ true → Added words count
+  not-fresh : (r : Bool) → FreshIn gate words cell r → r ≡ false → Added words count
   not-fresh r f e =
-      let late = ltb-false (R.fresh code).delay (budget_of n words cell (R.fresh code).load) (sym (fresh r f) ∙ not-true r e) in
+      let late = ltb-false (R.fresh code).delay (budget_of n words cell (R.fresh code).load) (sym (fresh r f) ∙ e) in
       none (λ s b. absurd (omega arith))
 
-  no-site : (r : Bool) → r ≡ may_stand (rules_for net.problem marks) cell register_code → not r ≡ true → Added words count
-  no-site r m e = none (λ s b. absurd (unknown-not (sym (m ∙ stands) ∙ not-true r e) s))
+  no-site : (r : Bool) → r ≡ may_stand (rules_for net.problem marks) cell register_code → r ≡ false → Added words count
+  no-site r m e = none (λ s b. absurd (unknown-not (sym (m ∙ stands) ∙ e) s))
 
   -- one label
   unlabelled : weight_word n set words cell ≡ 0 → known_of n set words cell ≡ false
@@ -80,34 +72,24 @@ module _ (net : Net) (marks : List ℕ) (code set weight steps count : ℕ) (wor
         set_in = asks.set_in;
       }
 
-  one_more : weight_word n set words cell ≡ 0 → (r q : Bool) → FreshIn gate words cell r → not r ≡ false → q ≡ may_stand (rules_for net.problem marks) cell register_code → not q ≡ false → (new : List ℕ) → LabelAdded n set cell weight steps count words new → Added new (count + 1)
+  one_more : weight_word n set words cell ≡ 0 → (r q : Bool) → FreshIn gate words cell r → r ≡ true → q ≡ may_stand (rules_for net.problem marks) cell register_code → q ≡ true → (new : List ℕ) → LabelAdded n set cell weight steps count words new → Added new (count + 1)
   one_more z r q f e m d new a =
-      labels-one (unlabelled z) (of-true (may_stand R cell code) (sym (m ∙ stands) ∙ not-false q d)) (ltb-true (R.fresh code).delay (budget_of n words cell (R.fresh code).load) (sym (fresh r f) ∙ not-false r e)) a
+      labels-one (unlabelled z) (of-true (may_stand R cell code) (sym (m ∙ stands) ∙ d)) (ltb-true (R.fresh code).delay (budget_of n words cell (R.fresh code).load) (sym (fresh r f) ∙ e)) a
 
   few-labels : count ≤ 1024
   few-labels = omega (arith, ordered-count asks.ordered, few-cells net.problem marks asks.ready.ready)
 
-pub weight_word-requires : goal.weight_word-requires
-weight_word-requires c = (c.requires.0.set_in, c.requires.1)
-
 pub returns-then-weight_word-gt0 : goal.returns-then-weight_word-gt0
 returns-then-weight_word-gt0 c =
-    labelled _ _ _ _ _ _ _ _ _ c.requires.0 c.requires.1 (omega (arith, c.weight_word.ensures, c.if-weight_word-gt0.true))
+    elim c.then-weight_word-gt0.branch [
+      | then-weight_word-gt0-via-then-weight_word-gt0 w ↦ labelled _ _ _ _ _ _ _ _ _ c.requires.0 c.requires.1 (omega (arith, c.weight_word.ensures, w.if-weight_word-gt0.true))
+      | then-weight_word-gt0-via-else-weight_word-gt0+then-not-fresh_in w ↦ not-fresh _ _ _ _ _ _ _ _ _ c.requires.0 c.requires.1 _ (rw w.gate.ensures at w.fresh_in.ensures) w.if-not-fresh_in.true
+      | then-weight_word-gt0-via-else-weight_word-gt0+else-not-fresh_in+then-not-may_register w ↦ no-site _ _ _ _ _ _ _ _ _ c.requires.0 c.requires.1 _ w.may_register.ensures w.if-not-may_register.true
+    ]
 
 pub fresh_in-requires : goal.fresh_in-requires
 fresh_in-requires c =
     (rw c.gate.ensures (net-gate-in _ _ c.requires.0.ready c.args.code), omega (arith, c.requires.1, c.requires.0.room))
-
-pub returns-then-not-fresh_in : goal.returns-then-not-fresh_in
-returns-then-not-fresh_in c =
-    not-fresh _ _ _ _ _ _ _ _ _ c.requires.0 c.requires.1 _ (rw c.gate.ensures at c.fresh_in.ensures) c.if-not-fresh_in.true-raw
-
-pub may_register-requires : goal.may_register-requires
-may_register-requires c = (c.requires.0.ready.ready, c.requires.1)
-
-pub returns-then-not-may_register : goal.returns-then-not-may_register
-returns-then-not-may_register c =
-    no-site _ _ _ _ _ _ _ _ _ c.requires.0 c.requires.1 _ c.may_register.ensures c.if-not-may_register.true-raw
 
 -- the cell has no label
 unlabelled-word : (e : Else-weight_word-gt0) → weight_word (length e.args.plan.now) e.args.set e.args.scratch.now e.args.cell ≡ 0
@@ -123,4 +105,4 @@ overflow_add-result c =
 
 pub returns : goal.returns
 returns c =
-    one_more _ _ _ _ _ _ _ _ _ c.requires.0 c.requires.1 (unlabelled-word (goal.at.returns c).Else-weight_word-gt0) _ _ (rw c.gate.ensures at c.fresh_in.ensures) c.if-not-fresh_in.false-raw c.may_register.ensures c.if-not-may_register.false-raw _ c.label.ensures
+    one_more _ _ _ _ _ _ _ _ _ c.requires.0 c.requires.1 (unlabelled-word (goal.at.returns c).Else-weight_word-gt0) _ _ (rw c.gate.ensures at c.fresh_in.ensures) c.if-not-fresh_in.false c.may_register.ensures c.if-not-may_register.false _ c.label.ensures
