@@ -1,11 +1,10 @@
 -- The records that stand in the words, and the marks copied from them.
 use Prim.Native.Nat.{ℕ, ◌+◌, ◌*◌, ◌≤◌, ◌<◌}
-use mathlib.Core.Path.{◌≡◌, sym, ap, ◌∙◌}
-use mathlib.Core.List.{List, [], ◌∷◌, ◌++◌}
-use native.Mathlib.Numerals.{add-one}
+use mathlib.Core.Path.{◌≡◌, sym}
+use mathlib.Core.List.{List}
 use native.Mathlib.Omega.{arith}
-use lib.ListN.{length, get_or, take, set, length-take, get_or-eq_default}
-use lib.Seq.{get_or-take, take-suc, take-suc-set}
+use lib.ListN.{get_or, take, length-take, get_or-eq_default}
+use lib.Seq.{get_or-take}
 use Rattle.job.specs.Fields.{buffer_record_at}
 
 module _ (words : List ℕ) (count i : ℕ) where
@@ -29,9 +28,3 @@ module _ (words : List ℕ) (count i : ℕ) where
         delay = sym (get_or-take (3 * count) words (3 * i + 1) 0 (omega arith)) j;
         load = sym (get_or-take (3 * count) words (3 * i + 2) 0 (omega arith)) j;
       }
-
--- one more element copied
-pub copied_more : (words plan : List ℕ) (i : ℕ) → i < length words → i < length plan → take i plan ≡ take i words → take (i + 1) (set plan i (get_or words i 0)) ≡ take (i + 1) words
-copied_more words plan i h g e =
-    rw add-one
-    (take-suc-set plan i (get_or words i 0) g ∙ (ap (λ (xs : List ℕ). xs ++ (get_or words i 0 ∷ [])) e ∙ sym (take-suc words i 0 h)))

@@ -1,6 +1,6 @@
 -- The reading of a whole job, in document 01's order: width, height, the marks of each cell, register R K C setup,
 -- horizontal R C, vertical R C, T, skew, L, source, sink, buffer count, then R K C of each. The first fault met decides.
-use Rattle.std.specs.Prelude.{ℕ, ◌+◌, ◌*◌, cond, List, [], ◌∷◌, ltb, get_or, take}
+use Rattle.std.specs.Prelude.{ℕ, ◌+◌, ◌*◌, cond, List, [], ◌∷◌, ltb, get_or, take, Result, Ok, Err}
 use Rattle.plan.specs.Check.{grid_fault}
 use Rattle.timing.specs.Ranges.{buffers_max}
 use Rattle.answers.specs.Numbers.{refusal_number}
@@ -8,11 +8,10 @@ use Rattle.answers.specs.declared.refusal.Refusal.{Refusal}
 use Rattle.answers.specs.declared.refusal.Fault.{Fault}
 use Rattle.router.specs.Route.{Question, question_of}
 use Rattle.numbers.specs.Numbers.{Read, value, fault, number_max, number}
-use Rattle.numbers.specs.Runs.{Run, values, refused, job_fault, run}
+use Rattle.numbers.specs.Runs.{Run, values, refused, job_fault, fault_number, run}
 use Rattle.job.specs.Fields.{tables_of, table_numbers, buffer_list_of}
 use Rattle.job.specs.declared.read.Asked.{Asked}
-use Rattle.job.specs.declared.read.Job.{Job}
-use Rattle.job.specs.declared.read.Job.TheVariants.{Asks, Refused}
+use Rattle.numbers.specs.declared.fault.JobFault.{JobFault}
 
 -- a question, or a refusal's number
 pub data Reading : Type 0 where
@@ -87,6 +86,6 @@ read_job bytes = with_number (number bytes) (λ w rest. with_number (number rest
 unfoldable pub marks_of : List ℕ → Asked → List ℕ
 marks_of plan a = take (a.width * a.height) plan
 
-unfoldable pub reading_of : List ℕ → List ℕ → Job → Reading
-reading_of plan words (Asks a n) = asks (question_from (marks_of plan a) a n (take (3 * n) words))
-reading_of plan words (Refused k) = refuses k
+unfoldable pub reading_of : List ℕ → List ℕ → Result (Asked × ℕ) JobFault → Reading
+reading_of plan words (Ok r) = asks (question_from (marks_of plan r.0) r.0 r.1 (take (3 * r.1) words))
+reading_of plan words (Err f) = refuses (fault_number f)

@@ -71,15 +71,13 @@ pub fn buffers_of(words: &[u16], count: usize) -> BufferList
     }
 }
 
-// The first `n` words, each at most 15, as the bytes of a plan.
-pub fn copy_marks(words: &[u16], n: usize, plan: &mut [u8])
-    requires n_in_bounds { (n ≤ length words.now) × (n ≤ length plan.old) }
-    requires by_index { (k : ℕ) → k < n → get_or words.now k 0 < 256 }
-    ensures { take n plan.new ≡ take n words.now }
+// The words, each at most 15, as the first bytes of a plan.
+pub fn copy_marks(words: &[u16], plan: &mut [u8])
+    requires within { length words.now ≤ length plan.old }
+    requires by_index { (k : ℕ) → k < length words.now → get_or words.now k 0 < 256 }
+    ensures { take (length words.now) plan.new ≡ words.now }
 {
-    let mut i = 0;
-    while i < n {
-        plan[i] = words[i] as u8;
-        i += 1;
+    for (i, word) in words.iter().enumerate() {
+        plan[i] = *word as u8;
     }
 }

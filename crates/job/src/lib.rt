@@ -5,4 +5,4 @@ mod fields;
 mod read;
 
 pub use fields::{TABLE_NUMBERS, buffers_of, tables_of};
-pub use read::{Asked, Job, read_job};
+pub use read::{Asked, read_job};

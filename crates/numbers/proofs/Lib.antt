@@ -1,4 +1,3 @@
-pub mod Groups
 pub mod Sequence
 pub mod Bounded
 pub mod Cut

@@ -1,8 +1,7 @@
 -- One number of a job: document 01, "whole numbers in groups of seven bits, lowest group first, top bit set when another follows".
 -- Refusal 15 here: bytes end early, a fourth byte, a last byte of zero after another, a value above 65,535.
-use Rattle.std.specs.Prelude.{ℕ, ◌+◌, ◌*◌, ◌-◌, ◌||◌, cond, List, [], ◌∷◌, eqb, ltb, drop}
-use Rattle.numbers.specs.declared.number.Number.{Number}
-use Rattle.numbers.specs.declared.number.Number.TheVariants.{Value, Fault}
+use Rattle.std.specs.Prelude.{ℕ, ◌+◌, ◌*◌, ◌-◌, ◌||◌, cond, List, [], ◌∷◌, eqb, ltb, Option, Some, None}
+use Rattle.std.specs.Borrow.{Bor}
 
 -- a number with the bytes after it, or refusal 15
 pub data Read : Type 0 where
@@ -31,7 +30,7 @@ unfoldable pub number : List ℕ → Read
 number [] = fault
 number (byte ∷ rest) = cond (ltb byte 128) (value byte rest) (second_group (byte - 128) rest)
 
--- what the code's answer says: the number, and the job's bytes from the next place on
-unfoldable pub read_of : List ℕ → Number → Read
-read_of job (Value v next) = value v (drop next job)
-read_of job Fault = fault
+-- what the code's answer says: the number, and the bytes after it
+unfoldable pub read_of : Option (ℕ × Bor (List ℕ)) → Read
+read_of (Some r) = value r.0 r.1.now
+read_of None = fault

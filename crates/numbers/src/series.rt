@@ -1,43 +1,27 @@
 // Several numbers of a job in a row.
-ghost use Rattle.std.specs.Prelude.{◌≡◌, ◌≤◌, length, take, drop};
-ghost use Rattle.numbers.specs.Runs.{run, run_of};
+ghost use Rattle.std.specs.Prelude.{◌≡◌, length};
+ghost use Rattle.numbers.specs.Runs.{fault_number, run, run_of};
 
-use crate::number::{Number, read_number};
+use crate::fault::JobFault;
+use crate::number::read_number;
 
-// Refusal 15.
-pub const JOB_FAULT: u16 = 15;
-
-// The place after the numbers, or the refusal.
-#[derive(Clone, Copy)]
-pub enum Series {
-    Read(usize),
-    Refused(u16),
-}
-
-// `n` numbers from `start` on, each at most `top`, into the first words. The first number above `top` gives `refusal`.
-pub fn read_series(
-    job: &[u8],
-    start: usize,
-    n: usize,
+// The numbers that the job begins with, one for each word and each at most `top`, and the bytes after them. The first number above `top` gives `refusal`.
+pub fn read_series<'a>(
+    job: &'a [u8],
     top: u16,
-    refusal: u16,
+    refusal: JobFault,
     words: &mut [u16],
-) -> Series
-    requires { n ≤ length words.old }
-    ensures { run_of (take n words.new) job.now result ≡ run n top refusal (drop start job.now) }
+) -> Result<&'a [u8], JobFault>
+    ensures { run_of words.new result ≡ run (length words.old) top (fault_number refusal) job.now }
 {
-    let mut at = start;
-    let mut i = 0;
-    while i < n {
-        let Number::Value(value, next) = read_number(job, at) else {
-            return Series::Refused(JOB_FAULT);
-        };
+    let mut rest = job;
+    for word in words.iter_mut() {
+        let (value, next) = read_number(rest).ok_or(JobFault::Bytes)?;
         if top < value {
-            return Series::Refused(refusal);
+            return Err(refusal);
         }
-        words[i] = value;
-        at = next;
-        i += 1;
+        *word = value;
+        rest = next;
     }
-    Series::Read(at)
+    Ok(rest)
 }

@@ -11,7 +11,9 @@ use Rattle.router.specs.Route.{Question, question_of, answer_of, visits_of}
 use Rattle.job.specs.Fields.{buffer_list_of}
 use Rattle.job.specs.Job.{asks, question_from, marks_of, read_job, reading_of}
 use Rattle.job.specs.declared.read.Asked.{Asked}
-use Rattle.job.specs.declared.read.Job.{Job}
+use Rattle.std.specs.Prelude.{Ok, Err}
+use Rattle.numbers.specs.declared.fault.JobFault.{JobFault}
+use Rattle.numbers.specs.Runs.{fault_number}
 use Rattle.job.proofs.Sound.{Small, asked-small}
 use Rattle.text.specs.Put.{Put}
 use Rattle.text.specs.Answers.{refusal_text, answer_text, VisitsWithin}
@@ -32,18 +34,19 @@ module _ (plan scratch visits : List ℕ) (a : Asked) (n : ℕ) where
       rw (e, f, same)
       (same_text (asked (buffer_list_of n (take (3 * n) scratch))) scratch (blank scratch_words) visits (blank visit_words) (s ∙ sym (blank-length scratch_words)) (v ∙ sym (blank-length visit_words)))
 
-module _ (plan words job : List ℕ) (x : Job) (read : reading_of plan words x ≡ read_job job) where
-  pub refused-text : (k : ℕ) → x ≡ Job.Refused k → refusal_text k ≡ printed job
+module _ (plan words job : List ℕ) where
+  pub refused-text : (f : JobFault) → reading_of plan words (Err f) ≡ read_job job → refusal_text (fault_number f) ≡ printed job
   unfolding reading_of reading_text printed
-  refused-text k e = ap reading_text (sym (ap (reading_of plan words) e) ∙ read)
+  refused-text f e = ap reading_text e
 
-  pub asks-text : (a : Asked) (n : ℕ) → x ≡ Job.Asks a n → reading_text (asks (question_from (marks_of plan a) a n (take (3 * n) words))) ≡ printed job
-  unfolding reading_of printed
-  asks-text a n e = ap reading_text (sym (ap (reading_of plan words) e) ∙ read)
+  module _ (a : Asked) (n : ℕ) (read : reading_of plan words (Ok (a, n)) ≡ read_job job) where
+    pub asks-text : reading_text (asks (question_from (marks_of plan a) a n (take (3 * n) words))) ≡ printed job
+    unfolding reading_of printed
+    asks-text = ap reading_text read
 
-  pub asks-small : (a : Asked) (n : ℕ) → x ≡ Job.Asks a n → Small (question_from (marks_of plan a) a n (take (3 * n) words))
-  unfolding reading_of
-  asks-small a n e = asked-small job (question_from (marks_of plan a) a n (take (3 * n) words)) (sym (ap (reading_of plan words) e) ∙ read)
+    pub asks-small : Small (question_from (marks_of plan a) a n (take (3 * n) words))
+    unfolding reading_of
+    asks-small = asked-small job (question_from (marks_of plan a) a n (take (3 * n) words)) read
 
 pub small_count : (marks : List ℕ) (a : Asked) (n : ℕ) (vs : List ℕ) → Small (question_from marks a n vs) → (n ≤ 6) × (a.width * a.height ≤ 128)
 unfolding question_from buffer_list_of

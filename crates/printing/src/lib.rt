@@ -7,7 +7,7 @@ ghost use Rattle.job.specs.Job.{asks, cells_max, question_from, marks_of};
 ghost use Rattle.text.specs.Put.{Put};
 ghost use Rattle.printing.specs.Printed.{scratch_words, visit_words, text_bytes, reading_text, Prints};
 
-use job::{Asked, Job, buffers_of, read_job};
+use job::{Asked, buffers_of, read_job};
 use router::route_with;
 use text::{put_answer, put_refusal};
 
@@ -23,10 +23,9 @@ pub fn print_job(
     requires { (cells_max ≤ length plan.old) × ((length scratch.old ≡ scratch_words) × ((length visits.old ≡ visit_words) × (text_bytes ≤ length out.old))) }
     ensures { Prints job.now result out.old out.new }
 {
-    let read = read_job(job, plan, scratch);
-    match read {
-        Job::Refused(n) => put_refusal(n, out),
-        Job::Asks(asked, count) => print_asked(asked, count, plan, scratch, visits, out),
+    match read_job(job, plan, scratch) {
+        Ok((asked, count)) => print_asked(asked, count, plan, scratch, visits, out),
+        Err(fault) => put_refusal(fault.number(), out),
     }
 }
 
@@ -43,13 +42,12 @@ fn print_asked(
     ensures { Put (reading_text (asks (question_from (marks_of plan.now asked) asked count (take (3 * count) scratch.old)))) 0 result out.old out.new }
 {
     let list = buffers_of(scratch, count);
-    let tables = asked.tables;
     let cells = asked.width as usize * asked.height as usize;
     let answer = route_with(
         &plan[..cells],
         asked.width,
         asked.height,
-        tables,
+        asked.tables,
         list,
         asked.source,
         asked.sink,

@@ -3,12 +3,11 @@ use Prim.Native.Nat.{ℕ, suc, ◌+◌, ◌/◌, ◌%◌, ◌≤◌, ◌<◌}
 use mathlib.Core.Path.{◌≡◌, refl, sym, ap, ◌∙◌, subst}
 use mathlib.Core.Bool.{true, false}
 use mathlib.Core.List.{List, [], ◌∷◌, ◌++◌}
-use native.Mathlib.Numerals.{add-one}
 use native.Mathlib.Omega.{arith}
 use lib.IntN.{ℤ, pos, negsuc}
 use lib.Signed.{lt_z}
-use lib.ListN.{length, get_or, take, set, length-append}
-use lib.Seq.{sets, length-sets, take-suc}
+use lib.ListN.{length, set, length-append}
+use lib.Seq.{sets, length-sets}
 use mir.Syntax.{w32}
 use mir.Val.{SFits}
 use Rattle.timing.specs.Slack.{magnitude}
@@ -50,15 +49,6 @@ within-then m h w q = record { put = put_then w.put q; most = omega (arith, w.mo
 
 pub put-none : (at : ℕ) (old : List ℕ) → at ≤ length old → Put [] at at old old
 put-none at old h = record { next = omega arith; within = h; holds = refl }
-
-put_one : (x at : ℕ) (old : List ℕ) → at < length old → Put (x ∷ []) at (at + 1) old (set old at x)
-put_one x at old h = record { next = refl; within = omega arith; holds = refl }
-
--- one more byte of a word
-pub put-more : (word old new : List ℕ) (at i : ℕ) → i < length word → at + i < length new → Put (take i word) at (at + i) old new → Put (take (i + 1) word) at (at + (i + 1)) old (set new (at + i) (get_or word i 0))
-put-more word old new at i h room p =
-    let e : at + i + 1 ≡ at + (i + 1) = omega arith in
-    rw (add-one i, take-suc word i 0 h) (rw (add-one i) at (rw e at (put_then p (put_one (get_or word i 0) (at + i) new room))))
 
 -- a number's text, by its last digit
 module _ {old new : List ℕ} {at r : ℕ} (n : ℕ) where

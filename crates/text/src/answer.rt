@@ -19,7 +19,7 @@ pub fn put_refusal(number: u16, out: &mut [u8]) -> usize
     }
     let a = put_word(b"refused ", out, 0);
     let b = put_decimal(number as u32, out, a);
-    put_byte(10, out, b)
+    put_byte(b'\n', out, b)
 }
 
 // `route`, registers, steps, latency and spare half-ticks.
@@ -29,13 +29,13 @@ fn put_figures(f: Figures, out: &mut [u8]) -> usize
 {
     let a = put_word(b"route ", out, 0);
     let b = put_decimal(f.registers as u32, out, a);
-    let c = put_byte(32, out, b);
+    let c = put_byte(b' ', out, b);
     let d = put_decimal(f.steps, out, c);
-    let e = put_byte(32, out, d);
+    let e = put_byte(b' ', out, d);
     let g = put_decimal(f.latency, out, e);
-    let h = put_byte(32, out, g);
+    let h = put_byte(b' ', out, g);
     let i = put_signed(f.slack, out, h);
-    put_byte(10, out, i)
+    put_byte(b'\n', out, i)
 }
 
 // A visit's cell and code.
@@ -44,9 +44,9 @@ fn put_visit(cell: u16, code: u16, out: &mut [u8], at: usize) -> usize
     ensures { Put (visit_line cell code) at result out.old out.new }
 {
     let a = put_decimal(cell as u32, out, at);
-    let b = put_byte(32, out, a);
+    let b = put_byte(b' ', out, a);
     let c = put_decimal(code as u32, out, b);
-    put_byte(10, out, c)
+    put_byte(b'\n', out, c)
 }
 
 // The lines of the first n visits.
@@ -55,10 +55,8 @@ fn put_visits(visits: &[u16], n: usize, out: &mut [u8], start: usize) -> usize
     ensures { Put (visit_lines visits.now n) start result out.old out.new }
 {
     let mut at = start;
-    let mut i = 0;
-    while i < n {
+    for i in 0..n {
         at = put_visit(visits[2 * i], visits[2 * i + 1], out, at);
-        i += 1;
     }
     at
 }

@@ -17,12 +17,9 @@ pub fn put_word(word: &[u8], out: &mut [u8], at: usize) -> usize
     requires { at + length word.now ≤ length out.old }
     ensures { Put word.now at result out.old out.new }
 {
-    let mut i = 0;
-    while i < word.len() {
-        out[at + i] = word[i];
-        i += 1;
-    }
-    at + i
+    let end = at + word.len();
+    out[at..end].copy_from_slice(word);
+    end
 }
 
 // The number in decimal.
@@ -31,10 +28,10 @@ pub fn put_decimal(n: u32, out: &mut [u8], at: usize) -> usize
     ensures { Put (decimal n) at result out.old out.new }
 {
     if n < 10 {
-        return put_byte(48 + n as u8, out, at);
+        return put_byte(b'0' + n as u8, out, at);
     }
     let last = put_decimal(n / 10, out, at);
-    put_byte(48 + (n % 10) as u8, out, last)
+    put_byte(b'0' + (n % 10) as u8, out, last)
 }
 
 // The same of a signed number, with a minus sign below zero.
@@ -44,7 +41,7 @@ pub fn put_signed(z: i32, out: &mut [u8], at: usize) -> usize
 {
     let n = slack_magnitude(z);
     if z < 0 {
-        let digits = put_byte(45, out, at);
+        let digits = put_byte(b'-', out, at);
         return put_decimal(n, out, digits);
     }
     put_decimal(n, out, at)

@@ -1,10 +1,12 @@
--- `job::read::read_tables` meets its contract: a refusal, or the record of the thirteen numbers.
-use mathlib.Core.Path.{refl, ◌∙◌}
-use Rattle.job.proofs.Stages.{run-told, run-bad, tables-refused, tables-whole}
+-- The record of the thirteen numbers, which stand in the first words.
+use Rattle.std.proofs.Common.{◌++◌, drop, refl, ◌∙◌, arith}
+use Rattle.numbers.specs.Numbers.{number_max}
+use Rattle.numbers.specs.Runs.{job_fault, run_of}
+use Rattle.job.proofs.Stages.{read-first, tables-whole}
 use Rattle.job.proofs.read.read_tables.Goals as goal
 
-pub returns-in-Refused : goal.returns-in-Refused
-returns-in-Refused c = λ plan. tables-refused _ _ _ _ plan _ _ (run-bad _ _ _ _ _ c.read_series-tables.ensures c.in-Refused.is)
-
-pub returns-in-Read : goal.returns-in-Read
-returns-in-Read c = λ plan. c.read_count.ensures plan ∙ tables-whole _ _ plan _ _ _ _ c.tables_of.ensures (run-told _ _ _ _ _ c.read_series-tables.ensures c.in-Read.is) _ refl
+pub returns : goal.returns
+unfolding run_of
+returns c =
+    let ran = read-first 13 number_max job_fault c.args.job.now c.read_series.new.words c.in_ok-rest.rest.now c.args.words.now (omega arith) c.in_ok-rest.ensures in
+    λ plan. c.read_count.ensures plan ∙ tables-whole _ _ plan (c.read_series.new.words ++ drop 13 c.args.words.now) _ _ _ c.tables_of.ensures ran _ refl

@@ -1,26 +1,40 @@
-use mathlib.Core.Path.{refl}
-use native.Mathlib.Omega.{arith}
-use lib.ListN.{length-set}
+use Rattle.std.proofs.Common.{◌≡◌, sym, arith, Some, None}
+use Rattle.std.proofs.lemmas.Result.{err_from_is_err_and}
+use Rattle.numbers.specs.Numbers.{value, number, read_of}
+use Rattle.numbers.specs.Runs.{run_of}
+use Rattle.numbers.specs.declared.fault.JobFault.{JobFault}
 use Rattle.numbers.proofs.Sequence.{going_start, going_more, going-fault, going-above, going_done}
 use Rattle.numbers.proofs.series.read_series.Goals as goal
+use Rattle.numbers.proofs.series.read_series.Goals.{In_ok-value}
 
-pub loop-i-init : goal.loop-i-init
-loop-i-init c = (omega arith, (refl, going_start _ _ _ _ _ _))
+-- the number read
+read : (c : In_ok-value) → number c.loop-word.rest.now ≡ value c.in_ok-value.value c.in_ok-value.next.now
+unfolding read_of
+read c =
+    let some : c.read_number.result ≡ Some (c.in_ok-value.value, c.in_ok-value.next) = grind arith in
+    sym (rw some at c.read_number.ensures)
 
-pub returns-in_default : goal.returns-in_default
-returns-in_default c = going-fault _ _ _ _ _ _ _ _ _ _ c.loop-i.invariant.1.1 c.loop-i-test.true c.read_number.ensures c.in_default.is
+pub loop-word-init : goal.loop-word-init
+loop-word-init c = going_start _ _ _ _ _
+
+pub returns-in_err-value : goal.returns-in_err-value
+unfolding read_of run_of
+returns-in_err-value c =
+    let p = err_from_is_err_and c.from_residual.result c.from_residual.ensures.1 in
+    let none : c.read_number.result ≡ None = grind arith in
+    let bytes : c.in_err-value.field-0.0 ≡ JobFault.Bytes = grind arith in
+    rw (p.1, p.2, bytes) (going-fault _ _ _ _ _ _ _ c.loop-word.invariant c.loop-word-test.true (sym (rw none at c.read_number.ensures)))
 
 pub returns-then-top-value : goal.returns-then-top-value
-returns-then-top-value c = going-above _ _ _ _ _ _ _ _ _ _ _ _ c.loop-i.invariant.1.1 c.loop-i-test.true c.read_number.ensures c.in-Value.is c.if-top-value.true
+unfolding run_of
+returns-then-top-value c =
+    going-above _ _ _ _ _ _ _ c.loop-word.invariant c.loop-word-test.true _ _ (read (goal.at.returns-then-top-value c).In_ok-value) c.if-top-value.true
 
-pub loop-i-preserved : goal.loop-i-preserved
-loop-i-preserved c = (
-  omega arith,
-  (
-    omega (arith, length-set c.loop-i.words c.loop-i.i c.in-Value.value),
-    going_more _ _ _ _ _ _ _ _ _ _ _ c.loop-i.invariant.1.1 c.loop-i-test.true (omega arith) c.read_number.ensures c.in-Value.is c.if-top-value.false,
-  ),
-)
+pub loop-word-preserved : goal.loop-word-preserved
+loop-word-preserved c =
+    going_more _ _ _ _ _ _ _ c.loop-word.invariant c.loop-word-test.true _ _ (omega arith) (read (goal.at.loop-word-preserved c).In_ok-value) c.if-top-value.false
 
 pub returns : goal.returns
-returns c = going_done _ _ _ _ _ _ _ _ c.loop-i.invariant.1.1 (omega arith)
+unfolding run_of
+returns c =
+    going_done _ _ _ _ c.loop-word.words c.loop-word.rest.now c.loop-word.word-index c.loop-word.auto.words (omega arith) c.loop-word.invariant

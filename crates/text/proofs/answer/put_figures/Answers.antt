@@ -95,9 +95,6 @@ put_signed-i-requires c = let w = put7 (goal.at.put_signed-i-requires c).After-p
 pub put_byte-requires : goal.put_byte-requires
 put_byte-requires c = let w = put8 (goal.at.put_byte-requires c).After-put_signed-i in omega (arith, w.most, put-length w.put, c.requires)
 
-pub shape_of-out : goal.shape_of-out
-shape_of-out c = put-length (put9 (goal.at.shape_of-out c).After-put_byte).put
-
 pub returns : goal.returns
 unfolding figures_line
 returns c = let w = put9 (goal.at.returns c).After-put_byte in (w.put, w.most)

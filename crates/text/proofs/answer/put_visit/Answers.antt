@@ -16,9 +16,6 @@ put_decimal-c-requires c = omega (arith, short c.args.cell (omega arith), short 
 pub put_byte-requires : goal.put_byte-requires
 put_byte-requires c = omega (arith, short c.args.cell (omega arith), short c.args.code (omega arith), put-length c.put_decimal-a.ensures, put-length c.put_byte-b.ensures, put-length c.put_decimal-c.ensures, c.put_decimal-a.ensures.next, c.put_byte-b.ensures.next, c.put_decimal-c.ensures.next)
 
-pub shape_of-out : goal.shape_of-out
-shape_of-out c = put-length (put_then (put_then (put_then c.put_decimal-a.ensures c.put_byte-b.ensures) c.put_decimal-c.ensures) c.put_byte.ensures)
-
 pub returns : goal.returns
 unfolding visit_line
 returns c = (put_then (put_then (put_then c.put_decimal-a.ensures c.put_byte-b.ensures) c.put_decimal-c.ensures) c.put_byte.ensures)
