@@ -2,6 +2,7 @@
 use Prim.Native.Nat.{ℕ, ◌*◌, ◌≤◌}
 use mathlib.Core.Path.{◌≡◌, ap}
 use mathlib.Core.List.{List, []}
+use Rattle.std.specs.Prelude.{Option}
 use lib.ListN.{length}
 use Rattle.answers.specs.Numbers.{Answer}
 use Rattle.answers.specs.declared.refusal.Refusal.{Refusal}
@@ -22,7 +23,7 @@ module _ (q : Question) (scratch : List ℕ) where
   refused r e = record { answer = rw e; scratch_left = rw e }
 
   -- the checks have passed, and the problem is searched
-  pub searched : question_checks q passes ≡ passes → length q.marks * cell_words ≤ length scratch → (scratch' : List ℕ) (least : Least) → Searched (problem_asked q) q.marks scratch scratch' least → Searching q scratch scratch' (least_answer least)
+  pub searched : question_checks q passes ≡ passes → length q.marks * cell_words ≤ length scratch → (scratch' : List ℕ) (least : Option Least) → Searched (problem_asked q) q.marks scratch scratch' least → Searching q scratch scratch' (least_answer least)
   unfolding searched_of searched_after WordsAfter
   searched five room scratch' least d =
       let pass = all-passed q scratch [] five room in

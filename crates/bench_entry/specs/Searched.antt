@@ -1,6 +1,6 @@
 -- The whole effect of the entry to the search without the route: the number that it returns, and what it leaves in the words lent.
 -- It rests on what no call can test: the areas lent are as long as the caller says, and lie apart from one another.
-use Rattle.std.specs.Prelude.{ℕ, ◌*◌, Bool, true, false, ◌≡◌, List, pos, length}
+use Rattle.std.specs.Prelude.{ℕ, ◌*◌, Bool, true, false, ◌≡◌, Option, Some, None, List, pos, length}
 use Rattle.answers.specs.Numbers.{answer_number}
 use Rattle.answers.specs.declared.refusal.Refusal.{Refusal}
 use Rattle.answers.specs.Numbers.{Answer}
@@ -10,15 +10,20 @@ use Rattle.question.specs.Question.{Question, Check, passes, fails, rules_asked,
 use Rattle.router.specs.Route.{cell_words, checks}
 use Rattle.router.specs.Least.{least_of}
 use Rattle.router.specs.declared.least.Least.{Least}
-use Rattle.router.specs.declared.least.Least.TheVariants.{Of, Nothing}
 use Rattle.bench_words.specs.Figures.{figure_words}
 use Rattle.bench_entry.specs.Explained.{Unexplained}
 use Rattle.answers.specs.declared.answer.RouteAnswer.{RouteAnswer}
 
 -- registers and steps alone
+<<<<<<< HEAD
 abbrev pub least_answer : Least → Answer
 least_answer (Of k s) = RouteAnswer.Found (record { registers = k; steps = s; latency = 0; slack = pos 0 })
 least_answer Nothing = RouteAnswer.Refused Refusal.NoRoute
+=======
+abbrev pub least_answer : Option Least → Answer
+least_answer (Some l) = Answer.Found (record { registers = l.registers; steps = l.steps; latency = 0; slack = pos 0 })
+least_answer None = Answer.Refused Refusal.NoRoute
+>>>>>>> 5a9f970c8e227675a85bebec8a47a597a28bd20b
 
 -- the best route's, by the route call's checks
 unfoldable pub searched_after : Check → Question → Answer

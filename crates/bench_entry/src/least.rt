@@ -97,16 +97,16 @@ fn search_read(
 }
 
 // What the search tells, as an answer.
-fn least_answer(least: Least) -> Answer
+fn least_answer(least: Option<Least>) -> Answer
     ensures { result ≡ least_answer least }
 {
     match least {
-        Least::Of(registers, steps) => Answer::Found(Figures {
-            registers: registers,
-            steps: steps,
+        Some(Least { registers, steps }) => Answer::Found(Figures {
+            registers,
+            steps,
             latency: 0,
             slack: 0,
         }),
-        Least::Nothing => Answer::Refused(Refusal::NoRoute),
+        None => Answer::Refused(Refusal::NoRoute),
     }
 }

@@ -1,6 +1,7 @@
 -- The codes at one cell, by the words: which tests of the code say that a visit goes on, and the first code out of them.
 use Prim.Native.Nat.{ℕ, zero, suc, ◌+◌, ◌*◌, ◌≤◌, ◌<◌}
-use mathlib.Core.Path.{◌≡◌, refl}
+use mathlib.Core.Path.{◌≡◌, refl, ◌∙◌}
+use Rattle.std.specs.Prelude.{Some, None}
 use mathlib.Core.Bool.{Bool, true, false, not, ◌&&◌, cond}
 use mathlib.Core.List.{List}
 use mathlib.Core.Logic.{◌⊎◌, inl, inr}
@@ -39,7 +40,7 @@ use Rattle.table.proofs.ArrivalRow.{takes-site, site-takes}
 use Rattle.table.proofs.Views.{budget-at, buffer-named, limit-named}
 use Rattle.choice.specs.declared.State.{State}
 use Rattle.choice.specs.Choice.{delay_most}
-use Rattle.choice.specs.Codes.{CodeAsks, gate_at, period_at, slack_with, goes_at, drives, FirstBuffer, FirstCode}
+use Rattle.choice.specs.Codes.{CodeAsks, gate_at, period_at, slack_with, goes_at, drives, NoneGoes, FirstCode, NoneDrives, DrivesFirst}
 
 -- the codes below the register's close no span
 pub below-open : (code : ℕ) → code < register_code → T (not (is_closing code))
@@ -151,28 +152,25 @@ module _ (net : Net) (marks : List ℕ) (exits : ℕ) (words : List ℕ) (at : S
     none-refused : (a : ℕ) → a ≡ no_gate → T (goes_at R m A at a) → ⊥
     none-refused a z t = T_not early (of-false early late) (rw (z, goes_none) at t)
 
-    pub below-buffer : site ≡ true → (r : ℕ) → FirstBuffer words e at r → (a : ℕ) → a ≤ r → T (goes_at R m A at a) → ⊥
-    below-buffer s r first zero h t = none-refused 0 refl t
-    below-buffer s r first (suc i) h t = first.is_first i h (rw (goes-buffer i (omega (arith, first.within)) s) at t)
-
-    pub buffer-goes : site ≡ true → (r : ℕ) → FirstBuffer words e at r → r < e.count → T (goes_at R m A at (r + 1))
-    buffer-goes s r first h = rw (add-one, goes-buffer r h s) (first.found h)
+    below-buffer : site ≡ true → (i : ℕ) → i ≤ e.count → NoneDrives words e at i → NoneGoes R m A at (i + 1)
+    below-buffer s i h none zero k t = none-refused 0 refl t
+    below-buffer s i h none (suc j) k t = none j (omega (arith, k)) (rw (goes-buffer j (omega (arith, h, k)) s) at t)
 
     -- no code below the register's goes on
-    pub no_buffer : site ≡ true → (r : ℕ) → FirstBuffer words e at r → e.count ≤ r → (a : ℕ) → a < register_code → T (goes_at R m A at a) → ⊥
-    no_buffer s r first h a k t = go (split a e.count)
+    pub no_buffer : site ≡ true → NoneDrives words e at e.count → NoneGoes R m A at register_code
+    no_buffer s none a k t = go (split a e.count)
       where
         go : (a ≤ e.count) ⊎ (e.count < a) → ⊥
-        go (inl q) = below-buffer s r first a (omega arith) t
+        go (inl q) = below-buffer s e.count (omega arith) none a (omega arith) t
         go (inr q) = goes-refused a (λ z. omega arith) k (λ u. omega (arith, (stands-site a (λ z. omega arith) k u).listed)) t
 
-    pub no-site : site ≡ false → (a : ℕ) → a < register_code → T (goes_at R m A at a) → ⊥
+    pub no-site : site ≡ false → NoneGoes R m A at register_code
     no-site s zero k t = none-refused 0 refl t
     no-site s (suc i) k t =
         goes-refused (suc i) (λ z. omega arith) k (λ u. T_not site (of-false site s) (site-takes p marks at.cell (suc i) (stands-site (suc i) (λ z. omega arith) k u))) t
 
   -- and then not the next one either
-  pub low-more : (code : ℕ) → ((a : ℕ) → a < code → T (goes_at R m A at a) → ⊥) → goes_at R m A at code ≡ false → (a : ℕ) → a < code + 1 → T (goes_at R m A at a) → ⊥
+  pub low-more : (code : ℕ) → NoneGoes R m A at code → goes_at R m A at code ≡ false → NoneGoes R m A at (code + 1)
   low-more code low f a h t = go (split code a)
     where
       go : (code ≤ a) ⊎ (a < code) → ⊥
@@ -184,13 +182,20 @@ module _ (net : Net) (marks : List ℕ) (exits : ℕ) (words : List ℕ) (at : S
   -- the first code, by the tests
 
   module _ (bits : (k : ℕ) → get_or words k 0 ≤ delay_most) where
-    -- a code that goes on, or none, if no smaller one does
-    pub code-first : (code : ℕ) → code ≤ fifo_code + 1 → (code ≤ fifo_code → T (goes_at R m A at code)) → ((a : ℕ) → a < code → T (goes_at R m A at a) → ⊥) → FirstCode R m A at code
-    code-first code h goes low = record { within = h; goes = goes; is_first = low; bounded = budget-bounded (length marks) words bits }
+    bounded : (c l : ℕ) → A c l ≤ delay_most
+    bounded = budget-bounded (length marks) words bits
 
-    pub code-none : early ≡ true → FirstCode R m A at 0
-    code-none h = code-first 0 (omega arith) (λ k. rw goes_none (of-true early h)) (λ a k. absurd (omega arith))
+    -- this code goes on, and no smaller one does
+    pub code-first : (code : ℕ) → code ≤ fifo_code → goes_at R m A at code ≡ true → NoneGoes R m A at code → FirstCode R m A at (Some code)
+    code-first code h goes low = record { told = record { within = h; goes = of-true (goes_at R m A at code) goes; is_first = low }; bounded = bounded }
 
-    pub code-buffer : early ≡ false → site ≡ true → (r : ℕ) → FirstBuffer words e at r → r < e.count → FirstCode R m A at (r + 1)
-    code-buffer late s r first h =
-        code-first (r + 1) (omega (arith, asks.ready.ready.valid.count)) (λ k. buffer-goes late s r first h) (λ a k. below-buffer late s r first a (omega arith))
+    pub code-none : NoneGoes R m A at (fifo_code + 1) → FirstCode R m A at None
+    code-none none = record { told = none; bounded = bounded }
+
+    pub code-gateless : early ≡ true → FirstCode R m A at (Some 0)
+    code-gateless h = code-first 0 (omega arith) (goes_none ∙ h) (λ a k. absurd (omega arith))
+
+    pub code-buffer : early ≡ false → site ≡ true → (i : ℕ) → DrivesFirst words e at i → FirstCode R m A at (Some (i + 1))
+    code-buffer late s i first =
+        let goes : goes_at R m A at (i + 1) ≡ true = rw (add-one, goes-buffer i first.within s) (is_true (drives words e at i) first.found) in
+        code-first (i + 1) (omega (arith, asks.ready.ready.valid.count, first.within)) goes (below-buffer late s i (omega (arith, first.within)) first.is_first)

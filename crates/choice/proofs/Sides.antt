@@ -1,6 +1,7 @@
 -- The first visit to any neighbour, out of the first to each of the four sides: these are in ascending order.
 use Prim.Native.Nat.{ℕ, ◌≤◌, ◌<◌}
 use mathlib.Core.Path.{◌≡◌, refl}
+use Rattle.std.specs.Prelude.{Option, Some, None}
 use mathlib.Core.List.{List}
 use mathlib.Core.Logic.{◌⊎◌, inl, inr}
 use native.Mathlib.Omega.{arith}
@@ -26,7 +27,7 @@ use Rattle.table.specs.Problem.{plan_for, net_rules, budget_of}
 use Rattle.problem.proofs.Sizes.{cells_are}
 use Rattle.problem.proofs.Wires.{in_order, sides, linked, across, along}
 use Rattle.choice.specs.declared.State.{State}
-use Rattle.choice.specs.declared.Choice.{Choice}
+use Rattle.choice.specs.declared.Visit.{Visit}
 use Rattle.choice.specs.Choice.{ChooseAsks, Goes, FirstVisit, ChosenAmong, Chosen}
 use Rattle.choice.specs.Codes.{TryAsks}
 use Rattle.choice.proofs.Visits.{goes-linked}
@@ -98,25 +99,25 @@ module _ (net : Net) (marks : List ℕ) (exits : ℕ) (words : List ℕ) (from :
 
   -- one side
 
-  abbrev pub Only : ℕ → Choice → Type 0
+  abbrev pub Only : ℕ → Option Visit → Type 0
   Only side = ChosenAmong R n m A from (λ c. c ≡ side)
 
-  abbrev Whole : Choice → Type 0
+  abbrev Whole : Option Visit → Type 0
   Whole = Chosen R n m A from
 
   -- no visit there goes on
   abbrev pub Empty : ℕ → Type 0
   Empty side = (a : ℕ) → a ≤ fifo_code → Goes R m A from side a → ⊥
 
-  pub empty : (side : ℕ) → Only side Choice.Nothing → Empty side
+  pub empty : (side : ℕ) → Only side None → Empty side
   empty side (ChosenAmong.nothing f) a h t = f side a refl h t
 
   -- The first visit to a side is the first of all, if nothing goes on to smaller neighbours.
-  widen : (side code : ℕ) (to : State) → FirstVisit R n m A from (λ c. c ≡ side) code to → (side < cells P → (c : ℕ) → c < side → IsNeighbour P from.cell c → Empty c) → Whole (Choice.Visit code to)
-  widen side code to x none =
+  widen : (side : ℕ) (v : Visit) → FirstVisit R n m A from (λ c. c ≡ side) v.code v.state → (side < cells P → (c : ℕ) → c < side → IsNeighbour P from.cell c → Empty c) → Whole (Some v)
+  widen side v x none =
       ChosenAmong.visit
       (record {
-        among = goes-linked R m A from to.cell code x.goes;
+        among = goes-linked R m A from v.state.cell v.code x.goes;
         goes = x.goes;
         is_first = first;
         small = x.small;
@@ -129,14 +130,14 @@ module _ (net : Net) (marks : List ℕ) (exits : ℕ) (words : List ℕ) (from :
         in_range = x.in_range;
       })
     where
-      first : (c a : ℕ) → T (R.linked from.cell c) → a ≤ fifo_code → Before c a to.cell code → Goes R m A from c a → ⊥
+      first : (c a : ℕ) → T (R.linked from.cell c) → a ≤ fifo_code → Before c a v.state.cell v.code → Goes R m A from c a → ⊥
       first c a l h (inl b) t = none (omega (arith, x.among, x.in_range.in_plan, cells_are p marks asks.ready.ready)) c (omega (arith, x.among)) (joined-side c l) a h t
       first c a l h (inr b) t = x.is_first c a (omega (arith, x.among)) h (inr b) t
 
   -- the sides in their order
 
-  pub up_first : (code : ℕ) (to : State) → Only near.up (Choice.Visit code to) → Whole (Choice.Visit code to)
-  up_first code to (ChosenAmong.visit x) = widen near.up code to x none
+  pub up_first : (v : Visit) → Only near.up (Some v) → Whole (Some v)
+  up_first v (ChosenAmong.visit x) = widen near.up v x none
     where
       none : near.up < cells P → (c : ℕ) → c < near.up → IsNeighbour P from.cell c → Empty c
       none h c k (inl q) = absurd (omega arith)
@@ -144,38 +145,36 @@ module _ (net : Net) (marks : List ℕ) (exits : ℕ) (words : List ℕ) (from :
       none h c k (inr (inr (inl q))) = absurd (omega (arith, order.up_right h))
       none h c k (inr (inr (inr q))) = absurd (omega (arith, order.up-down h))
 
-  module _ (up : Empty near.up) where
-    pub left-first : (code : ℕ) (to : State) → Only near.left (Choice.Visit code to) → Whole (Choice.Visit code to)
-    left-first code to (ChosenAmong.visit x) = widen near.left code to x none
-      where
-        none : near.left < cells P → (c : ℕ) → c < near.left → IsNeighbour P from.cell c → Empty c
-        none h c k (inl q) = rw q up
-        none h c k (inr (inl q)) = absurd (omega arith)
-        none h c k (inr (inr (inl q))) = absurd (omega (arith, order.left-right h))
-        none h c k (inr (inr (inr q))) = absurd (omega (arith, order.left_down h))
+  pub left-first : Empty near.up → (v : Visit) → Only near.left (Some v) → Whole (Some v)
+  left-first up v (ChosenAmong.visit x) = widen near.left v x none
+    where
+      none : near.left < cells P → (c : ℕ) → c < near.left → IsNeighbour P from.cell c → Empty c
+      none h c k (inl q) = rw q up
+      none h c k (inr (inl q)) = absurd (omega arith)
+      none h c k (inr (inr (inl q))) = absurd (omega (arith, order.left-right h))
+      none h c k (inr (inr (inr q))) = absurd (omega (arith, order.left_down h))
 
-    module _ (left : Empty near.left) where
-      pub right-first : (code : ℕ) (to : State) → Only near.right (Choice.Visit code to) → Whole (Choice.Visit code to)
-      right-first code to (ChosenAmong.visit x) = widen near.right code to x none
-        where
-          none : near.right < cells P → (c : ℕ) → c < near.right → IsNeighbour P from.cell c → Empty c
-          none h c k (inl q) = rw q up
-          none h c k (inr (inl q)) = rw q left
-          none h c k (inr (inr (inl q))) = absurd (omega arith)
-          none h c k (inr (inr (inr q))) = absurd (omega (arith, order.right-down h))
+  pub right-first : Empty near.up → Empty near.left → (v : Visit) → Only near.right (Some v) → Whole (Some v)
+  right-first up left v (ChosenAmong.visit x) = widen near.right v x none
+    where
+      none : near.right < cells P → (c : ℕ) → c < near.right → IsNeighbour P from.cell c → Empty c
+      none h c k (inl q) = rw q up
+      none h c k (inr (inl q)) = rw q left
+      none h c k (inr (inr (inl q))) = absurd (omega arith)
+      none h c k (inr (inr (inr q))) = absurd (omega (arith, order.right-down h))
 
-      pub down-last : Empty near.right → (choice : Choice) → Only near.down choice → Whole choice
-      down-last right (Choice.Visit code to) (ChosenAmong.visit x) = widen near.down code to x none
-        where
-          none : near.down < cells P → (c : ℕ) → c < near.down → IsNeighbour P from.cell c → Empty c
-          none h c k (inl q) = rw q up
-          none h c k (inr (inl q)) = rw q left
-          none h c k (inr (inr (inl q))) = rw q right
-          none h c k (inr (inr (inr q))) = absurd (omega arith)
-      down-last right Choice.Nothing (ChosenAmong.nothing f) = ChosenAmong.nothing (λ c a l. none c (joined-side c l) a)
-        where
-          none : (c : ℕ) → IsNeighbour P from.cell c → Empty c
-          none c (inl q) = rw q up
-          none c (inr (inl q)) = rw q left
-          none c (inr (inr (inl q))) = rw q right
-          none c (inr (inr (inr q))) = λ a h t. f c a q h t
+  pub down-last : Empty near.up → Empty near.left → Empty near.right → (choice : Option Visit) → Only near.down choice → Whole choice
+  down-last up left right (Some v) (ChosenAmong.visit x) = widen near.down v x none
+    where
+      none : near.down < cells P → (c : ℕ) → c < near.down → IsNeighbour P from.cell c → Empty c
+      none h c k (inl q) = rw q up
+      none h c k (inr (inl q)) = rw q left
+      none h c k (inr (inr (inl q))) = rw q right
+      none h c k (inr (inr (inr q))) = absurd (omega arith)
+  down-last up left right None (ChosenAmong.nothing f) = ChosenAmong.nothing (λ c a l. none c (joined-side c l) a)
+    where
+      none : (c : ℕ) → IsNeighbour P from.cell c → Empty c
+      none c (inl q) = rw q up
+      none c (inr (inl q)) = rw q left
+      none c (inr (inr (inl q))) = rw q right
+      none c (inr (inr (inr q))) = λ a h t. f c a q h t

@@ -1,6 +1,7 @@
 -- The first visit to one neighbour, out of the first code there.
 use Prim.Native.Nat.{ℕ, ◌+◌, ◌-◌, ◌*◌, ◌≤◌, ◌<◌}
 use mathlib.Core.Path.{◌≡◌, refl, ◌∙◌}
+use Rattle.std.specs.Prelude.{Option, Some, None}
 use mathlib.Core.Bool.{◌&&◌}
 use mathlib.Core.List.{List}
 use mathlib.Core.Logic.{inl, inr}
@@ -35,7 +36,7 @@ use Rattle.problem.proofs.Sizes.{cells_are}
 use Rattle.problem.proofs.Clocks.{net-gate-in}
 use Rattle.table.proofs.Views.{limit-named}
 use Rattle.choice.specs.declared.State.{State}
-use Rattle.choice.specs.declared.Choice.{Choice}
+use Rattle.choice.specs.declared.Visit.{Visit}
 use Rattle.choice.specs.Choice.{delay_most, place_at, Goes, ChosenAmong}
 use Rattle.choice.specs.Codes.{CodeAsks, LeaveAsks, TryAsks, goes_at, FirstCode, left_load, left_delay, left_weight, left_slack, Left}
 use Rattle.costs.proofs.Checked.{buffer-load-most}
@@ -100,7 +101,7 @@ module _ (net : Net) (marks : List ℕ) (exits : ℕ) (words : List ℕ) (from :
   abbrev u : ℕ
   u = from.steps - 1
 
-  abbrev Only : Choice → Type 0
+  abbrev Only : Option Visit → Type 0
   Only = ChosenAmong R (length marks) m A from (λ c. c ≡ cell)
 
   linked-in : (c : ℕ) → T (R.linked from.cell c) → c < length marks
@@ -108,7 +109,7 @@ module _ (net : Net) (marks : List ℕ) (exits : ℕ) (words : List ℕ) (from :
   linked-in c t = omega (arith, (joined_in (plan_for p marks) from.cell c t).1, cells_are p marks asks.asks.ready.ready)
 
   -- the number of cells is no neighbour
-  pub no-neighbour : cell ≡ length marks → Only Choice.Nothing
+  pub no-neighbour : cell ≡ length marks → Only None
   no-neighbour q = ChosenAmong.nothing (λ c a s h t. omega (arith, linked-in c (goes-linked R m A from c a t)))
 
   -- the load, the delay and the smallest figure on arrival
@@ -134,7 +135,7 @@ module _ (net : Net) (marks : List ℕ) (exits : ℕ) (words : List ℕ) (from :
         let u = snd (R.linked from.cell cell) (leb load e.limit.0) (fst (R.linked from.cell cell && leb load e.limit.0) (goes_at R m A at code) (rw (q, goes-split code) at t)) in
         omega (arith, tests)
 
-    pub too-heavy : e.limit.0 < load → Only Choice.Nothing
+    pub too-heavy : e.limit.0 < load → Only None
     too-heavy h = ChosenAmong.nothing (λ c a s k t. heavy-refused c a s h t)
 
     module _ (light : load ≤ e.limit.0) where
@@ -170,8 +171,8 @@ module _ (net : Net) (marks : List ℕ) (exits : ℕ) (words : List ℕ) (from :
           (both (R.linked from.cell cell && leb load e.limit.0) (goes_at R m A at code)
           (both (R.linked from.cell cell) (leb load e.limit.0) (asks.joined inside) (le→leb _ _ light)) t)
 
-      pub no_code : FirstCode R m A at (fifo_code + 1) → Only Choice.Nothing
-      no_code first = ChosenAmong.nothing (λ c a s k t. first.is_first a (omega arith) (goes-code c a s t))
+      pub no_code : FirstCode R m A at None → Only None
+      no_code first = ChosenAmong.nothing (λ c a s k t. first.told a (omega arith) (goes-code c a s t))
 
       module _ (code : ℕ) (to : State) (left : Left net at code to) where
         load_after : to.load.0 ≡ after_load R from.cell to.cell from.load.0 code
@@ -197,14 +198,14 @@ module _ (net : Net) (marks : List ℕ) (exits : ℕ) (words : List ℕ) (from :
         unfolding buffer_cost buffer_at net_rules rules_between rules_of
         cost n = refl
 
-        pub first-visit : code ≤ fifo_code → FirstCode R m A at code → Only (Choice.Visit code to)
-        first-visit small first =
+        pub first-visit : FirstCode R m A at (Some code) → Only (Some (record { code = code; state = to }))
+        first-visit first =
             ChosenAmong.visit
             (record {
               among = left.cell;
-              goes = code-goes to.cell code left.cell (first.goes small);
+              goes = code-goes to.cell code left.cell first.told.goes;
               is_first = λ c a s h b t. earlier c a s b (goes-code c a s t);
-              small = small;
+              small = first.told.within;
               load = load_after;
               delay = delay-after;
               weight = weight-after;
@@ -214,11 +215,11 @@ module _ (net : Net) (marks : List ℕ) (exits : ℕ) (words : List ℕ) (from :
               in_range =
                   record {
                     in_plan = omega (arith, left.cell);
-                    light = rw left.load (left-light net marks asks.asks.ready at code small at-asks.light);
-                    early = rw left.delay (left-early net marks asks.asks.ready at code small R m A cost first.bounded (first.goes small));
+                    light = rw left.load (left-light net marks asks.asks.ready at code first.told.within at-asks.light);
+                    early = rw left.delay (left-early net marks asks.asks.ready at code first.told.within R m A cost first.bounded first.told.goes);
                   };
             })
           where
             earlier : (c a : ℕ) → c ≡ cell → Before c a to.cell code → T (goes_at R m A at a) → ⊥
             earlier c a s (inl h) t = omega (arith, left.cell)
-            earlier c a s (inr h) t = first.is_first a h.1 t
+            earlier c a s (inr h) t = first.told.is_first a h.1 t

@@ -1,6 +1,6 @@
 -- One step of emission: the next visit, in written order, from which the rest can still be done.
 -- R are the rules, m the labels by code, A the table of what can be reached, n the number of cells.
-use Rattle.std.specs.Prelude.{ℕ, ◌-◌, ◌*◌, ◌≤◌, ◌<◌, ◌≡◌, List, T, length}
+use Rattle.std.specs.Prelude.{ℕ, ◌-◌, ◌*◌, ◌≤◌, ◌<◌, ◌≡◌, Option, Some, None, List, T, length}
 use Rattle.timing.specs.Ranges.{load_max}
 use Rattle.rules.specs.Rules.{Rules, fifo_code, side_after}
 use Rattle.rules.specs.Beginning.{Place}
@@ -12,7 +12,7 @@ use Rattle.layout.specs.Layout.{aside_at}
 use Rattle.problem.specs.declared.net.Net.{Net}
 use Rattle.table.specs.Problem.{NetReady, Room}
 use Rattle.choice.specs.declared.State.{State}
-use Rattle.choice.specs.declared.Choice.{Choice}
+use Rattle.choice.specs.declared.Visit.{Visit}
 
 -- the largest delay of a state, in half-ticks: that of a word of the table
 abbrev pub delay_most : ℕ
@@ -60,10 +60,10 @@ pub record FirstVisit (R : Rules) (n : ℕ) (m : ℕ → Labels) (A : Table) (fr
   pub side : to.side ≡ side_after from.side code
   pub in_range : InRange n to
 
-pub data ChosenAmong (R : Rules) (n : ℕ) (m : ℕ → Labels) (A : Table) (from : State) (cells : ℕ → Type 0) : Choice → Type 0 where
-  visit : {code : ℕ} {to : State} → FirstVisit R n m A from cells code to → ChosenAmong R n m A from cells (Choice.Visit code to)
-  nothing : ((cell a : ℕ) → cells cell → a ≤ fifo_code → Goes R m A from cell a → ⊥) → ChosenAmong R n m A from cells Choice.Nothing
+pub data ChosenAmong (R : Rules) (n : ℕ) (m : ℕ → Labels) (A : Table) (from : State) (cells : ℕ → Type 0) : Option Visit → Type 0 where
+  visit : {v : Visit} → FirstVisit R n m A from cells v.code v.state → ChosenAmong R n m A from cells (Some v)
+  nothing : ((cell a : ℕ) → cells cell → a ≤ fifo_code → Goes R m A from cell a → ⊥) → ChosenAmong R n m A from cells None
 
 -- among all cells that a wire joins to the state's
-abbrev pub Chosen : Rules → ℕ → (ℕ → Labels) → Table → State → Choice → Type 0
+abbrev pub Chosen : Rules → ℕ → (ℕ → Labels) → Table → State → Option Visit → Type 0
 Chosen R n m A from choice = ChosenAmong R n m A from (λ cell. T (R.linked from.cell cell)) choice

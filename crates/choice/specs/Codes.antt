@@ -1,5 +1,5 @@
 -- The codes at one cell. The state `at` is on arrival there, before the gate, with the steps to go after the visit.
-use Rattle.std.specs.Prelude.{ℕ, ◌+◌, ◌-◌, ◌*◌, ◌≤◌, ◌<◌, ◌≡◌, Bool, ◌&&◌, cond, List, T, eqb, leb, ltb, ℤ, length}
+use Rattle.std.specs.Prelude.{ℕ, ◌+◌, ◌-◌, ◌*◌, ◌≤◌, ◌<◌, ◌≡◌, Bool, ◌&&◌, cond, Option, MatchOption, List, T, eqb, leb, ltb, ℤ, length}
 use Rattle.timing.specs.declared.elements.Wire.{Wire}
 use Rattle.timing.specs.declared.elements.Register.{Register}
 use Rattle.timing.specs.declared.elements.Elements.{Elements}
@@ -71,11 +71,19 @@ goes_at R m A at code =
     && leb (load_of R code) R.limit
     && ltb (at.delay.0 + buffer_cost R code at.load.0) (A at.cell (load_of R code))))
 
--- r is the first code that goes on, 9 for none; the table's words have 16 bits
-pub record FirstCode (R : Rules) (m : ℕ → Labels) (A : Table) (at : State) (r : ℕ) : Type 0 where
-  pub within : r ≤ fifo_code + 1
-  pub goes : r ≤ fifo_code → T (goes_at R m A at r)
-  pub is_first : (a : ℕ) → a < r → T (goes_at R m A at a) → ⊥
+-- no code below this one goes on
+abbrev pub NoneGoes : Rules → (ℕ → Labels) → Table → State → ℕ → Type 0
+NoneGoes R m A at code = (a : ℕ) → a < code → T (goes_at R m A at a) → ⊥
+
+-- this code is the first that goes on
+pub record GoesFirst (R : Rules) (m : ℕ → Labels) (A : Table) (at : State) (code : ℕ) : Type 0 where
+  pub within : code ≤ fifo_code
+  pub goes : T (goes_at R m A at code)
+  pub is_first : NoneGoes R m A at code
+
+-- r is the first code that goes on, if one does; the table's words have 16 bits
+pub record FirstCode (R : Rules) (m : ℕ → Labels) (A : Table) (at : State) (r : Option ℕ) : Type 0 where
+  pub told : MatchOption r (NoneGoes R m A at (fifo_code + 1)) (GoesFirst R m A at)
   pub bounded : (c l : ℕ) → A c l ≤ delay_most
 
 -- buffer i, of code i + 1, leads into the table
@@ -84,11 +92,19 @@ drives words e at i =
     leb (buffer_load (buffer_at e i)) e.limit.0
     && ltb (at.delay.0 + gate_delay (buffer_driver (buffer_at e i)) at.load.0) (view_of words at.cell (buffer_load (buffer_at e i)))
 
--- r is the first buffer that does; the number of buffers for none
-pub record FirstBuffer (words : List ℕ) (e : Elements) (at : State) (r : ℕ) : Type 0 where
-  pub within : r ≤ e.count
-  pub found : r < e.count → T (drives words e at r)
-  pub is_first : (i : ℕ) → i < r → T (drives words e at i) → ⊥
+-- no buffer below this one does
+abbrev pub NoneDrives : List ℕ → Elements → State → ℕ → Type 0
+NoneDrives words e at i = (j : ℕ) → j < i → T (drives words e at j) → ⊥
+
+-- buffer i is the first that does
+pub record DrivesFirst (words : List ℕ) (e : Elements) (at : State) (i : ℕ) : Type 0 where
+  pub within : i < e.count
+  pub found : T (drives words e at i)
+  pub is_first : NoneDrives words e at i
+
+-- r is the first buffer that does, if one does
+abbrev pub FirstBuffer : List ℕ → Elements → State → Option ℕ → Type 0
+FirstBuffer words e at r = MatchOption r (NoneDrives words e at e.count) (DrivesFirst words e at)
 
 -- what closes a span with this code, and the period of the current span
 

@@ -32,11 +32,11 @@ pub struct State {
     pub side: usize,
 }
 
-// The code of the visit, and the state after it.
+// A visit's code, and the state after it.
 #[derive(Clone, Copy)]
-pub enum Choice {
-    Visit(u16, State),
-    Nothing,
+pub struct Visit {
+    pub code: u16,
+    pub state: State,
 }
 
 // The table's word for a cell and a load: what a delay there is below.
@@ -54,29 +54,19 @@ fn buffer_drives(scratch: &[u16], elements: Elements, at: State, i: usize) -> bo
 {
     let buffer = elements.buffers[i];
     let own = buffer.load();
-    if !own.at_most(elements.limit) {
-        return false;
-    }
-    buffer
-        .driver()
-        .after(at.load, at.delay)
-        .below(budget_at(scratch, at.cell, own))
+    own.at_most(elements.limit)
+        && buffer
+            .driver()
+            .after(at.load, at.delay)
+            .below(budget_at(scratch, at.cell, own))
 }
 
-// The first buffer whose state is in the table, or the number of buffers.
-fn first_buffer(scratch: &[u16], elements: Elements, at: State) -> usize
+// The first buffer whose state is in the table.
+fn first_buffer(scratch: &[u16], elements: Elements, at: State) -> Option<usize>
     requires { RowAsks elements scratch.now at }
     ensures { FirstBuffer scratch.now elements at result }
 {
-    let count = elements.count;
-    let mut i = 0;
-    while i < count {
-        if buffer_drives(scratch, elements, at, i) {
-            return i;
-        }
-        i += 1;
-    }
-    i
+    (0..elements.count).find(|i| buffer_drives(scratch, elements, at, *i))
 }
 
 // Whether the cell's label in this set has the weight to go, and no more than the steps to go.
@@ -85,13 +75,7 @@ fn is_seed(scratch: &[u16], n: usize, set: usize, at: State) -> bool
     ensures { result ≡ seed_in (labels_of n set scratch.now) at }
 {
     let word = weight_word(scratch, n, set, at.cell);
-    if word == 0 {
-        return false;
-    }
-    if word - 1 != at.weight {
-        return false;
-    }
-    steps_of(scratch, n, set, at.cell) <= at.steps
+    word != 0 && word - 1 == at.weight && steps_of(scratch, n, set, at.cell) <= at.steps
 }
 
 // Whether the span may close at the cell with this code, by the labels of such gates: of registers, or of so many FIFOs.
@@ -100,12 +84,10 @@ fn may_close(scratch: &[u16], n: usize, exits: usize, at: State, code: u16) -> b
     ensures { result ≡ exact_seed (labels_for n exits scratch.now) at.weight at.steps code at.cell }
 {
     if code == 7 {
-        return is_seed(scratch, n, n * LABELS, at);
+        is_seed(scratch, n, n * LABELS, at)
+    } else {
+        exits != 0 && is_seed(scratch, n, n * EXITS, at)
     }
-    if exits == 0 {
-        return false;
-    }
-    is_seed(scratch, n, n * EXITS, at)
 }
 
 // Whether a visit to the cell with this code closes the span in time and goes on.
@@ -117,34 +99,30 @@ fn closes(plan: &[u8], scratch: &[u16], net: Net, exits: usize, at: State, code:
         return false;
     }
     let closer = net.gate(code);
-    let period = net.period(at.side);
     let skew = net.problem.elements.skew;
-    0 <= closer.slack(period, skew, at.load, at.delay)
+    0 <= closer.slack(net.period(at.side), skew, at.load, at.delay)
 }
 
-// The first code with which a visit to the cell goes on, 9 for none.
-fn first_code(plan: &[u8], scratch: &[u16], net: Net, exits: usize, at: State) -> u16
+// The first code with which a visit to the cell goes on.
+fn first_code(plan: &[u8], scratch: &[u16], net: Net, exits: usize, at: State) -> Option<u16>
     requires { CodeAsks net plan.now exits scratch.now at }
     ensures { FirstCode (net_rules net plan.now) (labels_for (length plan.now) exits scratch.now) (budget_of (length plan.now) scratch.now) at result }
 {
-    let cell = at.cell;
-    if at.delay.below(budget_at(scratch, cell, at.load)) {
-        return 0;
+    if at.delay.below(budget_at(scratch, at.cell, at.load)) {
+        return Some(0);
     }
-    let elements = net.problem.elements;
-    if takes_buffers(plan[cell], net.problem, cell) {
-        let i = first_buffer(scratch, elements, at);
-        if i < elements.count {
-            return (i + 1) as u16;
-        }
+    if takes_buffers(plan[at.cell], net.problem, at.cell)
+        && let Some(i) = first_buffer(scratch, net.problem.elements, at)
+    {
+        return Some((i + 1) as u16);
     }
     if closes(plan, scratch, net, exits, at, 7) {
-        return 7;
+        Some(7)
+    } else if closes(plan, scratch, net, exits, at, 8) {
+        Some(8)
+    } else {
+        None
     }
-    if closes(plan, scratch, net, exits, at, 8) {
-        return 8;
-    }
-    9
 }
 
 // The state after the gate.
@@ -152,35 +130,30 @@ fn leave(net: Net, at: State, code: u16) -> State
     requires { LeaveAsks net at code }
     ensures { Left net at code result }
 {
-    if code == 0 {
-        return at;
-    }
-    if 7 <= code {
-        let gate = net.gate(code);
-        let skew = net.problem.elements.skew;
-        let close = gate.slack(net.period(at.side), skew, at.load, at.delay);
-        let side = side_after(at.side, code);
-        return State {
-            cell: at.cell,
-            load: gate.load(),
-            delay: gate.start_delay(),
-            weight: fewer(at.weight, net.weight(side)),
-            steps: at.steps,
-            slack: smaller_slack(at.slack, close),
-            side: side,
-        };
-    }
-    let elements = net.problem.elements;
-    let i = (code - 1) as usize;
-    let buffer = elements.buffers[i];
-    State {
-        cell: at.cell,
-        load: buffer.load(),
-        delay: buffer.driver().after(at.load, at.delay),
-        weight: at.weight,
-        steps: at.steps,
-        slack: at.slack,
-        side: at.side,
+    match code {
+        0 => at,
+        1..=6 => {
+            let buffer = net.problem.elements.buffers[(code - 1) as usize];
+            State {
+                load: buffer.load(),
+                delay: buffer.driver().after(at.load, at.delay),
+                ..at
+            }
+        }
+        _ => {
+            let gate = net.gate(code);
+            let skew = net.problem.elements.skew;
+            let close = gate.slack(net.period(at.side), skew, at.load, at.delay);
+            let side = side_after(at.side, code);
+            State {
+                load: gate.load(),
+                delay: gate.start_delay(),
+                weight: at.weight.saturating_sub(net.weight(side)),
+                slack: smaller_slack(at.slack, close),
+                side,
+                ..at
+            }
+        }
     }
 }
 
@@ -189,20 +162,7 @@ fn side_after(side: usize, code: u16) -> usize
     requires { side ≤ sides_most }
     ensures { result ≡ side_after side code }
 {
-    if code == 8 {
-        return side + 1;
-    }
-    side
-}
-
-// So much less, but not below 0.
-fn fewer(weight: u32, by: u32) -> u32
-    ensures { result ≡ weight - by }
-{
-    if weight < by {
-        return 0;
-    }
-    weight - by
+    if code == 8 { side + 1 } else { side }
 }
 
 // The first visit to the neighbour that goes on. The number of cells is no neighbour.
@@ -214,59 +174,48 @@ fn try_cell(
     from: State,
     cell: usize,
     wire: Wire,
-) -> Choice
+) -> Option<Visit>
     requires { TryAsks net plan.now exits scratch.now from cell wire }
     ensures { ChosenAmong (net_rules net plan.now) (length plan.now) (labels_for (length plan.now) exits scratch.now) (budget_of (length plan.now) scratch.now) from (λ c. c ≡ cell) result }
 {
     if cell == plan.len() {
-        return Choice::Nothing;
+        return None;
     }
     let load = from.load.plus(wire.load());
     if !load.at_most(net.problem.elements.limit) {
-        return Choice::Nothing;
+        return None;
     }
     let at = State {
-        cell: cell,
-        load: load,
+        cell,
+        load,
         delay: from.delay.plus(wire.delay(from.load)),
-        weight: from.weight,
         steps: from.steps - 1,
-        slack: from.slack,
-        side: from.side,
+        ..from
     };
-    let code = first_code(plan, scratch, net, exits, at);
-    if code == 9 {
-        return Choice::Nothing;
-    }
-    Choice::Visit(code, leave(net, at, code))
+    let code = first_code(plan, scratch, net, exits, at)?;
+    let state = leave(net, at, code);
+    Some(Visit { code, state })
 }
 
 // The first visit that goes on: the neighbours in ascending order. There are labels of so many FIFOs.
-pub fn choose(plan: &[u8], scratch: &[u16], net: Net, exits: usize, from: State) -> Choice
+pub fn choose(plan: &[u8], scratch: &[u16], net: Net, exits: usize, from: State) -> Option<Visit>
     requires { ChooseAsks net plan.now exits scratch.now from }
     ensures { Chosen (net_rules net plan.now) (length plan.now) (labels_for (length plan.now) exits scratch.now) (budget_of (length plan.now) scratch.now) from result }
 {
     let near = neighbours_of(plan, net.problem.width, net.problem.height, from.cell);
-    let wires = net.problem.elements;
-    let up = try_cell(plan, scratch, net, exits, from, near.up, wires.vertical);
-    if let Choice::Visit(code, to) = up {
-        return Choice::Visit(code, to);
+    let Elements {
+        horizontal,
+        vertical,
+        ..
+    } = net.problem.elements;
+    if let Some(visit) = try_cell(plan, scratch, net, exits, from, near.up, vertical) {
+        return Some(visit);
     }
-    let left = try_cell(plan, scratch, net, exits, from, near.left, wires.horizontal);
-    if let Choice::Visit(code, to) = left {
-        return Choice::Visit(code, to);
+    if let Some(visit) = try_cell(plan, scratch, net, exits, from, near.left, horizontal) {
+        return Some(visit);
     }
-    let right = try_cell(
-        plan,
-        scratch,
-        net,
-        exits,
-        from,
-        near.right,
-        wires.horizontal,
-    );
-    if let Choice::Visit(code, to) = right {
-        return Choice::Visit(code, to);
+    if let Some(visit) = try_cell(plan, scratch, net, exits, from, near.right, horizontal) {
+        return Some(visit);
     }
-    try_cell(plan, scratch, net, exits, from, near.down, wires.vertical)
+    try_cell(plan, scratch, net, exits, from, near.down, vertical)
 }

@@ -15,7 +15,7 @@ use Rattle.rows.specs.Words.{Filled, KeptFrom}
 use Rattle.labels.specs.Labels.{no_labels, known_of, labels_of, labels_for, Ordered}
 use Rattle.labels.proofs.Labels.{covers-moved, covers_kept, ordered-moved, ordered-kept, labels-register, labels-fifo, labels-no-fifo}
 use Rattle.search.specs.Turn.{Beyond, Ended}
-use Rattle.search.specs.declared.loops.Reached.{Reached}
+use Rattle.search.specs.declared.turns.Reached.{Reached}
 use Rattle.search.specs.Search.{SideAsks, SearchDone}
 use Rattle.search.proofs.LastSide.{last-side}
 use Rattle.emission.specs.Emission.{Aside}
@@ -40,9 +40,8 @@ exits-covered Q n exits words w t x o = go (split 1 exits)
         (covers-nothing x (none-known (subst (λ (k : ℕ). Ordered n (n * exits_at) words k) none o)))
 
 -- on that side there is no sink
-pub no-sink : {R : Rules} {n exits : ℕ} {new : List ℕ} {x : Reached} → SearchDone R n 1 exits new x → (k s count : ℕ) → x ≡ Reached.Sink k s count → ⊥
-no-sink (SearchDone.sink k' s' count' own r) k s count e = omega (arith, own)
-no-sink (SearchDone.nothing count' watched h) k s count e = let z : ◌≡◌ {A = ℕ} 0 1 = cc in omega arith
+pub no-sink : {R : Rules} {n exits k s count : ℕ} {new : List ℕ} → SearchDone R n 1 exits new (Reached.Sink k s count) → ⊥
+no-sink (SearchDone.sink k s count own r) = omega (arith, own)
 
 -- what was laid aside stays
 pub aside-kept : {R : Rules} {n count : ℕ} {old new : List ℕ} → Aside R n old count → length new ≡ length old → KeptFrom (n * aside_at) old new → Aside R n new count

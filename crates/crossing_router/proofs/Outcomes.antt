@@ -38,16 +38,16 @@ module _ (net : Net) (marks scratch scratch' visits : List ℕ) where
 
   module _ (visits' : List ℕ) (k s : ℕ) (b : BestIs R latency_of (R.weight 0 + k) s) (w : Written) (d : Writes R k s (length marks * crossing_words) scratch scratch' visits visits' w) (made : from_sink R d.made ≡ b.route) where
     abbrev figures : CrossingFigures
-    figures = record { source = w.source - 1; sink = w.sink; steps = s; latency = R.weight 0 + k; slack = w.slack }
+    figures = record { source = w.told.source - 1; sink = w.told.sink; steps = s; latency = R.weight 0 + k; slack = w.told.slack }
 
     -- the figures that the code counts are those of the route
     figures-are : figures_of R net.clocks.period net.problem.elements.period b.route ≡ figures
     unfolding figures_of sink_registers source_registers
     figures-are =
-        let least : w.slack ≡ least_slack R b.route = rw made at d.slack in
-        let near : code_sevens (sink_side b.route) ≡ 1 + w.sink = rw made at d.sink in
-        let far : code_sevens (source_side b.route) ≡ w.source = rw made at d.source in
-        let less : 1 + w.sink - 1 ≡ w.sink = omega arith in
+        let least : w.told.slack ≡ least_slack R b.route = rw made at d.slack in
+        let near : code_sevens (sink_side b.route) ≡ 1 + w.told.sink = rw made at d.sink in
+        let far : code_sevens (source_side b.route) ≡ w.told.source = rw made at d.source in
+        let less : 1 + w.told.sink - 1 ≡ w.told.sink = omega arith in
         rw (near, far, less, b.cost_is, b.steps_are, ← least)
 
     test : (x : Bool) → w.fits ≡ x → leb (2 * (steps b.route + 1)) (length visits) ≡ x

@@ -8,9 +8,9 @@ use Rattle.answers.specs.Numbers.{CrossingAnswer}
 use Rattle.problem.specs.declared.net.Net.{Net}
 use Rattle.problem.specs.Net.{fifo_of, net_rules, NetReady}
 use Rattle.search.specs.Search.{SideAsks}
+use Rattle.emission.specs.declared.sides.Counts.{Counts}
 use Rattle.emission.specs.Emission.{Aside}
 use Rattle.crossing_router.specs.Route.{crossing_words, answer_for, visits_for, zeroed}
-use Rattle.crossing_router.specs.declared.sides.Far.{Far}
 
 pub record TwoAsks (net : Net) (marks costs words : List ℕ) : Type 0 where
   pub ready : NetReady net marks
@@ -19,7 +19,7 @@ pub record TwoAsks (net : Net) (marks costs words : List ℕ) : Type 0 where
   pub costed : CostsOf net.problem.elements (fifo_of net) costs
 
 -- After the source's side: its registers' labels are laid aside, and those of the FIFOs that lead there stand where the sink's side looks for them.
-pub record FarDone (R : Rules) (n : ℕ) (old new : List ℕ) (r : Far) : Type 0 where
+pub record FarDone (R : Rules) (n : ℕ) (old new : List ℕ) (r : Counts) : Type 0 where
   pub same : length new ≡ length old
   pub asks : SideAsks R n 0 r.exits new
   pub aside : Aside R n new r.registers

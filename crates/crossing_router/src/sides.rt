@@ -1,5 +1,5 @@
 // The best route of a net between two clocks that the checks have passed: the source's side is searched first, then the sink's. The scratch words are zero afterwards.
-ghost use Rattle.std.specs.Prelude.{length, ◌≡◌, ◌-◌};
+ghost use Rattle.std.specs.Prelude.{length};
 ghost use Rattle.problem.specs.Net.{net_rules};
 ghost use Rattle.search.specs.Turn.{Reaching};
 ghost use Rattle.emission.specs.Emission.{Aside};
@@ -15,43 +15,23 @@ use router::write_out;
 use rows::clear;
 use search::{Reached, search_anew};
 
-// Labels of the source's side: of its registers, laid aside, and of the FIFOs that lead there.
-#[derive(Clone, Copy)]
-pub struct Far {
-    pub registers: usize,
-    pub exits: usize,
-}
-
-// The source's side. There is no sink on it.
-fn search_far(plan: &[u8], scratch: &mut [u16], net: Net, costs: &[u16; COSTS]) -> Far
+// The source's side, on which there is no sink: how many labels it has of registers, laid aside, and of the FIFOs that lead there.
+fn search_far(plan: &[u8], scratch: &mut [u16], net: Net, costs: &[u16; COSTS]) -> Counts
     requires { TwoAsks net plan.now costs.now scratch.old }
     ensures { FarDone (net_rules net plan.now) (length plan.now) scratch.old scratch.new result }
 {
     let n = plan.len();
     clear(scratch, n * EXITS, n * ASIDE);
-    let reached = search_anew(plan, scratch, net, costs, 1, 0);
-    match reached {
-        Reached::Sink(_, _, _) => {
-            return Far {
-                registers: 0,
-                exits: 0,
-            };
-        }
-        Reached::Nothing(count, watched) => {
+    match search_anew(plan, scratch, net, costs, 1, 0) {
+        Reached::Sink { .. } => unreachable!(),
+        Reached::Nothing { labels, watched } => {
             copy_set(scratch, n, n * LABELS, n * ASIDE);
-            return Far {
-                registers: count,
+            Counts {
+                registers: labels,
                 exits: watched,
-            };
+            }
         }
     }
-}
-
-// Registers without the end's.
-fn without_end(registers: u32) -> u32
-    ensures { result ≡ registers - 1 }
-{
-    if registers == 0 { 0 } else { registers - 1 }
 }
 
 // The route of these figures is written, if there is room; its other figures are told in any case.
@@ -69,7 +49,6 @@ fn write_crossing(
     requires { TwoAsks net plan.now costs.now scratch.old × (Reaching (net_rules net plan.now) (length plan.now) labels.exits scratch.old weight steps labels.registers × Aside (net_rules net plan.now) (length plan.now) scratch.old aside) }
     ensures { CrossingDone net plan.now scratch.old scratch.new visits.old visits.new result }
 {
-    let n = plan.len();
     let latency = net.weight(0) + weight;
     let written = write_out(
         plan,
@@ -80,21 +59,22 @@ fn write_crossing(
         aside,
         weight,
         steps,
-        n * CROSSING_WORDS,
+        plan.len() * CROSSING_WORDS,
         visits,
     );
-    let source = without_end(written.source);
+    // The source's end is no register of the route's.
     let figures = CrossingFigures {
-        source: source,
-        sink: written.sink,
-        steps: steps,
-        latency: latency,
-        slack: written.slack,
+        source: written.told.source.saturating_sub(1),
+        sink: written.told.sink,
+        steps,
+        latency,
+        slack: written.told.slack,
     };
     if written.fits {
-        return CrossingAnswer::Found(figures);
+        CrossingAnswer::Found(figures)
+    } else {
+        CrossingAnswer::NoRoom(figures)
     }
-    CrossingAnswer::NoRoom(figures)
 }
 
 // The best route, 7 or 8.
@@ -109,22 +89,24 @@ pub fn crossing_ready(
     ensures { CrossingDone net plan.now scratch.old scratch.new visits.old visits.new result }
 {
     let far = search_far(plan, scratch, net, costs);
-    let reached = search_anew(plan, scratch, net, costs, 0, far.exits);
-    match reached {
-        Reached::Sink(weight, steps, count) => {
+    match search_anew(plan, scratch, net, costs, 0, far.exits) {
+        Reached::Sink {
+            weight,
+            steps,
+            labels,
+        } => {
             let labels = Counts {
-                registers: count,
-                exits: far.exits,
+                registers: labels,
+                ..far
             };
             let aside = far.registers;
-            return write_crossing(
+            write_crossing(
                 plan, scratch, net, costs, visits, labels, aside, weight, steps,
-            );
+            )
         }
-        Reached::Nothing(_, _) => {
-            let n = plan.len();
-            clear(scratch, 0, n * CROSSING_WORDS);
-            return CrossingAnswer::Refused(Refusal::NoRoute);
+        Reached::Nothing { .. } => {
+            clear(scratch, 0, plan.len() * CROSSING_WORDS);
+            CrossingAnswer::Refused(Refusal::NoRoute)
         }
     }
 }

@@ -1,6 +1,7 @@
 -- Emission's loop: the start, one visit more, and the whole route.
 use Prim.Native.Nat.{ℕ, suc, ◌+◌, ◌-◌, ◌*◌, ◌≤◌, ◌<◌}
 use mathlib.Core.Path.{◌≡◌, refl, sym, ap, ◌∙◌, subst}
+use Rattle.std.specs.Prelude.{Option, Some, None}
 use mathlib.Core.Logic.{◌⊎◌, inl, inr}
 use mathlib.Core.List.{List, [], ◌∷◌, ◌++◌, append_assoc, append-nil}
 use native.Mathlib.Omega.{arith}
@@ -35,7 +36,7 @@ use Rattle.labels.specs.Labels.{no_labels, labels_for}
 use Rattle.labels.proofs.Labels.{labelled-kept, covers_kept, covers-moved, ordered-kept, ordered-moved, labels-register, labels-no-fifo, label-code}
 use Rattle.search.specs.Turn.{Reaching}
 use Rattle.choice.specs.declared.State.{State}
-use Rattle.choice.specs.declared.Choice.{Choice}
+use Rattle.choice.specs.declared.Visit.{Visit as Visited}
 use Rattle.choice.specs.Choice.{InRange, Goes, FirstVisit, ChosenAmong, Chosen}
 use Rattle.reach.specs.declared.layers.Layers.{Layers}
 use Rattle.reach.specs.Reach.{no_layers, Held, Loaded}
@@ -63,16 +64,11 @@ least-steps x = omega (arith, done-steps x.enough, (least-exact x x.enough.route
 
 -- what was chosen
 
-pub chosen-nothing : {R : Rules} {n : ℕ} {m : ℕ → Labels} {A : Table} {from : State} {cells : ℕ → Type 0} {x : Choice} → ChosenAmong R n m A from cells x → x ≡ Choice.Nothing → (cell a : ℕ) → cells cell → a ≤ fifo_code → Goes R m A from cell a → ⊥
-chosen-nothing (ChosenAmong.visit v) e = absurd (let z : ◌≡◌ {A = ℕ} 0 1 = cc in omega arith)
-chosen-nothing (ChosenAmong.nothing f) e = f
+pub chosen-nothing : {R : Rules} {n : ℕ} {m : ℕ → Labels} {A : Table} {from : State} {cells : ℕ → Type 0} → ChosenAmong R n m A from cells None → (cell a : ℕ) → cells cell → a ≤ fifo_code → Goes R m A from cell a → ⊥
+chosen-nothing (ChosenAmong.nothing f) = f
 
-pub chosen-visit : {R : Rules} {n : ℕ} {m : ℕ → Labels} {A : Table} {from : State} {cells : ℕ → Type 0} {x : Choice} → ChosenAmong R n m A from cells x → (code : ℕ) (to : State) → x ≡ Choice.Visit code to → FirstVisit R n m A from cells code to
-chosen-visit (ChosenAmong.visit {code = a} {to = t} v) code to e =
-    let p : a ≡ code = cc in
-    let q : t ≡ to = cc in
-    rw (p, q) at v
-chosen-visit (ChosenAmong.nothing f) code to e = absurd (let z : ◌≡◌ {A = ℕ} 0 1 = cc in omega arith)
+pub chosen-visit : {R : Rules} {n : ℕ} {m : ℕ → Labels} {A : Table} {from : State} {cells : ℕ → Type 0} {v : Visited} → ChosenAmong R n m A from cells (Some v) → FirstVisit R n m A from cells v.code v.state
+chosen-visit (ChosenAmong.visit x) = x
 
 -- one word more from the start
 filled_next : {F : ℕ → ℕ} {n : ℕ} {old new : List ℕ} → Filled F 0 n old new → (x : ℕ) → n < length old → x ≡ F n → Filled F 0 (n + 1) old (set new n x)
@@ -177,10 +173,10 @@ module _ (R : Rules) (law : Lawful R) (n k s aside : ℕ) (words₀ visits₀ : 
         labelled-kept n left.exits words new (record { registers = λ i lo hi. loaded.labels i lo (omega arith); fifos = λ h i lo hi. loaded.rest i (omega arith) }) R f k e.before e.labels
 
     -- some visit goes on
-    pub emit-nothing : Chosen R n (labels_for n left.exits new) (budget_of n new) at Choice.Nothing → ⊥
+    pub emit-nothing : Chosen R n (labels_for n left.exits new) (budget_of n new) at None → ⊥
     emit-nothing chosen =
         let c = least-goes-on R law f (R.weight f + at.weight) (at.steps - 1) at.cell at.load.0 at.delay.0 least in
-        chosen-nothing chosen refl c.cell c.code c.linked c.small
+        chosen-nothing chosen c.cell c.code c.linked c.small
         (viable-goes-on R law labels at.weight (at.steps - 1) (budget_of n new) at.cell at.load.0 at.delay.0 loaded.near least c.cell c.code e.lighter c.viable)
 
     module _ (code : ℕ) (to : State) (v : FirstVisit R n (labels_for n left.exits new) (budget_of n new) at (λ cell. T (R.linked at.cell cell)) code to) where

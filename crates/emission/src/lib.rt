@@ -7,7 +7,7 @@ ghost use Rattle.emission.specs.Emission.{PutAsks, Emitted, EmitAsks};
 
 mod sides;
 
-use choice::{Choice, State, choose};
+use choice::{State, choose};
 use costs::COSTS;
 use problem::Net;
 use reach::{load_layer, no_layers};
@@ -54,14 +54,12 @@ pub fn emit(
     let register = net.problem.elements.register;
     let sink = net.problem.sink;
     put_visit(visits, 0, sink, 7);
-    let load = register.load();
-    let delay = register.start_delay();
     let mut at = State {
         cell: sink,
-        load: load,
-        delay: delay,
-        weight: weight,
-        steps: steps,
+        load: register.load(),
+        delay: register.start_delay(),
+        weight,
+        steps,
         slack: SLACK_MOST,
         side: 0,
     };
@@ -83,23 +81,14 @@ pub fn emit(
             at.steps - 1,
             layers,
         );
-        let choice = choose(plan, scratch, net, left.exits, at);
-        match choice {
-            Choice::Visit(code, to) => {
-                put_visit(visits, i, to.cell, code);
-                left = pass(scratch, n, code, aside, left);
-                tally = tallied(tally, at.side, code);
-                at = to;
-                i += 2;
-            }
-            Choice::Nothing => {
-                return Told {
-                    slack: at.slack,
-                    sink: tally.sink,
-                    source: tally.source,
-                };
-            }
-        }
+        let Some(visit) = choose(plan, scratch, net, left.exits, at) else {
+            break;
+        };
+        put_visit(visits, i, visit.state.cell, visit.code);
+        left = pass(scratch, n, visit.code, aside, left);
+        tally = tallied(tally, at.side, visit.code);
+        at = visit.state;
+        i += 2;
     }
     Told {
         slack: at.slack,

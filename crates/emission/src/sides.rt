@@ -26,12 +26,13 @@ pub fn pass(scratch: &mut [u16], n: usize, code: u16, aside: usize, left: Counts
 {
     if code == 8 {
         copy_set(scratch, n, n * ASIDE, n * LABELS);
-        return Counts {
+        Counts {
             registers: aside,
             exits: 0,
-        };
+        }
+    } else {
+        left
     }
-    left
 }
 
 // One register more, if the visit's code is a register's.
@@ -39,17 +40,15 @@ pub fn tallied(tally: Tally, side: usize, code: u16) -> Tally
     requires { tally.sink + tally.source < 4294967295 }
     ensures { result ≡ tallied_after tally side code }
 {
-    let mut sink = tally.sink;
-    let mut source = tally.source;
-    if code == 7 {
-        if side == 0 {
-            sink += 1;
-        } else {
-            source += 1;
-        }
-    }
-    Tally {
-        sink: sink,
-        source: source,
+    match (code, side) {
+        (7, 0) => Tally {
+            sink: tally.sink + 1,
+            ..tally
+        },
+        (7, _) => Tally {
+            source: tally.source + 1,
+            ..tally
+        },
+        _ => tally,
     }
 }

@@ -1,6 +1,6 @@
 // The cone: a row of u steps matters only at the cells that are near enough to the cell from which the span is written out.
 ghost use Rattle.std.specs.Prelude.{◌+◌, ◌<◌, ◌≡◌};
-ghost use Rattle.plan.specs.Apart.{gap, apart_by};
+ghost use Rattle.plan.specs.Apart.{apart_by};
 ghost use Rattle.budget.specs.Cone.{in_cone};
 ghost use Rattle.reach.specs.Cone.{ListAsks, ListedInside, DropAsks, Dropped};
 
@@ -9,30 +9,14 @@ use lists::{enlist, take_list};
 use problem::Problem;
 use table::clear_flags;
 
-// The difference of two numbers.
-fn difference(a: usize, b: usize) -> usize
-    ensures { result ≡ gap a b }
-{
-    if a < b {
-        return b - a;
-    }
-    a - b
-}
-
 // The cell's distance from `from` and u steps are at most `most`.
 pub fn in_cone(width: usize, from: usize, most: usize, u: usize, cell: usize) -> bool
     requires { 0 < width }
     ensures { result ≡ in_cone (apart_by width from) most u cell }
 {
-    let rows = difference(from / width, cell / width);
-    let columns = difference(from % width, cell % width);
-    if most < u {
-        return false;
-    }
-    if most - u < rows {
-        return false;
-    }
-    columns <= most - u - rows
+    let rows = (from / width).abs_diff(cell / width);
+    let columns = (from % width).abs_diff(cell % width);
+    u <= most && rows <= most - u && columns <= most - u - rows
 }
 
 // With no flag set, the cells of the active list that are in the cone go to the next list. Its count.
@@ -48,14 +32,12 @@ fn list_inside(
     requires { ListAsks n active width scratch.old }
     ensures { ListedInside n active (in_cone (apart_by width from) most u) scratch.old scratch.new result }
 {
-    let mut i = 0;
     let mut count = 0;
-    while i < active {
+    for i in 0..active {
         let cell = scratch[n * ACTIVE + i] as usize;
         if in_cone(width, from, most, u, cell) {
             count = enlist(scratch, n, n * NEXT, count, cell);
         }
-        i += 1;
     }
     count
 }

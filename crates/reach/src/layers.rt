@@ -50,18 +50,17 @@ fn held_by(layers: Layers, side: usize, cell: usize, weight: u32, steps: u32) ->
     requires { 0 < layers.width }
     ensures { result ≡ held_by layers side cell weight steps }
 {
-    let trail = layers.trail;
-    if layers.side == side {
-        if layers.weight == weight {
-            if trail.low <= steps {
-                if steps <= layers.steps {
-                    let most = layers.most as usize;
-                    return in_cone(layers.width, layers.from, most, steps as usize, cell);
-                }
-            }
-        }
-    }
-    false
+    layers.side == side
+        && layers.weight == weight
+        && layers.trail.low <= steps
+        && steps <= layers.steps
+        && in_cone(
+            layers.width,
+            layers.from,
+            layers.most as usize,
+            steps as usize,
+            cell,
+        )
 }
 
 // The layers of the span, from no steps on, in the cone of the cell.
@@ -125,13 +124,13 @@ fn run_span(
         active = drop_outside(scratch, n, next.active, p, cell, steps, u);
     }
     Layers {
-        side: side,
-        weight: weight,
-        steps: steps,
+        side,
+        weight,
+        steps,
         width: p.width,
         from: cell,
         most: steps,
-        trail: trail,
+        trail,
     }
 }
 
@@ -154,17 +153,16 @@ pub fn load_layer(
 {
     if held_by(layers, side, cell, weight, steps) {
         let trail = rewind(scratch, plan.len(), layers.trail, steps);
-        return Layers {
-            side: side,
-            weight: weight,
-            steps: steps,
-            width: layers.width,
-            from: layers.from,
-            most: layers.most,
-            trail: trail,
-        };
+        Layers {
+            side,
+            weight,
+            steps,
+            trail,
+            ..layers
+        }
+    } else {
+        run_span(
+            plan, scratch, net, costs, side, count, exits, cell, weight, steps, layers,
+        )
     }
-    run_span(
-        plan, scratch, net, costs, side, count, exits, cell, weight, steps, layers,
-    )
 }

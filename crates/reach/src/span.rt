@@ -36,9 +36,10 @@ fn first_exit(scratch: &[u16], n: usize, exits: usize, weight: u32) -> usize
     ensures { FirstExit n scratch.now exits weight result }
 {
     if 0 < exits {
-        return first_with(scratch, n, n * EXITS, exits, weight);
+        first_with(scratch, n, n * EXITS, exits, weight)
+    } else {
+        0
     }
-    0
 }
 
 // The steps of the label at `at`, if that is one of this weight; at most `steps`.
@@ -57,10 +58,7 @@ fn next_steps(
     if at < count {
         let cell = scratch[set + n * ORDER + at] as usize;
         if weight_word(scratch, n, set, cell) - 1 == weight {
-            let first = steps_of(scratch, n, set, cell);
-            if first < steps {
-                return first;
-            }
+            return steps_of(scratch, n, set, cell).min(steps);
         }
     }
     steps
@@ -82,9 +80,10 @@ pub fn next_both(
 {
     let first = next_steps(scratch, n, n * LABELS, at, count, weight, steps);
     if exit < exits {
-        return next_steps(scratch, n, n * EXITS, exit, exits, weight, first);
+        next_steps(scratch, n, n * EXITS, exit, exits, weight, first)
+    } else {
+        first
     }
-    first
 }
 
 // The table becomes 0: on the trail, if that goes back to layer 0.
@@ -92,12 +91,11 @@ fn clear_table(scratch: &mut [u16], n: usize, layers: Layers)
     requires { Past n scratch.old layers.steps layers.trail × ((n ≤ 1024) × (n * cell_words ≤ length scratch.old)) }
     ensures { TableCleared n scratch.old scratch.new }
 {
-    let trail = layers.trail;
-    if trail.low == 0 {
-        rewind(scratch, n, trail, 0);
-        return;
+    if layers.trail.low == 0 {
+        rewind(scratch, n, layers.trail, 0);
+    } else {
+        clear(scratch, 0, n * ARRIVAL);
     }
-    clear(scratch, 0, n * ARRIVAL);
 }
 
 // The table, the flags and the seed flags become 0.

@@ -10,26 +10,18 @@ use Rattle.rules.specs.Rules.{Rules}
 use Rattle.best.specs.Best.{Outcome, found, none, best}
 use Rattle.problem.specs.declared.Problem.{Problem}
 use Rattle.problem.specs.Problem.{plan_for, Ready}
-use Rattle.router.specs.declared.least.Least.{Least}
+use Rattle.std.proofs.Common.{is_some}
 use Rattle.router.specs.Least.{least_of}
 use Rattle.reasons.specs.Reasons.{routed}
 
-module _ (R : Rules) where
-  pub routed-of : {k s : ℕ} → Least.Of k s ≡ least_of (best R) → true ≡ routed R
-  unfolding routed least_of
-  routed-of {k} {s} = go (best R)
-    where
-      go : (o : Outcome) → Least.Of k s ≡ least_of o → true ≡ elim o [ found r ↦ true | none ↦ false ]
-      go (found r) e = refl
-      go none e = absurd (let z : ◌≡◌ {A = ℕ} 0 1 = cc in omega arith)
-
-  pub routed-nothing : Least.Nothing ≡ least_of (best R) → false ≡ routed R
-  unfolding routed least_of
-  routed-nothing = go (best R)
-    where
-      go : (o : Outcome) → Least.Nothing ≡ least_of o → false ≡ elim o [ found r ↦ true | none ↦ false ]
-      go (found r) e = absurd (let z : ◌≡◌ {A = ℕ} 0 1 = cc in omega arith)
-      go none e = refl
+-- there are figures exactly if there is a route
+pub routed-some : (R : Rules) → is_some (least_of (best R)) ≡ routed R
+unfolding routed least_of
+routed-some R = go (best R)
+  where
+    go : (o : Outcome) → is_some (least_of o) ≡ elim o [ found r ↦ true | none ↦ false ]
+    go (found r) = refl
+    go none = refl
 
 -- the problem with other elements
 pub ready_with : (p : Problem) (marks : List ℕ) (e : Elements) → Ready p marks → Valid e → Ready (record { width = p.width; height = p.height; source = p.source; sink = p.sink; elements = e }) marks

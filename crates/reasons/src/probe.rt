@@ -7,7 +7,7 @@ ghost use Rattle.reasons.specs.Probe.{Probed};
 
 use costs::costs_of;
 use problem::Problem;
-use router::{Least, least_ready};
+use router::least_ready;
 use timing::Elements;
 
 // Whether the problem has a legal route with these elements in place of its own: one search.
@@ -16,16 +16,6 @@ pub fn exists_with(plan: &[u8], scratch: &mut [u16], p: Problem, elements: Eleme
     ensures { Probed p elements plan.now scratch.old scratch.new result }
 {
     let costs = costs_of(elements, elements.register);
-    let q = Problem {
-        width: p.width,
-        height: p.height,
-        source: p.source,
-        sink: p.sink,
-        elements: elements,
-    };
-    let least = least_ready(plan, scratch, q, &costs);
-    match least {
-        Least::Of(_, _) => true,
-        Least::Nothing => false,
-    }
+    let q = Problem { elements, ..p };
+    least_ready(plan, scratch, q, &costs).is_some()
 }

@@ -17,7 +17,7 @@ use Rattle.problem.specs.declared.net.Net.{Net}
 use Rattle.problem.specs.Problem.{rules_for, Ready}
 use Rattle.problem.specs.Net.{one_net, fifo_of, net_rules, NetReady}
 use Rattle.problem.proofs.Clocks.{one-rules, one-ready, net-fifos}
-use Rattle.search.specs.declared.loops.Reached.{Reached}
+use Rattle.search.specs.declared.turns.Reached.{Reached}
 use Rattle.search.specs.Turn.{Reaching, Beyond}
 use Rattle.search.specs.Search.{SideAsks, SearchEffect}
 use Rattle.search.proofs.LastSide.{last-side}

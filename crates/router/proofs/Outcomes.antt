@@ -32,13 +32,13 @@ module _ (p : Problem) (marks scratch scratch' visits : List ℕ) where
 
   module _ (visits' : List ℕ) (k s : ℕ) (b : BestIs R p.elements.period k s) (w : Written) (d : Writes R k s (length marks * cell_words) scratch scratch' visits visits' w) (made : from_sink R d.made ≡ b.route) where
     abbrev figures : Figures
-    figures = record { registers = k; steps = s; latency = p.elements.period * (k + 1); slack = w.slack }
+    figures = record { registers = k; steps = s; latency = p.elements.period * (k + 1); slack = w.told.slack }
 
     -- the figures that the code counts are those of the route
     figures-are : figures_of R p.elements.period b.route ≡ figures
     unfolding figures_of latency
     figures-are =
-        let least : w.slack ≡ least_slack R b.route = rw made at d.slack in
+        let least : w.told.slack ≡ least_slack R b.route = rw made at d.slack in
         rw (b.registers_are, b.steps_are, ← least)
 
     test : (x : Bool) → w.fits ≡ x → leb (2 * (steps b.route + 1)) (length visits) ≡ x

@@ -28,9 +28,9 @@ pub record WriteAsks (net : Net) (marks costs : List ℕ) (labels : Counts) (asi
 pub record Writes (R : Rules) (k s most : ℕ) (scratch scratch' visits visits' : List ℕ) (r : Written) : Type 0 where
   pub made : Route
   pub is_first : FirstEnding R 0 (R.weight 0 + k) s R.sink R.start.load R.start.delay made
-  pub slack : r.slack ≡ least_slack R (from_sink R made)
-  pub sink : code_sevens (sink_side (from_sink R made)) ≡ 1 + r.sink
-  pub source : code_sevens (source_side (from_sink R made)) ≡ r.source
+  pub slack : r.told.slack ≡ least_slack R (from_sink R made)
+  pub sink : code_sevens (sink_side (from_sink R made)) ≡ 1 + r.told.sink
+  pub source : code_sevens (source_side (from_sink R made)) ≡ r.told.source
   pub zero-words : scratch' ≡ zeroed most scratch
   pub fits : r.fits ≡ leb (2 * (s + 1)) (length visits)
   pub filled : visits' ≡ cond (leb (2 * (s + 1)) (length visits)) (written (from_sink R made) ++ drop (length (written (from_sink R made))) visits) visits

@@ -9,21 +9,29 @@ use costs::COSTS;
 use problem::{Net, Problem};
 use search::{Reached, search_anew};
 
-// Registers and steps of the best route, or that there is none.
+// The figures of the best route, as far as the search tells them.
 #[derive(Clone, Copy)]
-pub enum Least {
-    Of(u16, u32),
-    Nothing,
+pub struct Least {
+    pub registers: u16,
+    pub steps: u32,
 }
 
-pub fn least_ready(plan: &[u8], scratch: &mut [u16], p: Problem, costs: &[u16; COSTS]) -> Least
+// Of the best route, if there is one.
+pub fn least_ready(
+    plan: &[u8],
+    scratch: &mut [u16],
+    p: Problem,
+    costs: &[u16; COSTS],
+) -> Option<Least>
     requires { Ready p plan.now × (Room (length plan.now) scratch.old × CostsOf p.elements p.elements.register costs.now) }
     ensures { Searched p plan.now scratch.old scratch.new result }
 {
     let net = Net::one_clock(p);
-    let reached = search_anew(plan, scratch, net, costs, 0, 0);
-    match reached {
-        Reached::Sink(weight, steps, _) => Least::Of(weight as u16, steps),
-        Reached::Nothing(_, _) => Least::Nothing,
+    match search_anew(plan, scratch, net, costs, 0, 0) {
+        Reached::Sink { weight, steps, .. } => Some(Least {
+            registers: weight as u16,
+            steps,
+        }),
+        Reached::Nothing { .. } => None,
     }
 }

@@ -29,9 +29,7 @@ fn write_route(
     requires { Ready p plan.now × (Room (length plan.now) scratch.old × (Reaching (rules_for p plan.now) (length plan.now) 0 scratch.old weight steps count × CostsOf p.elements p.elements.register costs.now)) }
     ensures { RouteDone p plan.now scratch.old scratch.new visits.old visits.new result }
 {
-    let n = plan.len();
-    let elements = p.elements;
-    let latency = elements.period as u32 * (weight + 1);
+    let latency = p.elements.period as u32 * (weight + 1);
     let net = Net::one_clock(p);
     let labels = Counts {
         registers: count,
@@ -46,19 +44,20 @@ fn write_route(
         0,
         weight,
         steps,
-        n * CELL_WORDS,
+        plan.len() * CELL_WORDS,
         visits,
     );
     let figures = Figures {
         registers: weight as u16,
-        steps: steps,
-        latency: latency,
-        slack: written.slack,
+        steps,
+        latency,
+        slack: written.told.slack,
     };
     if written.fits {
-        return Answer::Found(figures);
+        Answer::Found(figures)
+    } else {
+        Answer::NoRoom(figures)
     }
-    Answer::NoRoom(figures)
 }
 
 // The best route, 7 or 8.
@@ -73,15 +72,15 @@ pub fn route_ready(
     ensures { RouteDone p plan.now scratch.old scratch.new visits.old visits.new result }
 {
     let net = Net::one_clock(p);
-    let reached = search_anew(plan, scratch, net, costs, 0, 0);
-    match reached {
-        Reached::Sink(weight, steps, count) => {
-            return write_route(plan, scratch, p, costs, visits, weight, steps, count);
-        }
-        Reached::Nothing(_, _) => {
-            let n = plan.len();
-            clear(scratch, 0, n * CELL_WORDS);
-            return Answer::Refused(Refusal::NoRoute);
+    match search_anew(plan, scratch, net, costs, 0, 0) {
+        Reached::Sink {
+            weight,
+            steps,
+            labels,
+        } => write_route(plan, scratch, p, costs, visits, weight, steps, labels),
+        Reached::Nothing { .. } => {
+            clear(scratch, 0, plan.len() * CELL_WORDS);
+            Answer::Refused(Refusal::NoRoute)
         }
     }
 }

@@ -4,16 +4,14 @@ ghost use Rattle.problem.specs.Net.{net_rules};
 ghost use Rattle.router.specs.Writing.{WriteAsks, Writes};
 
 use costs::COSTS;
-use emission::{Counts, emit};
+use emission::{Counts, Told, emit};
 use problem::Net;
 use rows::clear;
 
-// The smallest spare figure of a route, its registers on each side (the source's end is counted, the sink's is not), and whether its visits were written.
+// What emission tells of a route, and whether its visits were written.
 #[derive(Clone, Copy)]
 pub struct Written {
-    pub slack: i32,
-    pub sink: u32,
-    pub source: u32,
+    pub told: Told,
     pub fits: bool,
 }
 
@@ -54,9 +52,7 @@ pub fn write_out(
     );
     clear(scratch, 0, most);
     Written {
-        slack: told.slack,
-        sink: told.sink,
-        source: told.source,
+        told,
         fits: 0 < room,
     }
 }

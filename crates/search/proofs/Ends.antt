@@ -5,6 +5,7 @@ use mathlib.Core.Logic.{◌⊎◌, inl, inr}
 use mathlib.Core.List.{List}
 use native.Mathlib.Omega.{arith}
 use lib.ListN.{length, get_or}
+use Rattle.std.proofs.Common.{Continue, Break}
 use Rattle.rules.specs.Rules.{Rules, fifo_code}
 use Rattle.budget.specs.Done.{After}
 use Rattle.plan.proofs.Truth.{split}
@@ -13,36 +14,20 @@ use Rattle.labels.specs.Labels.{order_of, LabelBy}
 use Rattle.labels.specs.declared.both.Idle.{Idle}
 use Rattle.labels.specs.Both.{Comes, ArrivedBoth}
 use Rattle.search.specs.declared.turns.Progress.{Progress}
-use Rattle.search.specs.declared.turns.Turn.{Turn}
+use Rattle.search.specs.declared.turns.Reached.{Reached}
 use Rattle.search.specs.Front.{total}
-use Rattle.search.specs.Turn.{WaitingOf, Advance, Reaching, Ended, Beyond, TurnDone}
+use Rattle.search.specs.Turn.{WaitingOf, Advance, Beyond, SearchDone, TurnDone}
 use Rattle.search.specs.Search.{SideAsks}
 use Rattle.labels.proofs.Labels.{ordered-kept, fifos-kept}
 use Rattle.search.proofs.Total.{total_kept}
 use Rattle.budget.proofs.Done.{not-both}
 
 module _ {R : Rules} {n side exits : ℕ} {old : List ℕ} {f : Progress} {new : List ℕ} where
-  pub ends-sink : {t : Turn} → TurnDone R n side exits old f new t → (k s count : ℕ) → t ≡ Turn.Sink k s count → (side ≡ 0) × Reaching R n exits new k s count
-  ends-sink (TurnDone.on g w a) k s count e = absurd (let z : ◌≡◌ {A = ℕ} 0 1 = cc in omega arith)
-  ends-sink (TurnDone.sink k' s' count' own r) k s count e =
-      let a : k' ≡ k = cc in
-      let b : s' ≡ s = cc in
-      let c : count' ≡ count = cc in
-      (own, rw (a, b, c) at r)
-  ends-sink (TurnDone.nothing count' watched h) k s count e = absurd (let z : ◌≡◌ {A = ℕ} 0 1 = cc in omega arith)
+  pub ends-with : {r : Reached} → TurnDone R n side exits old f new (Break r) → SearchDone R n side exits new r
+  ends-with (TurnDone.ends r d) = d
 
-  pub ends-nothing : {t : Turn} → TurnDone R n side exits old f new t → (count watched : ℕ) → t ≡ Turn.Nothing count watched → Ended R n side exits new count watched
-  ends-nothing (TurnDone.on g w a) count watched e = absurd (let z : ◌≡◌ {A = ℕ} 0 1 = cc in omega arith)
-  ends-nothing (TurnDone.sink k s count' own r) count watched e = absurd (let z : ◌≡◌ {A = ℕ} 0 1 = cc in omega arith)
-  ends-nothing (TurnDone.nothing count' watched' h) count watched e =
-      let a : count' ≡ count = cc in
-      let b : watched' ≡ watched = cc in
-      rw (a, b) at h
-
-  pub goes_on : {t : Turn} → TurnDone R n side exits old f new t → (g : Progress) → t ≡ Turn.On g → WaitingOf R n side exits new g × Advance n exits old new f g
-  goes_on (TurnDone.on g' w a) g e = let q : g' ≡ g = cc in (rw q at w, rw q at a)
-  goes_on (TurnDone.sink k s count own r) g e = absurd (let z : ◌≡◌ {A = ℕ} 0 1 = cc in omega arith)
-  goes_on (TurnDone.nothing count watched h) g e = absurd (let z : ◌≡◌ {A = ℕ} 0 1 = cc in omega arith)
+  pub goes_on : {g : Progress} → TurnDone R n side exits old f new (Continue g) → WaitingOf R n side exits new g × Advance n exits old new f g
+  goes_on (TurnDone.on g w a) = (w, a)
 
 -- a label that has come does not wait on
 goes_in : {n set code from count k s : ℕ} {old new : List ℕ} {to : ℕ} → Comes n set code from count k s old new to → from < count → LabelBy n set old k s (order_of n set old from) → from < to

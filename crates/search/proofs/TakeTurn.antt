@@ -18,8 +18,9 @@ use Rattle.table.specs.Layer.{Layered}
 use Rattle.labels.specs.Labels.{known_of, order_of, LabelBy, Ordered}
 use Rattle.labels.specs.Additions.{LabelsAdded}
 use Rattle.search.specs.declared.turns.Progress.{Progress}
-use Rattle.search.specs.declared.turns.Turn.{Turn}
-use Rattle.search.specs.Turn.{FrontOf, WaitingOf, moved_to, Quieted, Advance, TurnDone, Beyond, TurnEffect}
+use Rattle.search.specs.declared.turns.Reached.{Reached}
+use Rattle.std.proofs.Common.{ControlFlow, Continue, Break}
+use Rattle.search.specs.Turn.{FrontOf, WaitingOf, moved_to, Quieted, Advance, SearchDone, TurnDone, Beyond, TurnEffect}
 use Rattle.search.specs.Ask.{WatchDone}
 use Rattle.search.proofs.Total.{total_kept}
 use Rattle.search.proofs.Layers.{layer-grows, layer-sink, layer-late, layer-late-exit, quiet-total, quiet-jump, quiet-end}
@@ -38,15 +39,15 @@ module _ {R : Rules} (law : Lawful R) {n side exits : ℕ} (cells : R.cell_count
   beyond : Beyond n side words new
   beyond = record { trail = λ i lo hi. rest i lo; exits = λ e i lo hi. rest i (omega arith); rest = λ i h. rest i (omega arith) }
 
-  pub turn-quiet : next.count ≡ 0 → (t : Turn) → Quieted n exits new f t → TurnEffect R n side exits words f new t
+  pub turn-quiet : next.count ≡ 0 → (t : ControlFlow Reached Progress) → Quieted n exits new f t → TurnEffect R n side exits words f new t
   unfolding moved_to
   turn-quiet none t q = record { same = l.same; beyond = beyond; done = go q }
     where
       still : {g : Progress} → g.at ≡ f.at → g.exit ≡ f.exit → ((g.at < g.count) × LabelBy n (n * labels_at) new g.weight g.steps (order_of n (n * labels_at) new g.at)) ⊎ ((g.exit < exits) × LabelBy n (n * exits_at) new g.weight g.steps (order_of n (n * exits_at) new g.exit)) → Advance n exits words new f g
       still = Advance.comes (quiet-total law cells front l none)
 
-      go : {t : Turn} → Quieted n exits new f t → TurnDone R n side exits words f new t
-      go (Quieted.nothing a b) = TurnDone.nothing _ _ (quiet-end law cells front l none a b)
+      go : {t : ControlFlow Reached Progress} → Quieted n exits new f t → TurnDone R n side exits words f new t
+      go (Quieted.nothing a b) = TurnDone.ends _ (SearchDone.nothing _ _ (quiet-end law cells front l none a b))
       go (Quieted.register h far) =
           TurnDone.on _ (quiet-jump law cells front l none _ _ (after-before (layer-late law cells front l h)) (λ g. not-after-refl _ _) far)
           (still refl refl (inl (h, not-after-refl _ _)))
@@ -54,12 +55,12 @@ module _ {R : Rules} (law : Lawful R) {n side exits : ℕ} (cells : R.cell_count
           TurnDone.on _ (quiet-jump law cells front l none _ _ (after-before (layer-late-exit law cells front l h)) near (λ g. not-after-refl _ _))
           (still refl refl (inr (h, not-after-refl _ _)))
 
-  pub turn-sink : side ≡ 0 → R.start.delay < budget_of n new R.sink R.start.load → TurnEffect R n side exits words f new (Turn.Sink k (s + 1) f.count)
+  pub turn-sink : side ≡ 0 → R.start.delay < budget_of n new R.sink R.start.load → TurnEffect R n side exits words f new (Break (Reached.Sink k (s + 1) f.count))
   turn-sink e h =
       record {
         same = l.same;
         beyond = beyond;
-        done = TurnDone.sink k (s + 1) f.count e (rw (add-one s) (layer-sink law cells front l e h));
+        done = TurnDone.ends _ (SearchDone.sink k (s + 1) f.count e (rw (add-one s) (layer-sink law cells front l e h)));
       }
 
   -- no label is after the new ones
@@ -85,7 +86,7 @@ module _ {R : Rules} (law : Lawful R) {n side exits : ℕ} (cells : R.cell_count
     waits : WaitingOf R n side exits last g
     waits = rw (add-one s) (grown-waiting law cells front l (rw (weighs, add-one s) at added) (rw (weighs, add-one s) at watch) not_yet)
 
-    pub turn-grown : TurnEffect R n side exits words f last (Turn.On g)
+    pub turn-grown : TurnEffect R n side exits words f last (Continue g)
     turn-grown =
         record {
           same = watch.same ∙ (added.same ∙ l.same);

@@ -4,8 +4,9 @@ use Rattle.rules.specs.Rules.{Rules, fifo_code}
 use Rattle.budget.specs.Done.{After, Covers}
 use Rattle.layout.specs.Layout.{arrival_at, labels_at, exits_at, aside_at, label_words, trail_at}
 use Rattle.labels.specs.Labels.{known_of, weight_of, steps_of, labels_for, Ordered}
-use Rattle.search.specs.Turn.{Reaching, Ended, Beyond}
-use Rattle.search.specs.declared.loops.Reached.{Reached}
+use Rattle.search.specs.Turn.{Beyond}
+pub use Rattle.search.specs.Turn.{SearchDone}
+use Rattle.search.specs.declared.turns.Reached.{Reached}
 
 -- the table is zero, and so are the labels, lists and flags
 pub record Blank (n : ℕ) (words : List ℕ) : Type 0 where
@@ -30,10 +31,6 @@ pub record Sourced (n side fifos source : ℕ) (old new : List ℕ) (count : ℕ
   pub has : side ≡ fifos → T (known_of n (n * labels_at) new source)
   pub low : (k : ℕ) → k < n * labels_at → get_or new k 0 ≡ get_or old k 0
   pub high : (k : ℕ) → n * labels_at + n * label_words ≤ k → get_or new k 0 ≡ get_or old k 0
-
-pub data SearchDone (R : Rules) (n side exits : ℕ) (new : List ℕ) : Reached → Type 0 where
-  sink : (k s count : ℕ) → side ≡ 0 → Reaching R n exits new k s count → SearchDone R n side exits new (Reached.Sink k s count)
-  nothing : (count watched : ℕ) → Ended R n side exits new count watched → SearchDone R n side exits new (Reached.Nothing count watched)
 
 pub record SearchEffect (R : Rules) (n side exits : ℕ) (old new : List ℕ) (r : Reached) : Type 0 where
   pub same : length new ≡ length old

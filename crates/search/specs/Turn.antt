@@ -1,5 +1,7 @@
 -- What one turn of the search leaves.
 use Rattle.std.specs.Prelude.{ℕ, suc, ◌+◌, ◌*◌, ◌<◌, ◌≡◌, ◌⊎◌, List, length}
+use Rattle.std.specs.declared.ops.ControlFlow.{ControlFlow}
+use Rattle.std.specs.declared.ops.ControlFlow.TheVariants.{Continue, Break}
 use Rattle.rules.specs.Rules.{Rules, fifo_code}
 use Rattle.budget.specs.Done.{Least, After, Covers, Labelled}
 use Rattle.budget.specs.Search.{FromSink}
@@ -8,7 +10,7 @@ use Rattle.rows.specs.Words.{Kept, KeptFrom}
 use Rattle.labels.specs.Labels.{weight_of, steps_of, labels_of, labels_for, order_of, LabelBy, Ordered}
 use Rattle.search.specs.Front.{total, HeadFrom, Waiting, Front}
 use Rattle.search.specs.declared.turns.Progress.{Progress}
-use Rattle.search.specs.declared.turns.Turn.{Turn}
+use Rattle.search.specs.declared.turns.Reached.{Reached}
 
 abbrev pub FrontOf : Rules → ℕ → ℕ → ℕ → List ℕ → Progress → Type 0
 FrontOf R n side exits words f =
@@ -32,10 +34,10 @@ moved_to n set words i f =
     }
 
 -- After a layer that changed nothing: the earlier of the first labels that wait, or nothing
-pub data Quieted (n exits : ℕ) (words : List ℕ) (f : Progress) : Turn → Type 0 where
-  nothing : f.at ≡ f.count → f.exit ≡ exits → Quieted n exits words f (Turn.Nothing f.count f.watched)
-  register : f.at < f.count → (f.exit < exits → HeadFrom n (n * exits_at) words f.exit (moved_to n (n * labels_at) words f.at f).weight (moved_to n (n * labels_at) words f.at f).steps) → Quieted n exits words f (Turn.On (moved_to n (n * labels_at) words f.at f))
-  fifo : f.exit < exits → (f.at < f.count → HeadFrom n (n * labels_at) words f.at (moved_to n (n * exits_at) words f.exit f).weight (moved_to n (n * exits_at) words f.exit f).steps) → Quieted n exits words f (Turn.On (moved_to n (n * exits_at) words f.exit f))
+pub data Quieted (n exits : ℕ) (words : List ℕ) (f : Progress) : ControlFlow Reached Progress → Type 0 where
+  nothing : f.at ≡ f.count → f.exit ≡ exits → Quieted n exits words f (Break (Reached.Nothing f.count f.watched))
+  register : f.at < f.count → (f.exit < exits → HeadFrom n (n * exits_at) words f.exit (moved_to n (n * labels_at) words f.at f).weight (moved_to n (n * labels_at) words f.at f).steps) → Quieted n exits words f (Continue (moved_to n (n * labels_at) words f.at f))
+  fifo : f.exit < exits → (f.at < f.count → HeadFrom n (n * labels_at) words f.at (moved_to n (n * exits_at) words f.exit f).weight (moved_to n (n * exits_at) words f.exit f).steps) → Quieted n exits words f (Continue (moved_to n (n * exits_at) words f.exit f))
 
 -- the table grew, or a label waits that has come
 pub data Advance (n exits : ℕ) (old new : List ℕ) (f g : Progress) : Type 0 where
@@ -58,10 +60,15 @@ pub record Ended (R : Rules) (n f exits : ℕ) (words : List ℕ) (count watched
   pub covers : (g : ℕ) → f ≡ suc g → (w t : ℕ) → Covers (After R g fifo_code) w t (labels_of n (n * exits_at) words)
   pub exits_ordered : (g : ℕ) → f ≡ suc g → Ordered n (n * exits_at) words watched
 
-pub data TurnDone (R : Rules) (n side exits : ℕ) (old : List ℕ) (f : Progress) (new : List ℕ) : Turn → Type 0 where
-  on : (g : Progress) → WaitingOf R n side exits new g → Advance n exits old new f g → TurnDone R n side exits old f new (Turn.On g)
-  sink : (k s count : ℕ) → side ≡ 0 → Reaching R n exits new k s count → TurnDone R n side exits old f new (Turn.Sink k s count)
-  nothing : (count watched : ℕ) → Ended R n side exits new count watched → TurnDone R n side exits old f new (Turn.Nothing count watched)
+-- how the search of a side ends: at the sink, or with nothing left to do
+pub data SearchDone (R : Rules) (n side exits : ℕ) (new : List ℕ) : Reached → Type 0 where
+  sink : (k s count : ℕ) → side ≡ 0 → Reaching R n exits new k s count → SearchDone R n side exits new (Reached.Sink k s count)
+  nothing : (count watched : ℕ) → Ended R n side exits new count watched → SearchDone R n side exits new (Reached.Nothing count watched)
+
+-- a turn goes on, or it ends the search
+pub data TurnDone (R : Rules) (n side exits : ℕ) (old : List ℕ) (f : Progress) (new : List ℕ) : ControlFlow Reached Progress → Type 0 where
+  on : (g : Progress) → WaitingOf R n side exits new g → Advance n exits old new f g → TurnDone R n side exits old f new (Continue g)
+  ends : (r : Reached) → SearchDone R n side exits new r → TurnDone R n side exits old f new (Break r)
 
 -- The words past the lists and flags stay; but on a side after a FIFO the FIFOs' labels are written.
 pub record Beyond (n side : ℕ) (old new : List ℕ) : Type 0 where
@@ -69,7 +76,7 @@ pub record Beyond (n side : ℕ) (old new : List ℕ) : Type 0 where
   pub exits : side ≡ 0 → Kept (n * exits_at) (n * aside_at) old new
   pub rest : KeptFrom (n * aside_at) old new
 
-pub record TurnEffect (R : Rules) (n side exits : ℕ) (old : List ℕ) (f : Progress) (new : List ℕ) (t : Turn) : Type 0 where
+pub record TurnEffect (R : Rules) (n side exits : ℕ) (old : List ℕ) (f : Progress) (new : List ℕ) (t : ControlFlow Reached Progress) : Type 0 where
   pub same : length new ≡ length old
   pub beyond : Beyond n side old new
   pub done : TurnDone R n side exits old f new t

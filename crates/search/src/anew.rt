@@ -5,7 +5,8 @@ ghost use Rattle.problem.specs.Net.{fifo_of};
 ghost use Rattle.table.specs.Problem.{NetReady, Room, net_rules};
 ghost use Rattle.search.specs.Search.{SideAsks, SearchEffect};
 
-use crate::loops::{Reached, search};
+use crate::loops::search;
+use crate::turns::Reached;
 use costs::COSTS;
 use layout::{ARRIVAL, LABELS, TRAIL};
 use problem::Net;

@@ -14,25 +14,16 @@ fn no_less(costs: &[u16; COSTS], a: usize, b: usize, from: usize) -> bool
     requires { (a + row_words ≤ cost_words) × (b + row_words ≤ cost_words) }
     ensures { NoLess costs.now a b from result }
 {
-    let mut l = from;
-    while l < ROW {
-        if costs[a + l] < costs[b + l] {
-            return false;
-        }
-        l += 1;
-    }
-    true
+    (from..ROW).all(|l| costs[a + l] >= costs[b + l])
 }
 
 // At all loads from this one on.
 fn idle_from(costs: &[u16; COSTS], from: usize) -> Idle
     ensures { IdleFrom costs.now from result }
 {
-    let registers = no_less(costs, REGISTER, FIFO, from);
-    let fifos = no_less(costs, FIFO, REGISTER, from);
     Idle {
-        registers: registers,
-        fifos: fifos,
+        registers: no_less(costs, REGISTER, FIFO, from),
+        fifos: no_less(costs, FIFO, REGISTER, from),
     }
 }
 
@@ -46,8 +37,5 @@ pub fn idle_gates(net: Net, costs: &[u16; COSTS], exits: usize) -> Idle
     }
     let horizontal = net.problem.elements.horizontal.load().0 as usize;
     let vertical = net.problem.elements.vertical.load().0 as usize;
-    if vertical < horizontal {
-        return idle_from(costs, vertical);
-    }
-    idle_from(costs, horizontal)
+    idle_from(costs, horizontal.min(vertical))
 }

@@ -7,4 +7,4 @@ mod loops;
 mod turns;
 
 pub use anew::search_anew;
-pub use loops::Reached;
+pub use turns::Reached;

@@ -7,19 +7,12 @@ ghost use Rattle.table.specs.Problem.{NetReady, Room, net_rules};
 ghost use Rattle.search.specs.Search.{Blank, SideAsks, Sourced, SearchEffect};
 
 use crate::idle::idle_gates;
-use crate::turns::{Progress, Turn, take_turn};
+use crate::turns::{Progress, Reached, take_turn};
 use costs::COSTS;
 use labels::{arrive_both, label};
 use layout::LABELS;
 use problem::Net;
-
-#[derive(Clone, Copy)]
-pub enum Reached {
-    // The least weight after the first span, and steps, from the sink; the count of labels.
-    Sink(u32, u32, usize),
-    // All that can be done on this side is known: the counts of its labels, and of those of the FIFOs that lead here.
-    Nothing(usize, usize),
-}
+use std::ops::ControlFlow;
 
 // The source is labelled, if this is its side. The count of labels.
 fn label_source(scratch: &mut [u16], n: usize, side: usize, fifos: usize, source: usize) -> usize
@@ -28,9 +21,10 @@ fn label_source(scratch: &mut [u16], n: usize, side: usize, fifos: usize, source
 {
     if side == fifos {
         label(scratch, n, n * LABELS, source, 0, 0, 0);
-        return 1;
+        1
+    } else {
+        0
     }
-    0
 }
 
 // The table, the labels, the lists and the flags start as zeros. So many FIFOs lead on from this side, and their labels stand.
@@ -54,31 +48,22 @@ pub fn search(
         steps: 0,
         active: a.active,
         at: a.at,
-        count: count,
+        count,
         exit: a.exit,
         watched: 0,
     };
     loop {
-        let t = take_turn(plan, scratch, net, costs, side, exits, f);
-        match t {
-            Turn::Sink(weight, steps, labels) => {
-                return Reached::Sink(weight, steps, labels);
-            }
-            Turn::Nothing(labels, watched) => {
-                return Reached::Nothing(labels, watched);
-            }
-            Turn::On(g) => {
+        match take_turn(plan, scratch, net, costs, side, exits, f) {
+            ControlFlow::Break(reached) => return reached,
+            ControlFlow::Continue(g) => {
                 let b = arrive_both(
                     scratch, n, g.at, g.count, g.exit, exits, g.weight, g.steps, g.active, idle,
                 );
                 f = Progress {
-                    weight: g.weight,
-                    steps: g.steps,
                     active: b.active,
                     at: b.at,
-                    count: g.count,
                     exit: b.exit,
-                    watched: g.watched,
+                    ..g
                 };
             }
         }

@@ -10,6 +10,7 @@ use costs::COSTS;
 use labels::{fresh_in, is_after, label_active, steps_of, weight_word};
 use layout::{EXITS, LABELS, ORDER};
 use problem::Net;
+use std::ops::ControlFlow;
 use table::next_layer;
 use trail::no_trail;
 
@@ -28,13 +29,18 @@ pub struct Progress {
 }
 
 #[derive(Clone, Copy)]
-pub enum Turn {
-    // Labels that are not after this weight and these steps are to become seeds.
-    On(Progress),
-    // The sink is reached: weight after the first span, steps, labels.
-    Sink(u32, u32, usize),
-    // All that can be done on this side is known: labels, and those of the FIFOs that lead here.
-    Nothing(usize, usize),
+pub enum Reached {
+    // The least weight after the first span, and steps, from the sink; the count of labels.
+    Sink {
+        weight: u32,
+        steps: u32,
+        labels: usize,
+    },
+    // All that can be done on this side is known: the counts of its labels, and of those of the FIFOs that lead here.
+    Nothing {
+        labels: usize,
+        watched: usize,
+    },
 }
 
 // On to the label at this place of a set's order.
@@ -43,43 +49,42 @@ fn move_to(scratch: &[u16], n: usize, set: usize, at: usize, f: Progress) -> Pro
     ensures { result ≡ moved_to n set scratch.now at f }
 {
     let first = scratch[set + n * ORDER + at] as usize;
-    let weight = weight_word(scratch, n, set, first) - 1;
-    let steps = steps_of(scratch, n, set, first);
     Progress {
-        weight: weight,
-        steps: steps,
+        weight: weight_word(scratch, n, set, first) - 1,
+        steps: steps_of(scratch, n, set, first),
         active: 0,
-        at: f.at,
-        count: f.count,
-        exit: f.exit,
-        watched: f.watched,
+        ..f
     }
 }
 
 // After a layer that changed nothing: the earlier of the first labels that wait, if one does.
-fn after_quiet(scratch: &[u16], n: usize, exits: usize, f: Progress) -> Turn
+fn after_quiet(
+    scratch: &[u16],
+    n: usize,
+    exits: usize,
+    f: Progress,
+) -> ControlFlow<Reached, Progress>
     requires { QuietAsks n exits scratch.now f }
     ensures { Quieted n exits scratch.now f result }
 {
-    let at = f.at;
-    let exit = f.exit;
-    if exit == exits {
-        if at == f.count {
-            return Turn::Nothing(f.count, f.watched);
+    if f.exit == exits {
+        if f.at == f.count {
+            return ControlFlow::Break(Reached::Nothing {
+                labels: f.count,
+                watched: f.watched,
+            });
         }
-        let g = move_to(scratch, n, n * LABELS, at, f);
-        return Turn::On(g);
+        return ControlFlow::Continue(move_to(scratch, n, n * LABELS, f.at, f));
     }
-    let g = move_to(scratch, n, n * EXITS, exit, f);
-    if at == f.count {
-        return Turn::On(g);
+    let g = move_to(scratch, n, n * EXITS, f.exit, f);
+    if f.at == f.count {
+        return ControlFlow::Continue(g);
     }
-    let first = scratch[n * LABELS + n * ORDER + at] as usize;
+    let first = scratch[n * LABELS + n * ORDER + f.at] as usize;
     if is_after(scratch, n, n * LABELS, first, g.weight, g.steps) {
-        return Turn::On(g);
+        return ControlFlow::Continue(g);
     }
-    let h = move_to(scratch, n, n * LABELS, at, f);
-    Turn::On(h)
+    ControlFlow::Continue(move_to(scratch, n, n * LABELS, f.at, f))
 }
 
 // The sink's start state has come into the table; only its own side knows it.
@@ -87,11 +92,7 @@ fn at_sink(scratch: &[u16], net: Net, side: usize) -> bool
     requires { RegisterInRange net.problem.elements.register × (net.problem.sink * row_words + row_words ≤ length scratch.now) }
     ensures { AtSink net side scratch.now result }
 {
-    if side == 0 {
-        let register = net.problem.elements.register;
-        return fresh_in(scratch, register, net.problem.sink);
-    }
-    false
+    side == 0 && fresh_in(scratch, net.problem.elements.register, net.problem.sink)
 }
 
 // The FIFOs that lead to this side are labelled, if any do; the new count of their labels.
@@ -124,20 +125,23 @@ pub fn take_turn(
     side: usize,
     exits: usize,
     f: Progress,
-) -> Turn
+) -> ControlFlow<Reached, Progress>
     requires { TurnAsks net plan.now costs.now side exits scratch.old f }
     ensures { TurnEffect (net_rules net plan.now) (length plan.now) side exits scratch.old f scratch.new result }
 {
     let n = plan.len();
     let top = 2 * net.period(side) + 1;
-    let grown = next_layer(plan, scratch, net, top, costs, f.active, no_trail());
-    let active = grown.count;
+    let active = next_layer(plan, scratch, net, top, costs, f.active, no_trail()).count;
     if active == 0 {
         return after_quiet(scratch, n, exits, f);
     }
     let steps = f.steps + 1;
     if at_sink(scratch, net, side) {
-        return Turn::Sink(f.weight, steps, f.count);
+        return ControlFlow::Break(Reached::Sink {
+            weight: f.weight,
+            steps,
+            labels: f.count,
+        });
     }
     let weight = f.weight + net.weight(side);
     let count = label_active(
@@ -152,13 +156,11 @@ pub fn take_turn(
         f.count,
     );
     let watched = watch(plan, scratch, net, side, active, weight, steps, f.watched);
-    Turn::On(Progress {
-        weight: f.weight,
-        steps: steps,
-        active: active,
-        at: f.at,
-        count: count,
-        exit: f.exit,
-        watched: watched,
+    ControlFlow::Continue(Progress {
+        steps,
+        active,
+        count,
+        watched,
+        ..f
     })
 }

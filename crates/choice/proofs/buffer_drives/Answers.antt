@@ -2,7 +2,6 @@
 use Prim.Native.Nat.{◌+◌}
 use mathlib.Core.Path.{◌≡◌, sym, ◌∙◌}
 use native.Mathlib.Omega.{arith}
-use borrow.Author.Tests.{not-true, not-false}
 use lib.Dec.{leb}
 use Rattle.timing.specs.Elements.{buffer_of, driver_of}
 use Rattle.timing.specs.Formulas.{gate_delay, buffer_driver, buffer_load}
@@ -17,9 +16,9 @@ fits : (c : After-at_most) → let a = c.args in leb (buffer_load (buffer_at a.e
 unfolding buffer_at buffer_of driver_of
 fits c = sym (rw c.load-own.ensures at c.at_most.ensures)
 
-pub returns-then-not-at_most : goal.returns-then-not-at_most
+pub returns-else-at_most : goal.returns-else-at_most
 unfolding drives
-returns-then-not-at_most c = simp (fits (goal.at.returns-then-not-at_most c).After-at_most ∙ not-true _ c.if-not-at_most.true-raw)
+returns-else-at_most c = let no = fits (goal.at.returns-else-at_most c).After-at_most ∙ c.if-at_most.false in simp no c.if-at_most.false
 
 pub after-requires : goal.after-requires
 unfolding buffer_at buffer_of driver_of
@@ -32,11 +31,11 @@ unfolding buffer_at buffer_of driver_of
 budget_at-requires c =
     (omega (arith, c.load-own.ensures, buffer-load-most c.requires.0.valid c.args.i (omega arith)), c.requires.0.row)
 
-pub returns : goal.returns
+pub returns-then-at_most : goal.returns-then-at_most
 unfolding drives buffer_at buffer_of driver_of
-returns c =
+returns-then-at_most c =
     let b = buffer_at c.args.elements c.args.i in
     let load : c.load-own.result.0 ≡ buffer_load b = c.load-own.ensures in
     let driver : c.driver.result ≡ buffer_driver b = c.driver.ensures in
     let after : c.after.result.0 ≡ c.args.at.delay.0 + gate_delay (buffer_driver b) c.args.at.load.0 = rw driver at c.after.ensures in
-    simp (c.below.ensures, after, c.budget_at.ensures, load, fits (goal.at.returns c).After-at_most ∙ not-false _ c.if-not-at_most.false-raw)
+    simp (c.below.ensures, after, c.budget_at.ensures, load, fits (goal.at.returns-then-at_most c).After-at_most ∙ c.if-at_most.true)

@@ -22,12 +22,12 @@ returns-then-not-may_close c =
 
 pub slack-requires : goal.slack-requires
 slack-requires c =
-    (rw c.gate-closer.ensures (net-gate-in c.args.net c.args.plan.now c.requires.0.ready _), (rw c.period-period.ensures (period-most c.args.net c.args.plan.now c.requires.0.ready c.args.at), (c.requires.0.ready.ready.valid.skew, (c.requires.0.light, omega (arith, c.requires.0.early)))))
+    (rw c.gate-closer.ensures (net-gate-in c.args.net c.args.plan.now c.requires.0.ready _), (rw c.period.ensures (period-most c.args.net c.args.plan.now c.requires.0.ready c.args.at), (c.requires.0.ready.ready.valid.skew, (c.requires.0.light, omega (arith, c.requires.0.early)))))
 
 pub returns : goal.returns
 returns c =
     let figure = to_z-of_z {w = w32} {z = c.slack.result} (record { sfits = c.slack.type_inv }) in
-    let is : c.slack.result ≡ slack_with c.args.net c.args.at c.args.code = rw (c.gate-closer.ensures, c.period-period.ensures) at c.slack.ensures in
+    let is : c.slack.result ≡ slack_with c.args.net c.args.at c.args.code = rw (c.gate-closer.ensures, c.period.ensures) at c.slack.ensures in
     let seed = sym c.may_close.ensures ∙ not-false _ c.if-not-may_close.false-raw in
     ap (le_z (pos 0)) (figure ∙ is)
     ∙ sym (goes-closing c.args.net c.args.plan.now c.args.exits c.args.scratch.now c.args.at c.requires.0 c.args.code c.requires.1 ∙ simp seed)

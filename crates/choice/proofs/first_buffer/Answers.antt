@@ -1,23 +1,24 @@
-use mathlib.Core.Path.{sym, ◌∙◌}
-use native.Mathlib.Omega.{arith}
-use borrow.Author.Count.{below_more}
-use lib.Dec.{T_not}
+-- The closure tells of each buffer whether it drives, and `find` takes the first that does.
+use Rattle.std.specs.Prelude.{Option, Some, None, MatchOption}
+use Rattle.std.proofs.Common.{◌≡◌, ℕ, ◌≤◌, ◌<◌, Bool, true, false, List, arith, rules}
+use Rattle.std.proofs.lemmas.Iterator.{first_from_Range}
+use Rattle.timing.specs.declared.elements.Elements.{Elements}
 use Rattle.plan.proofs.Truth.{of-true, of-false}
-use Rattle.choice.specs.Codes.{drives}
+use lib.Dec.{T_not}
+use Rattle.choice.specs.declared.State.{State}
+use Rattle.choice.specs.Codes.{drives, FirstBuffer}
 use Rattle.choice.proofs.first_buffer.Goals as goal
 
-pub returns-then-buffer_drives : goal.returns-then-buffer_drives
-returns-then-buffer_drives c =
-    let loop = c.loop-i in
+first : (words : List ℕ) (e : Elements) (at : State) (r : Option ℕ) → MatchOption r ((k : ℕ) → 0 ≤ k → k < e.count → drives words e at k ≡ false) (λ i. (0 ≤ i) × (i < e.count) × (drives words e at i ≡ true) × ((k : ℕ) → 0 ≤ k → k < i → drives words e at k ≡ false)) → FirstBuffer words e at r
+first words e at None h = λ k l t. T_not (drives words e at k) (of-false (drives words e at k) (h k (omega arith) l)) t
+first words e at (Some i) h =
     record {
-      within = omega arith;
-      found = λ h. of-true (drives _ _ _ _) (sym c.buffer_drives.ensures ∙ c.if-buffer_drives.true);
-      is_first = loop.invariant.1;
+      within = h.1;
+      found = of-true (drives words e at i) h.2;
+      is_first = λ k l t. T_not (drives words e at k) (of-false (drives words e at k) (h.3 k (omega arith) l)) t;
     }
 
-pub loop-i-preserved : goal.loop-i-preserved
-loop-i-preserved c =
-    (omega arith, below_more _ _ c.loop-i.invariant.1 (λ t. T_not (drives _ _ _ _) (of-false (drives _ _ _ _) (sym c.buffer_drives.ensures ∙ c.if-buffer_drives.false)) t))
-
 pub returns : goal.returns
-returns c = record { within = omega arith; found = λ h. absurd (omega arith); is_first = c.loop-i.invariant.1 }
+returns c =
+    first c.args.scratch.now c.args.elements c.args.at c.find.result
+    (first_from_Range _ _ _ c.find.result (λ i. drives c.args.scratch.now c.args.elements c.args.at i ≡ true) (λ i. drives c.args.scratch.now c.args.elements c.args.at i ≡ false) c.find.ensures.ran (λ x q k. search rules) (λ x q k. search rules))

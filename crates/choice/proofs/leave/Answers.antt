@@ -17,21 +17,13 @@ use Rattle.costs.proofs.Checked.{buffer-driver-fits}
 use Rattle.choice.proofs.Codes.{below-open, high-closes}
 use Rattle.choice.proofs.leave.Goals as goal
 
-pub returns-then-code-eq0 : goal.returns-then-code-eq0
+pub returns-in-0 : goal.returns-in-0
 unfolding left_load left_delay left_weight left_slack
-returns-then-code-eq0 c =
-    let code = c.args.code in
-    let unclosed = below-open code (omega (arith, c.if-code-eq0.true)) in
-    let passes = is_false (is_closing code) unclosed in
-    record {
-      cell = refl;
-      load = simp (eq-eqb code no_gate c.if-code-eq0.true);
-      delay = simp (eq-eqb code no_gate c.if-code-eq0.true);
-      weight = simp passes;
-      steps = refl;
-      slack = simp passes;
-      side = sym (side-kept _ code unclosed);
-    }
+returns-in-0 c =
+    rw c.in-0.is
+    (let unclosed = below-open no_gate (omega arith) in
+    let passes = is_false (is_closing no_gate) unclosed in
+    record { cell = refl; load = refl; delay = refl; weight = simp passes; steps = refl; slack = simp passes; side = sym (side-kept _ no_gate unclosed) })
 
 pub slack-close-requires : goal.slack-close-requires
 slack-close-requires c =
@@ -41,23 +33,23 @@ pub start_delay-requires : goal.start_delay-requires
 start_delay-requires c =
     rw c.gate-gate.ensures c.requires.gate
 
-pub returns-then-code-ge7 : goal.returns-then-code-ge7
+pub returns-in_default : goal.returns-in_default
 unfolding left_load left_delay left_weight left_slack
-returns-then-code-ge7 c =
+returns-in_default c =
     let at = c.args.at in
     let code = c.args.code in
-    let shuts = is_true (is_closing code) (high-closes code c.requires.small c.if-code-ge7.true) in
-    let some = c.if-code-eq0.false in
+    let shuts = is_true (is_closing code) (high-closes code c.requires.small (omega arith)) in
+    let some : code ≡ no_gate → ⊥ = λ e. omega arith in
     let gate = c.gate-gate.ensures in
     let side = c.side_after-side.ensures in
-    let own = to_z-of_z {w = w32} {z = at.slack} (record { sfits = c.struct_told-1.given.1.1.1.1.1.0.1 }) in
+    let own = to_z-of_z {w = w32} {z = at.slack} (record { sfits = c.struct_told-in_default-1.given.1.1.1.1.1.0.1 }) in
     let close = to_z-of_z {w = w32} {z = c.slack-close.result} (record { sfits = c.slack-close.type_inv }) in
     let made = to_z-of_z {w = w32} {z = c.smaller_slack.result} (record { sfits = c.smaller_slack.type_inv }) in
     record {
       cell = refl;
-      load = simp (ne_eqb code no_gate some, shuts) (rw gate at c.load.ensures);
+      load = simp (ne_eqb code no_gate some, shuts) (rw gate at c.load-in_default.ensures);
       delay = simp (ne_eqb code no_gate some, shuts) (rw gate at c.start_delay.ensures);
-      weight = simp shuts (rw (c.weight.ensures, side) at c.fewer.ensures);
+      weight = simp shuts (rw (c.weight.ensures, side) at c.saturating_sub.ensures);
       steps = refl;
       slack = simp shuts (made ∙ (c.smaller_slack.ensures ∙ ap₂ smaller own (close ∙ rw (gate, c.period.ensures) at c.slack-close.ensures)));
       side = side;
@@ -67,23 +59,23 @@ pub after-requires : goal.after-requires
 unfolding buffer_at buffer_of driver_of
 after-requires c =
     let driver : c.driver.result ≡ buffer_driver (buffer_at c.args.net.problem.elements (c.args.code - 1)) = c.driver.ensures in
-    (rw driver (buffer-driver-fits c.requires.valid (c.args.code - 1) (omega (arith, c.if-code-ge7.false))), (c.requires.light, omega (arith, c.requires.early)))
+    (rw driver (buffer-driver-fits c.requires.valid (c.args.code - 1) (omega arith)), (c.requires.light, omega (arith, c.requires.early)))
 
-pub returns : goal.returns
+pub returns-in-1-to-6 : goal.returns-in-1-to-6
 unfolding left_load left_delay left_weight left_slack buffer_at buffer_of driver_of
-returns c =
+returns-in-1-to-6 c =
     let code = c.args.code in
     let b = buffer_at c.args.net.problem.elements (code - 1) in
-    let some = c.if-code-eq0.false in
-    let unclosed = below-open code (omega (arith, c.if-code-ge7.false)) in
+    let some : code ≡ no_gate → ⊥ = λ e. omega arith in
+    let unclosed = below-open code (omega arith) in
     let passes = is_false (is_closing code) unclosed in
     let driver : c.driver.result ≡ buffer_driver b = c.driver.ensures in
     record {
       cell = refl;
-      load = simp (ne_eqb code no_gate some, passes) c.load-2.ensures;
+      load = simp (ne_eqb code no_gate some, passes) c.load.ensures;
       delay = simp (ne_eqb code no_gate some, passes) (rw driver at c.after.ensures);
       weight = simp passes;
       steps = refl;
-      slack = simp passes (to_z-of_z {w = w32} {z = c.args.at.slack} (record { sfits = c.struct_told-2-1.given.1.1.1.1.1.0.1 }));
+      slack = simp passes (to_z-of_z {w = w32} {z = c.args.at.slack} (record { sfits = c.struct_told-1.given.1.1.1.1.1.0.1 }));
       side = sym (side-kept _ code unclosed);
     }

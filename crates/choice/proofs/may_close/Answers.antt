@@ -2,6 +2,9 @@
 use mathlib.Core.Path.{◌≡◌, sym, ◌∙◌}
 use mathlib.Core.Logic.{⊎_elim}
 use native.Mathlib.Omega.{arith}
+use lib.Dec.{eqb}
+use mathlib.Core.Bool.{not}
+use Rattle.plan.proofs.Truth.{is_false}
 use Rattle.rules.specs.Rules.{fifo_code}
 use Rattle.rules.proofs.View.{closing-codes}
 use Rattle.labels.proofs.Labels.{labels-register, labels-fifo, labels-no-fifo, set-in, exits-in}
@@ -22,15 +25,16 @@ returns-then-code-eq7 c =
     c.is_seed.ensures
     ∙ sym (seed-code c.args.n c.args.exits c.args.scratch.now c.args.at c.args.code _ (rw c.if-code-eq7.true (labels-register c.args.n c.args.exits c.args.scratch.now)))
 
-pub returns-then-exits-eq0 : goal.returns-then-exits-eq0
-returns-then-exits-eq0 c =
-    sym (seed-code c.args.n c.args.exits c.args.scratch.now c.args.at c.args.code _ (rw (fifo (goal.at.returns-then-exits-eq0 c).Else-code-eq7) (labels-no-fifo c.args.n c.args.exits c.args.scratch.now c.if-exits-eq0.true)) ∙ no-labels-seed c.args.at)
+pub returns-then-exits-ne0 : goal.returns-then-exits-ne0
+returns-then-exits-ne0 c =
+    c.is_seed-then-exits-ne0.ensures
+    ∙ sym (seed-code c.args.n c.args.exits c.args.scratch.now c.args.at c.args.code _ (rw (fifo (goal.at.returns-then-exits-ne0 c).Else-code-eq7) (labels-fifo c.args.n c.args.exits c.args.scratch.now (omega (arith, c.if-exits-ne0.true)))))
 
-pub is_seed-requires-2 : goal.is_seed-requires-2
-is_seed-requires-2 c =
-    (exits-in _ _ c.requires.0.small (c.requires.0.exits_in (omega (arith, c.if-exits-eq0.false))), c.requires.0.in_plan)
+pub returns-else-exits-ne0 : goal.returns-else-exits-ne0
+returns-else-exits-ne0 c =
+    let zero = is_false (not (eqb c.args.exits 0)) (rw c.if-exits-ne0.false tt) in
+    zero ∙ sym (seed-code c.args.n c.args.exits c.args.scratch.now c.args.at c.args.code _ (rw (fifo (goal.at.returns-else-exits-ne0 c).Else-code-eq7) (labels-no-fifo c.args.n c.args.exits c.args.scratch.now c.if-exits-ne0.false)) ∙ no-labels-seed c.args.at)
 
-pub returns : goal.returns
-returns c =
-    c.is_seed-2.ensures
-    ∙ sym (seed-code c.args.n c.args.exits c.args.scratch.now c.args.at c.args.code _ (rw (fifo (goal.at.returns c).Else-code-eq7) (labels-fifo c.args.n c.args.exits c.args.scratch.now (omega (arith, c.if-exits-eq0.false)))))
+pub is_seed-requires-then-exits-ne0 : goal.is_seed-requires-then-exits-ne0
+is_seed-requires-then-exits-ne0 c =
+    (exits-in _ _ c.requires.0.small (c.requires.0.exits_in (omega (arith, c.if-exits-ne0.true))), c.requires.0.in_plan)

@@ -7,5 +7,5 @@ use Rattle.choice.proofs.side_after.Goals as goal
 pub returns-then-code-eq8 : goal.returns-then-code-eq8
 returns-then-code-eq8 c = rw (side-fifo _ _ c.if-code-eq8.true) (add-one _)
 
-pub returns : goal.returns
-returns c = sym (side_same _ _ c.if-code-eq8.false)
+pub returns-else-code-eq8 : goal.returns-else-code-eq8
+returns-else-code-eq8 c = sym (side_same _ _ c.if-code-eq8.false)

@@ -19,7 +19,7 @@ use Rattle.choice.specs.Choice.{FirstVisit}
 use Rattle.emission.specs.Emission.{RoomOrNone, Emitting}
 use Rattle.emission.proofs.Visits.{emit-start, emit-next, emit-nothing, emit-done, pass-room, chosen-visit}
 use Rattle.emission.proofs.emit.Goals as goal
-use Rattle.emission.proofs.emit.Goals.{At-loop-at, In-Visit}
+use Rattle.emission.proofs.emit.Goals.{At-loop-at, In-Some, else-loop-at-test, then-loop-at-test+in_default}
 
 -- the entry, and what the loop keeps at its head
 
@@ -38,8 +38,8 @@ pub put_visit-requires : goal.put_visit-requires
 put_visit-requires c =
     record { cell_fits = omega (arith, c.requires.ready.ready.sink, few-cells _ _ c.requires.ready.ready); place_fits = omega arith; fits = narrower c.requires.fits (omega arith) }
 
-pub start_delay-delay-requires : goal.start_delay-delay-requires
-start_delay-delay-requires c = c.requires.ready.ready.valid.register
+pub start_delay-requires : goal.start_delay-requires
+start_delay-requires c = c.requires.ready.ready.valid.register
 
 pub loop-at-init : goal.loop-at-init
 unfolding net_rules rules_between rules_of register_load setup_delay
@@ -47,11 +47,11 @@ loop-at-init c = λ v q.
     let x = c.requires.reaching in
     let w = c.requires.ready.ready.valid.register in
     rw (q, c.no_layers-layers.ensures)
-    (emit-start _ (ready-lawful _ _ c.requires.ready) _ _ _ _ _ v x.before _ _ refl c.load-load.ensures c.start_delay-delay.ensures refl refl refl refl
+    (emit-start _ (ready-lawful _ _ c.requires.ready) _ _ _ _ _ v x.before _ _ refl c.load.ensures c.start_delay.ensures refl refl refl refl
     (record {
       in_plan = c.requires.ready.ready.sink;
-      light = omega (arith, c.load-load.ensures, w.load);
-      early = omega (arith, c.start_delay-delay.ensures, w.setup);
+      light = omega (arith, c.load.ensures, w.load);
+      early = omega (arith, c.start_delay.ensures, w.setup);
     })
     x c.requires.ahead)
 
@@ -69,31 +69,31 @@ load_layer-layers-requires c =
       in_step = label-in-step (ready-lawful _ _ c.requires.ready) (head (goal.at.load_layer-layers-requires c).At-loop-at).labels;
     }
 
-pub choose-choice-requires : goal.choose-choice-requires
-choose-choice-requires c =
+pub choose-requires : goal.choose-requires
+choose-requires c =
     let l = c.load_layer-layers.ensures in
     record {
       ready = c.requires.ready;
-      room = omega (arith, c.requires.room, (head (goal.at.choose-choice-requires c).At-loop-at).same, l.same);
-      exits_in = λ h. omega (arith, ((head (goal.at.choose-choice-requires c).At-loop-at).ahead h).1.room, l.same);
-      in_range = (head (goal.at.choose-choice-requires c).At-loop-at).in_range;
+      room = omega (arith, c.requires.room, (head (goal.at.choose-requires c).At-loop-at).same, l.same);
+      exits_in = λ h. omega (arith, ((head (goal.at.choose-requires c).At-loop-at).ahead h).1.room, l.same);
+      in_range = (head (goal.at.choose-requires c).At-loop-at).in_range;
       more = omega (arith, c.loop-at-test.true);
-      few = omega (arith, (head (goal.at.choose-choice-requires c).At-loop-at).sides);
+      few = omega (arith, (head (goal.at.choose-requires c).At-loop-at).sides);
     }
 
 -- the visit that was chosen
-abbrev words : In-Visit → List ℕ
+abbrev words : In-Some → List ℕ
 words c = c.load_layer-layers.new.scratch
 
-chosen : (c : In-Visit) → FirstVisit (R (goal.at.In-Visit c).At-loop-at) (length c.args.plan.now) (labels_for (length c.args.plan.now) c.loop-at.left.exits (words c)) (budget_of (length c.args.plan.now) (words c)) c.loop-at.at (λ cell. T ((R (goal.at.In-Visit c).At-loop-at).linked c.loop-at.at.cell cell)) c.in-Visit.code c.in-Visit.to
+chosen : (c : In-Some) → FirstVisit (R (goal.at.In-Some c).At-loop-at) (length c.args.plan.now) (labels_for (length c.args.plan.now) c.loop-at.left.exits (words c)) (budget_of (length c.args.plan.now) (words c)) c.loop-at.at (λ cell. T ((R (goal.at.In-Some c).At-loop-at).linked c.loop-at.at.cell cell)) c.in-Some.visit.code c.in-Some.visit.state
 chosen c =
-    chosen-visit c.choose-choice.ensures c.in-Visit.code c.in-Visit.to c.in-Visit.is
+    chosen-visit (rw c.in-Some.is at c.choose.ensures)
 
-pub put_visit-requires-in-Visit : goal.put_visit-requires-in-Visit
-put_visit-requires-in-Visit c =
-    let e = head (goal.at.put_visit-requires-in-Visit c).At-loop-at in
+pub put_visit-requires-in-loop-at : goal.put_visit-requires-in-loop-at
+put_visit-requires-in-loop-at c =
+    let e = head (goal.at.put_visit-requires-in-loop-at c).At-loop-at in
     record {
-      cell_fits = omega (arith, (chosen (goal.at.put_visit-requires-in-Visit c).In-Visit).in_range.in_plan, few-cells _ _ c.requires.ready.ready);
+      cell_fits = omega (arith, (chosen (goal.at.put_visit-requires-in-loop-at c).In-Some).in_range.in_plan, few-cells _ _ c.requires.ready.ready);
       place_fits = omega (arith, e.placed, e.whole, c.ranges.steps.fits);
       fits = rw e.kept (narrower c.requires.fits (omega (arith, e.placed, e.whole, c.loop-at-test.true)));
     }
@@ -102,7 +102,7 @@ pub pass-left-requires : goal.pass-left-requires
 pass-left-requires c =
     record {
       few = few-cells _ _ c.requires.ready.ready;
-      room = pass-room _ (ready-lawful _ _ c.requires.ready) _ _ _ _ _ _ _ _ _ _ _ _ _ (head (goal.at.pass-left-requires c).At-loop-at) (omega (arith, c.loop-at-test.true)) _ _ c.load_layer-layers.ensures _ _ (chosen (goal.at.pass-left-requires c).In-Visit);
+      room = pass-room _ (ready-lawful _ _ c.requires.ready) _ _ _ _ _ _ _ _ _ _ _ _ _ (head (goal.at.pass-left-requires c).At-loop-at) (omega (arith, c.loop-at-test.true)) _ _ c.load_layer-layers.ensures _ _ (chosen (goal.at.pass-left-requires c).In-Some);
     }
 
 pub tallied-tally-requires : goal.tallied-tally-requires
@@ -117,31 +117,19 @@ overflow_add-i c =
 
 pub loop-at-smaller : goal.loop-at-smaller
 loop-at-smaller c =
-    omega (arith, (chosen (goal.at.loop-at-smaller c).In-Visit).steps, c.loop-at-test.true)
+    omega (arith, (chosen (goal.at.loop-at-smaller c).In-Some).steps, c.loop-at-test.true)
 
 pub loop-at-preserved : goal.loop-at-preserved
 loop-at-preserved c = λ v q.
-    rw (c.put_visit-in-Visit.ensures, c.pass-left.ensures.1, c.tallied-tally.ensures)
-    (emit-next _ (ready-lawful _ _ c.requires.ready) _ _ _ _ _ v _ _ _ _ _ _ _ (c.loop-at.invariant v q) (omega (arith, c.loop-at-test.true)) _ _ c.load_layer-layers.ensures _ _ (chosen (goal.at.loop-at-preserved c).In-Visit) _ c.pass-left.ensures.0)
-
-pub shape_of-scratch-in-Nothing : goal.shape_of-scratch-in-Nothing
-shape_of-scratch-in-Nothing c = c.load_layer-layers.ensures.same ∙ (head (goal.at.shape_of-scratch-in-Nothing c).At-loop-at).same
-
-pub shape_of-visits-in-Nothing : goal.shape_of-visits-in-Nothing
-shape_of-visits-in-Nothing c = (head (goal.at.shape_of-visits-in-Nothing c).At-loop-at).kept
-
-pub returns-in-Nothing : goal.returns-in-Nothing
-returns-in-Nothing c =
-    absurd
-    (emit-nothing _ (ready-lawful _ _ c.requires.ready) _ _ _ _ _ _ _ _ _ _ _ _ _ (head (goal.at.returns-in-Nothing c).At-loop-at) (omega (arith, c.loop-at-test.true)) _ _ c.load_layer-layers.ensures (rw c.in-Nothing.is at c.choose-choice.ensures))
-
-pub shape_of-scratch : goal.shape_of-scratch
-shape_of-scratch c = (head (goal.at.shape_of-scratch c).At-loop-at).same
-
-pub shape_of-visits : goal.shape_of-visits
-shape_of-visits c = (head (goal.at.shape_of-visits c).At-loop-at).kept
+    rw (c.put_visit-in-loop-at.ensures, c.pass-left.ensures.1, c.tallied-tally.ensures)
+    (emit-next _ (ready-lawful _ _ c.requires.ready) _ _ _ _ _ v _ _ _ _ _ _ _ (c.loop-at.invariant v q) (omega (arith, c.loop-at-test.true)) _ _ c.load_layer-layers.ensures _ _ (chosen (goal.at.loop-at-preserved c).In-Some) _ c.pass-left.ensures.0)
 
 pub returns : goal.returns
 returns c =
-    let figure = to_z-of_z {w = w32} {z = c.loop-at.at.slack} (record { sfits = c.struct_told-2-1.given.1.1.1.1.1.0.1 }) in
-    rw figure (emit-done _ (ready-lawful _ _ c.requires.ready) _ _ _ _ _ _ _ _ _ _ _ _ _ (head (goal.at.returns c).At-loop-at) (omega (arith, c.loop-at-test.false)))
+    let figure = to_z-of_z {w = w32} {z = c.loop-at.at.slack} (record { sfits = c.struct_told-1.given.1.1.1.1.1.0.1 }) in
+    rw figure
+    (elim c.loop-at-test.branch [
+      | else-loop-at-test w ↦ rw w.scratch-is (emit-done _ (ready-lawful _ _ c.requires.ready) _ _ _ _ _ _ _ _ _ _ _ _ _ (head (goal.at.returns c).At-loop-at) (omega (arith, w.loop-at-test.false)))
+      | then-loop-at-test+in_default w ↦ absurd
+          (emit-nothing _ (ready-lawful _ _ c.requires.ready) _ _ _ _ _ _ _ _ _ _ _ _ _ (head (goal.at.returns c).At-loop-at) (omega (arith, w.loop-at-test.true)) _ _ w.load_layer-layers.ensures (rw w.in_default.is at w.choose.ensures))
+    ])

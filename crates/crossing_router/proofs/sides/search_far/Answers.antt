@@ -27,16 +27,13 @@ overflow_mul-n-2 c = omega (arith, few (goal.at.overflow_mul-n-2 c).Start)
 pub clear-requires : goal.clear-requires
 clear-requires c = (omega arith, omega (arith, c.requires.room))
 
-pub search_anew-reached-requires : goal.search_anew-reached-requires
-search_anew-reached-requires c =
+pub search_anew-requires : goal.search_anew-requires
+search_anew-requires c =
     let cleared = c.clear.ensures in
-    (c.requires.ready, (omega (arith, c.requires.room, cleared.same), (far-asks (one-fifo (goal.at.search_anew-reached-requires c).Start) c.requires.room cleared, c.requires.costed)))
+    (c.requires.ready, (omega (arith, c.requires.room, cleared.same), (far-asks (one-fifo (goal.at.search_anew-requires c).Start) c.requires.room cleared, c.requires.costed)))
 
-pub shape_of-scratch-in-Sink : goal.shape_of-scratch-in-Sink
-shape_of-scratch-in-Sink c = c.search_anew-reached.ensures.same ∙ c.clear.ensures.same
-
-pub returns-in-Sink : goal.returns-in-Sink
-returns-in-Sink c = absurd (no-sink c.search_anew-reached.ensures.done _ _ _ c.in-Sink.is)
+pub unreachable-requires : goal.unreachable-requires
+unreachable-requires c = no-sink (rw c.in-Sink.is at c.search_anew.ensures.done)
 
 pub overflow_mul-n-in-Nothing : goal.overflow_mul-n-in-Nothing
 overflow_mul-n-in-Nothing c = omega (arith, few (goal.at.overflow_mul-n-in-Nothing c).Start)
@@ -46,18 +43,14 @@ overflow_mul-n-in-Nothing-2 c = omega (arith, few (goal.at.overflow_mul-n-in-Not
 
 pub copy_set-requires : goal.copy_set-requires
 copy_set-requires c =
-    let long : length c.search_anew-reached.new.scratch ≡ length c.args.scratch.now = c.search_anew-reached.ensures.same ∙ c.clear.ensures.same in
+    let long : length c.search_anew.new.scratch ≡ length c.args.scratch.now = c.search_anew.ensures.same ∙ c.clear.ensures.same in
     record {
       source = record { small = few (goal.at.copy_set-requires c).Start; low = omega (arith, few (goal.at.copy_set-requires c).Start); room = omega (arith, c.requires.room, long) };
       target = record { small = few (goal.at.copy_set-requires c).Start; low = omega (arith, few (goal.at.copy_set-requires c).Start); room = omega (arith, c.requires.room, long) };
       apart = inl (omega arith);
     }
 
-pub shape_of-scratch-in-Nothing : goal.shape_of-scratch-in-Nothing
-shape_of-scratch-in-Nothing c =
-    c.copy_set.ensures.same ∙ (c.search_anew-reached.ensures.same ∙ c.clear.ensures.same)
-
-pub returns-in-Nothing : goal.returns-in-Nothing
-returns-in-Nothing c =
-    let found = c.search_anew-reached.ensures in
-    far-done (one-fifo (goal.at.returns-in-Nothing c).Start) _ _ c.requires.room c.clear.ensures found.same found.beyond (reached-nothing found.done _ _ c.in-Nothing.is) c.copy_set.ensures
+pub returns : goal.returns
+returns c =
+    let found = c.search_anew.ensures in
+    far-done (one-fifo (goal.at.returns c).Start) _ _ c.requires.room c.clear.ensures found.same found.beyond (reached-nothing (rw c.in-Nothing.is at found.done)) c.copy_set.ensures

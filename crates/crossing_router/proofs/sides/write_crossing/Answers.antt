@@ -19,15 +19,15 @@ latency : (c : After-weight) → c.weight.result ≡ (net_rules c.args.net c.arg
 latency c = c.weight.ensures ∙ sym (net-weight c.args.net c.args.plan.now 0)
 
 -- the figure as it was returned
-figure : (c : After-struct_told-1) → let r = c.write_out-written.result in to_z w32 (of_z w32 r.slack) ≡ r.slack
-figure c = to_z-of_z {w = w32} (record { sfits = c.struct_told-1.given.0.1 })
+figure : (c : After-struct_told-1) → let r = c.write_out-written.result in to_z w32 (of_z w32 r.told.slack) ≡ r.told.slack
+figure c = to_z-of_z {w = w32} (record { sfits = omega (arith, c.write_out-written.type_inv) })
 
 pub overflow_add-latency : goal.overflow_add-latency
 overflow_add-latency c =
     omega (arith, latency c, (ready-short _ _ c.requires.0.ready 0 (omega arith) _ c.requires.1.0.least).1)
 
-pub overflow_mul-n : goal.overflow_mul-n
-overflow_mul-n c = omega (arith, few-cells _ _ c.requires.0.ready.ready)
+pub overflow_mul-plan : goal.overflow_mul-plan
+overflow_mul-plan c = omega (arith, few-cells _ _ c.requires.0.ready.ready)
 
 pub write_out-written-requires : goal.write_out-written-requires
 write_out-written-requires c =
@@ -44,12 +44,12 @@ pub returns-then-written : goal.returns-then-written
 returns-then-written c =
     let b = best-at _ _ c.requires.0.ready c.requires.0.two _ _ c.requires.1.0.least in
     let w = c.write_out-written.ensures in
-    rw (figure (goal.at.returns-then-written c).After-struct_told-1, c.without_end-source.ensures, latency (goal.at.returns-then-written c).After-weight)
+    rw (figure (goal.at.returns-then-written c).After-struct_told-1, c.saturating_sub.ensures, latency (goal.at.returns-then-written c).After-weight)
     (done-found _ _ _ _ _ _ _ _ b _ w (made-best w.is_first c.requires.1.0.least (sink-in _ _ c.requires.0.ready c.requires.0.two) _ 0 (cost _ _ c.requires.0.ready c.requires.0.two) b.route b.is_best) c.if-written.true)
 
-pub returns : goal.returns
-returns c =
+pub returns-else-written : goal.returns-else-written
+returns-else-written c =
     let b = best-at _ _ c.requires.0.ready c.requires.0.two _ _ c.requires.1.0.least in
     let w = c.write_out-written.ensures in
-    rw (figure (goal.at.returns c).After-struct_told-1, c.without_end-source.ensures, latency (goal.at.returns c).After-weight)
+    rw (figure (goal.at.returns-else-written c).After-struct_told-1, c.saturating_sub.ensures, latency (goal.at.returns-else-written c).After-weight)
     (done-no-room _ _ _ _ _ _ _ _ b _ w (made-best w.is_first c.requires.1.0.least (sink-in _ _ c.requires.0.ready c.requires.0.two) _ 0 (cost _ _ c.requires.0.ready c.requires.0.two) b.route b.is_best) c.if-written.false)

@@ -37,9 +37,9 @@ returns-then-code-eq8 c =
       simp (eq-eqb _ _ taken),
     )
 
-pub returns : goal.returns
+pub returns-else-code-eq8 : goal.returns-else-code-eq8
 unfolding counts_after
-returns c = (
+returns-else-code-eq8 c = (
   record {
     same = refl;
     stays = λ z. refl;

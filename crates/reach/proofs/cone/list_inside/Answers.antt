@@ -68,32 +68,25 @@ module _ (n : ℕ) (P : ℕ → Bool) (old : List ℕ) where
 
 -- the cell of the turn
 cell_same : (c : In-loop-i) → get_or c.loop-i.scratch (c.args.n * active_at + c.loop-i.i) 0 ≡ get_or c.args.scratch.now (c.args.n * active_at + c.loop-i.i) 0
-cell_same c = c.loop-i.invariant.1.low _ (omega arith)
+cell_same c = c.loop-i.invariant.low _ (omega arith)
 
 cell_below : (c : In-loop-i) → get_or c.loop-i.scratch (c.args.n * active_at + c.loop-i.i) 0 < c.args.n
 cell_below c = omega (arith, cell_same c, c.requires.cells c.loop-i.i (omega arith))
 
 pub loop-i-init : goal.loop-i-init
-loop-i-init c = (omega arith, none_yet _ _ _ c.requires)
+loop-i-init c = none_yet _ _ _ c.requires
 
 pub overflow_cast-cell : goal.overflow_cast-cell
 overflow_cast-cell c = omega (arith, cell_below (goal.at.overflow_cast-cell c).In-loop-i)
 
 pub enlist-count-requires : goal.enlist-count-requires
 enlist-count-requires c =
-    (c.loop-i.invariant.1.listed, (cell_below (goal.at.enlist-count-requires c).In-loop-i, (omega arith, (omega arith, omega arith))))
+    (c.loop-i.invariant.listed, (cell_below (goal.at.enlist-count-requires c).In-loop-i, (omega arith, (omega arith, omega arith))))
 
 pub loop-i-preserved : goal.loop-i-preserved
 loop-i-preserved c =
-    let f = c.loop-i.invariant.1 in (
-      omega arith,
-      elim c.if-in_cone.branch [
-        | then-in_cone x ↦ rw (x.scratch-is, x.count-is) (now-inside _ _ _ _ _ _ f _ _ _ (cell_same (goal.at.loop-i-preserved c).In-loop-i) (λ j h. c.requires.cells j (omega arith)) x.enlist-count.ensures)
-        | else-in_cone x ↦ rw (x.scratch-is, x.count-is) (not-inside _ _ _ _ _ _ f (λ t. unknown-not (sym c.in_cone.ensures ∙ x.if-in_cone.false) (rw (cell_same (goal.at.loop-i-preserved c).In-loop-i) t)))
-      ],
-    )
-
-pub returns : goal.returns
-returns c =
-    let e : c.loop-i.i ≡ c.args.active = omega (arith, c.loop-i.invariant.0) in
-    rw e at c.loop-i.invariant.1
+    let f = c.loop-i.invariant in
+    elim c.if-in_cone.branch [
+      | then-in_cone x ↦ rw (x.scratch-is, x.count-is) (now-inside _ _ _ _ _ _ f _ _ _ (cell_same (goal.at.loop-i-preserved c).In-loop-i) (λ j h. c.requires.cells j (omega arith)) x.enlist-count.ensures)
+      | else-in_cone x ↦ rw (x.scratch-is, x.count-is) (not-inside _ _ _ _ _ _ f (λ t. unknown-not (sym c.in_cone.ensures ∙ x.if-in_cone.false) (rw (cell_same (goal.at.loop-i-preserved c).In-loop-i) t)))
+    ]

@@ -12,9 +12,6 @@ pub rewind-trail-requires : goal.rewind-trail-requires
 rewind-trail-requires c =
     record { sound = c.requires.held.past.sound; few = few-cells _ _ c.requires.ready.ready; room = c.requires.room }
 
-pub shape_of-scratch-then-held_by : goal.shape_of-scratch-then-held_by
-shape_of-scratch-then-held_by c = c.rewind-trail.ensures.same
-
 pub returns-then-held_by : goal.returns-then-held_by
 returns-then-held_by c =
     let held = held-parts c.args.layers c.args.side c.args.cell c.args.weight c.args.steps (of-true _ (sym c.held_by.ensures ∙ c.if-held_by.true)) in
@@ -23,8 +20,5 @@ returns-then-held_by c =
 pub run_span-requires : goal.run_span-requires
 run_span-requires c = c.requires
 
-pub shape_of-scratch : goal.shape_of-scratch
-shape_of-scratch c = c.run_span.ensures.same
-
-pub returns : goal.returns
-returns c = c.run_span.ensures
+pub returns-else-held_by : goal.returns-else-held_by
+returns-else-held_by c = c.run_span.ensures

@@ -21,17 +21,14 @@ pub rewind-requires : goal.rewind-requires
 rewind-requires c =
     record { sound = c.requires.0.sound; few = c.requires.1.0; room = c.requires.1.1 }
 
-pub shape_of-scratch-then-trail-eq0 : goal.shape_of-scratch-then-trail-eq0
-shape_of-scratch-then-trail-eq0 c = c.rewind.ensures.same
-
-pub returns-then-trail-eq0 : goal.returns-then-trail-eq0
-returns-then-trail-eq0 c =
+pub returns-then-layers-eq0 : goal.returns-then-layers-eq0
+returns-then-layers-eq0 c =
     let back = c.rewind.ensures in
     record {
       same = back.same;
-      rows = back-empty _ _ c.args.layers c.requires.0 c.if-trail-eq0.true _ _ back;
+      rows = back-empty _ _ c.args.layers c.requires.0 c.if-layers-eq0.true _ _ back;
       rest = back.kept;
     }
 
-pub returns : goal.returns
-returns c = by-words _ _ _ _ c.clear.ensures (omega arith)
+pub returns-else-layers-eq0 : goal.returns-else-layers-eq0
+returns-else-layers-eq0 c = by-words _ _ _ _ c.clear.ensures (omega arith)

@@ -11,5 +11,5 @@ first_with-requires c = c.requires c.if-exits-gt0.true
 pub returns-then-exits-gt0 : goal.returns-then-exits-gt0
 returns-then-exits-gt0 c = record { within = c.first_with.ensures.within; first = λ h. c.first_with.ensures }
 
-pub returns : goal.returns
-returns c = record { within = omega arith; first = λ h. absurd (omega (arith, c.if-exits-gt0.false)) }
+pub returns-else-exits-gt0 : goal.returns-else-exits-gt0
+returns-else-exits-gt0 c = record { within = omega arith; first = λ h. absurd (omega (arith, c.if-exits-gt0.false)) }

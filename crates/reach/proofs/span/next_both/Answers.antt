@@ -16,8 +16,8 @@ returns-then-exit-exits c =
       most = λ u h p q. far.most u (near.most u h p) q;
     }
 
-pub returns : goal.returns
-returns c =
+pub returns-else-exit-exits : goal.returns-else-exit-exits
+returns-else-exit-exits c =
     let near = c.next_steps-first.ensures in
     record {
       within = near.within;

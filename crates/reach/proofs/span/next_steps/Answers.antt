@@ -41,19 +41,16 @@ weight_word-requires c = (c.requires.1, cell_in (goal.at.weight_word-requires c)
 pub overflow_sub-weight_word : goal.overflow_sub-weight_word
 overflow_sub-weight_word c = omega (arith, c.weight_word.ensures, word_some (goal.at.overflow_sub-weight_word c).Then-at-count)
 
-pub steps_of-first-requires : goal.steps_of-first-requires
-steps_of-first-requires c = (c.requires.1, cell_in (goal.at.steps_of-first-requires c).Then-at-count)
+pub steps_of-requires : goal.steps_of-requires
+steps_of-requires c = (c.requires.1, cell_in (goal.at.steps_of-requires c).Then-at-count)
 
-pub returns-then-first-steps : goal.returns-then-first-steps
-returns-then-first-steps c =
+pub returns-then-weight_word-weight : goal.returns-then-weight_word-weight
+returns-then-weight_word-weight c =
     record {
       within = omega arith;
-      early = λ h e. omega (arith, c.steps_of-first.ensures);
-      most = λ u h head. omega (arith, c.steps_of-first.ensures, head c.if-at-count.true (omega (arith, c.if-weight_word-weight.true, c.weight_word.ensures)));
+      early = λ h e. omega (arith, c.steps_of.ensures);
+      most = λ u h head. omega (arith, c.steps_of.ensures, head c.if-at-count.true (omega (arith, c.if-weight_word-weight.true, c.weight_word.ensures)));
     }
-
-pub returns-else-first-steps : goal.returns-else-first-steps
-returns-else-first-steps c = record { within = omega arith; early = λ h e. omega (arith, c.if-first-steps.false, c.steps_of-first.ensures); most = λ u h head. h }
 
 pub returns-else-weight_word-weight : goal.returns-else-weight_word-weight
 returns-else-weight_word-weight c = record { within = omega arith; early = λ h e. absurd (omega (arith, c.if-weight_word-weight.false, c.weight_word.ensures, e)); most = λ u h head. h }

@@ -19,8 +19,8 @@ best-at : (s : Start) → BestIs (rules_for s.args.p s.args.plan.now) s.args.p.e
 best-at s = best-is _ _ s.requires.0 _ _ _ _ _ _ s.requires.1.1.0
 
 -- the figure as it was returned
-figure : (c : After-struct_told-1) → let r = c.write_out-written.result in to_z w32 (of_z w32 r.slack) ≡ r.slack
-figure c = to_z-of_z {w = w32} (record { sfits = c.struct_told-1.given.0.1 })
+figure : (c : After-struct_told-1) → let r = c.write_out-written.result in to_z w32 (of_z w32 r.told.slack) ≡ r.told.slack
+figure c = to_z-of_z {w = w32} (record { sfits = omega (arith, c.write_out-written.type_inv) })
 
 pub overflow_add-latency : goal.overflow_add-latency
 overflow_add-latency c = omega (arith, (best-at (goal.at.overflow_add-latency c).Start).registers_fit)
@@ -28,8 +28,8 @@ overflow_add-latency c = omega (arith, (best-at (goal.at.overflow_add-latency c)
 pub overflow_mul-latency : goal.overflow_mul-latency
 overflow_mul-latency c = omega (arith, (best-at (goal.at.overflow_mul-latency c).Start).latency_fits)
 
-pub overflow_mul-n : goal.overflow_mul-n
-overflow_mul-n c = omega (arith, few-cells _ _ c.requires.0)
+pub overflow_mul-plan : goal.overflow_mul-plan
+overflow_mul-plan c = omega (arith, few-cells _ _ c.requires.0)
 
 pub write_out-written-requires : goal.write_out-written-requires
 write_out-written-requires c =
@@ -52,8 +52,8 @@ returns-then-written c =
     let w = one_written _ _ c.one_clock-net.ensures _ c.write_out-written.ensures in
     rw (figure (goal.at.returns-then-written c).After-struct_told-1) (done-found _ _ _ _ _ _ _ _ b _ w (made-best w.is_first c.requires.1.1.0.least (sink-in _ _ c.requires.0) registers 1 (cost _ _ c.requires.0) b.route b.is_best) c.if-written.true)
 
-pub returns : goal.returns
-returns c =
-    let b = best-at (goal.at.returns c).Start in
+pub returns-else-written : goal.returns-else-written
+returns-else-written c =
+    let b = best-at (goal.at.returns-else-written c).Start in
     let w = one_written _ _ c.one_clock-net.ensures _ c.write_out-written.ensures in
-    rw (figure (goal.at.returns c).After-struct_told-1) (done-no-room _ _ _ _ _ _ _ _ b _ w (made-best w.is_first c.requires.1.1.0.least (sink-in _ _ c.requires.0) registers 1 (cost _ _ c.requires.0) b.route b.is_best) c.if-written.false)
+    rw (figure (goal.at.returns-else-written c).After-struct_told-1) (done-no-room _ _ _ _ _ _ _ _ b _ w (made-best w.is_first c.requires.1.1.0.least (sink-in _ _ c.requires.0) registers 1 (cost _ _ c.requires.0) b.route b.is_best) c.if-written.false)

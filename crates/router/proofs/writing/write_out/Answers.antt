@@ -3,9 +3,6 @@ use Prim.Native.Nat.{◌+◌, ◌*◌, ◌≤◌}
 use mathlib.Core.Path.{◌≡◌, sym, ◌∙◌}
 use native.Mathlib.Omega.{arith}
 use lib.ListN.{length, take, length-take}
-use mir.Facts.{to_z-of_z}
-use mir.Syntax.{w32}
-use mir.Val.{to_z, of_z}
 use Rattle.rules.specs.Ranking.{written}
 use Rattle.problem.specs.Net.{net_rules}
 use Rattle.labels.proofs.Ready.{ready-short}
@@ -71,11 +68,10 @@ pub returns : goal.returns
 returns c =
     let m = c.emit-told.ensures in
     let route = from_sink (net_rules c.args.net c.args.plan.now) m.made in
-    let figure : to_z w32 (of_z w32 c.emit-told.result.slack) ≡ c.emit-told.result.slack = to_z-of_z {w = w32} (record { sfits = c.struct_told-1.given.0.1 }) in
     record {
       made = m.made;
       is_first = m.is_first;
-      slack = rw figure m.slack;
+      slack = m.slack;
       sink = m.sink;
       source = m.source;
       zero-words = zeroed-is _ _ _ _ _ c.requires.own c.requires.within m.same m.rest c.clear.ensures;

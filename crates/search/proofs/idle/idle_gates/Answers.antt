@@ -20,16 +20,9 @@ returns-then-exits-eq0 c =
       told = λ h. absurd (omega (arith, c.if-exits-eq0.true));
     }
 
-pub returns-then-vertical-horizontal : goal.returns-then-vertical-horizontal
-returns-then-vertical-horizontal c =
-    record {
-      right = λ marks. idle-right c.args.net c.requires.0 marks _ c.requires.1 _ (omega arith) (omega arith) _ c.idle_from.ensures;
-      told = λ h. from-same _ _ _ _ (omega arith) c.idle_from.ensures;
-    }
-
 pub returns : goal.returns
 returns c =
     record {
-      right = λ marks. idle-right c.args.net c.requires.0 marks _ c.requires.1 _ (omega arith) (omega arith) _ c.idle_from-2.ensures;
-      told = λ h. from-same _ _ _ _ (omega arith) c.idle_from-2.ensures;
+      right = λ marks. idle-right c.args.net c.requires.0 marks _ c.requires.1 _ (omega arith) (omega arith) _ c.idle_from.ensures;
+      told = λ h. from-same _ _ _ _ (omega arith) c.idle_from.ensures;
     }

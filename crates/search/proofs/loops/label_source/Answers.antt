@@ -49,8 +49,8 @@ label-requires c = let p = c.requires in start-labelable _ _ p.0 p.1.0 p.1.1.0 _
 pub returns-then-side-fifos : goal.returns-then-side-fifos
 returns-then-side-fifos c = sourced _ _ _ _ _ _ c.requires.0 c.if-side-fifos.true c.label.ensures
 
-pub returns : goal.returns
-returns c =
+pub returns-else-side-fifos : goal.returns-else-side-fifos
+returns-else-side-fifos c =
     record {
       same = refl;
       ordered = ordered-none _ _ _ (no_label _ _ c.requires.0);

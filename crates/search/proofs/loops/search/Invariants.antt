@@ -7,9 +7,9 @@ use Rattle.search.specs.Front.{total}
 use Rattle.search.specs.Turn.{FrontOf, Beyond}
 use Rattle.search.proofs.loops.search.Given as goal
 
-abbrev pub invariant-loop-weight : goal.invariant-loop-weight
-invariant-loop-weight l =
+abbrev pub invariant-loop-reached : goal.invariant-loop-reached
+invariant-loop-reached l =
     FrontOf (net_rules l.net l.plan) (length l.plan) l.side l.exits l.scratch l.f × ((length l.scratch ≡ length l.initial.scratch) × Beyond (length l.plan) l.side l.initial.scratch l.scratch)
 
-abbrev pub decreases-loop-weight : goal.decreases-loop-weight
-decreases-loop-weight l = 4294969345 - (total (length l.plan) l.scratch + l.f.at + l.f.exit)
+abbrev pub decreases-loop-reached : goal.decreases-loop-reached
+decreases-loop-reached l = 4294969345 - (total (length l.plan) l.scratch + l.f.at + l.f.exit)

@@ -1,7 +1,7 @@
 -- On the sink's side by the register's state there.
-use Prim.Native.Nat.{ℕ}
-use mathlib.Core.Path.{◌≡◌, sym, ◌∙◌}
-use native.Mathlib.Omega.{arith}
+use mathlib.Core.Path.{sym, ◌∙◌}
+use lib.Dec.{eqb→eq}
+use Rattle.plan.proofs.Truth.{of-true}
 use borrow.Author.Tests.{ltb-true, ltb-false}
 use Rattle.search.proofs.turns.at_sink.Goals as goal
 
@@ -14,10 +14,10 @@ returns-then-side-eq0 c =
       not_yet = λ h z n k. ltb-false _ _ (sym (e n k) ∙ h);
     }
 
-pub returns : goal.returns
-returns c =
+pub returns-else-side-eq0 : goal.returns-else-side-eq0
+returns-else-side-eq0 c =
     record {
-      yes = λ h. absurd (let z : ◌≡◌ {A = ℕ} 0 1 = cc in omega arith);
-      comes = λ h. absurd (let z : ◌≡◌ {A = ℕ} 0 1 = cc in omega arith);
+      yes = λ h. eqb→eq _ _ (of-true _ h);
+      comes = λ h. absurd (c.if-side-eq0.false (eqb→eq _ _ (of-true _ h)));
       not_yet = λ h z. absurd (c.if-side-eq0.false z);
     }

@@ -23,15 +23,15 @@ bounds-scratch-set c = let p = c.requires in omega (arith, p.set_in.room, p.with
 pub overflow_cast-first : goal.overflow_cast-first
 overflow_cast-first c = let p = c.requires in omega (arith, p.cell, p.set_in.small)
 
-pub weight_word-weight-requires : goal.weight_word-weight-requires
-weight_word-weight-requires c = let p = c.requires in (p.set_in, p.cell)
+pub weight_word-requires : goal.weight_word-requires
+weight_word-requires c = let p = c.requires in (p.set_in, p.cell)
 
-pub overflow_sub-weight : goal.overflow_sub-weight
-overflow_sub-weight c = omega (arith, c.weight_word-weight.ensures, known-word _ _ _ _ c.requires.known)
+pub overflow_sub-result : goal.overflow_sub-result
+overflow_sub-result c = omega (arith, c.weight_word.ensures, known-word _ _ _ _ c.requires.known)
 
-pub steps_of-steps-requires : goal.steps_of-steps-requires
-steps_of-steps-requires c = let p = c.requires in (p.set_in, p.cell)
+pub steps_of-requires : goal.steps_of-requires
+steps_of-requires c = let p = c.requires in (p.set_in, p.cell)
 
 pub returns : goal.returns
 unfolding moved_to
-returns c = rw (c.steps_of-steps.ensures, c.weight_word-weight.ensures) refl
+returns c = rw (c.steps_of.ensures, c.weight_word.ensures) refl
