@@ -15,15 +15,9 @@ use Rattle.bench_entry.specs.Explained.{Unexplained}
 use Rattle.answers.specs.declared.answer.RouteAnswer.{RouteAnswer}
 
 -- registers and steps alone
-<<<<<<< HEAD
-abbrev pub least_answer : Least → Answer
-least_answer (Of k s) = RouteAnswer.Found (record { registers = k; steps = s; latency = 0; slack = pos 0 })
-least_answer Nothing = RouteAnswer.Refused Refusal.NoRoute
-=======
 abbrev pub least_answer : Option Least → Answer
-least_answer (Some l) = Answer.Found (record { registers = l.registers; steps = l.steps; latency = 0; slack = pos 0 })
-least_answer None = Answer.Refused Refusal.NoRoute
->>>>>>> 5a9f970c8e227675a85bebec8a47a597a28bd20b
+least_answer (Some l) = RouteAnswer.Found (record { registers = l.registers; steps = l.steps; latency = 0; slack = pos 0 })
+least_answer None = RouteAnswer.Refused Refusal.NoRoute
 
 -- the best route's, by the route call's checks
 unfoldable pub searched_after : Check → Question → Answer

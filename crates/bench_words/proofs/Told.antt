@@ -22,37 +22,6 @@ use Rattle.bench_words.specs.Crossed.{clock_numbers, crossing_results, crossing_
 use Rattle.bench_words.specs.declared.found.Found.{Found}
 use Rattle.bench_words.specs.declared.why.Why.{Why}
 
--- five stores from the start
-five-set : (xs : List ℕ) (a b c d e : ℕ) → length xs ≡ 5 → set (set (set (set (set xs 0 a) 1 b) 2 c) 3 d) 4 e ≡ a ∷ b ∷ c ∷ d ∷ e ∷ []
-five-set [] a b c d e h = absurd (omega arith)
-five-set (x ∷ []) a b c d e h = absurd (omega arith)
-five-set (x ∷ y ∷ []) a b c d e h = absurd (omega arith)
-five-set (x ∷ y ∷ z ∷ []) a b c d e h = absurd (omega arith)
-five-set (x ∷ y ∷ z ∷ w ∷ []) a b c d e h = absurd (omega arith)
-five-set (x ∷ y ∷ z ∷ w ∷ v ∷ []) a b c d e h = refl
-five-set (x ∷ y ∷ z ∷ w ∷ v ∷ u ∷ rest) a b c d e h = absurd (omega arith)
-
-pub stored : (a : Answer) (xs : List ℕ) (f : Figures) (k m : ℕ) → f ≡ answer_figures a → k ≡ answer_fault a → m ≡ magnitude f.slack → length xs ≡ 5 → set (set (set (set (set xs 0 f.registers) 1 f.steps) 2 f.latency) 3 k) 4 m ≡ figure_words a
-unfolding figure_words
-stored a xs f k m e g n h = rw (n, e, g) (five-set xs _ _ _ _ _ h)
-
--- one more
-six-set : (xs : List ℕ) (a b c d e f : ℕ) → length xs ≡ 6 → set (set (set (set (set (set xs 0 a) 1 b) 2 c) 3 d) 4 e) 5 f ≡ a ∷ b ∷ c ∷ d ∷ e ∷ f ∷ []
-six-set [] a b c d e f h = absurd (omega arith)
-six-set (x ∷ xs) a b c d e f h = let five : length xs ≡ 5 = omega arith in ap (a ∷◌) (five-set xs b c d e f five)
-
-pub crossed-stored : (a : CrossingAnswer) (xs : List ℕ) (f : CrossingFigures) (k m : ℕ) → f ≡ crossing_figures a → k ≡ crossing_answer_fault a → m ≡ magnitude f.slack → length xs ≡ 6 → set (set (set (set (set (set xs 0 f.source) 1 f.sink) 2 f.steps) 3 f.latency) 4 k) 5 m ≡ crossed_figures a
-unfolding crossed_figures
-crossed-stored a xs f k m e g n h = rw (n, e, g) (six-set xs _ _ _ _ _ _ h)
-
-pub found-stored : (f : Found) (xs : List ℕ) → length xs ≡ 5 → set (set (set (set (set xs 0 f.accepted) 1 f.visit) 2 f.fault) 3 f.element) 4 f.slack ≡ found_words f
-unfolding found_words
-found-stored f xs h = five-set xs _ _ _ _ _ h
-
-pub why-stored : (w : Why) (xs : List ℕ) → length xs ≡ 5 → set (set (set (set (set xs 0 w.reason) 1 w.period) 2 w.element) 3 0) 4 0 ≡ why_words w
-unfolding why_words
-why-stored w xs h = five-set xs _ _ _ _ _ h
-
 -- right lengths, read off their tests
 right-inputs : (t b : ℕ) → inputs_right t b ≡ true → table_numbers ≤ t
 unfolding inputs_right

@@ -4,7 +4,8 @@ ghost use Rattle.bench_words.specs.Words.{fault_place, refusal_fault};
 
 use answers::{Fault, Refusal};
 
-fn fault_number(fault: Fault, clocks: u32) -> u32
+// From 1, in the order of a call with so many clocks. Each clock has a period before the skew, and each clock but one a FIFO before the count.
+pub fn fault_number(fault: Fault, clocks: u32) -> u32
     requires { clocks ≤ 2 }
     ensures { result ≡ fault_place clocks fault }
 {
@@ -23,21 +24,13 @@ fn fault_number(fault: Fault, clocks: u32) -> u32
     }
 }
 
-// In the order of a call with so many clocks.
+// The same of a refusal; 0 for every other.
 pub fn refusal_fault(refusal: Refusal, clocks: u32) -> u32
     requires { clocks ≤ 2 }
     ensures { result ≡ refusal_fault clocks refusal }
 {
     match refusal {
-        Refusal::Grid => 0,
-        Refusal::Length => 0,
-        Refusal::Mark => 0,
-        Refusal::Element(f) => fault_number(f, clocks),
-        Refusal::Ends => 0,
-        Refusal::Scratch => 0,
-        Refusal::NoRoute => 0,
-        Refusal::RouteList => 0,
-        Refusal::NoneLegal => 0,
-        Refusal::RouteExists => 0,
+        Refusal::Element(fault) => fault_number(fault, clocks),
+        _ => 0,
     }
 }

@@ -11,21 +11,23 @@ fn answer_fault(answer: Answer) -> u32
     ensures { result ≡ answer_fault answer }
 {
     match answer {
-        Answer::Found(_) => 0,
-        Answer::NoRoom(_) => 0,
         Answer::Refused(r) => refusal_fault(r, 1),
+        _ => 0,
     }
 }
 
 // Registers, steps, latency, fault and spare half-ticks, which no answer has below zero.
+#[tactic(auto, unfolding(crate::specs::Figures::figure_words))]
 pub fn write_figures(answer: Answer, figures: &mut [u32])
     requires { length figures.old ≡ result_numbers }
     ensures { figures.new ≡ figure_words answer }
 {
     let f = answer.figures();
-    figures[0] = f.registers as u32;
-    figures[1] = f.steps;
-    figures[2] = f.latency;
-    figures[3] = answer_fault(answer);
-    figures[4] = slack_magnitude(f.slack);
+    figures.copy_from_slice(&[
+        u32::from(f.registers),
+        f.steps,
+        f.latency,
+        answer_fault(answer),
+        slack_magnitude(f.slack),
+    ]);
 }

@@ -38,49 +38,45 @@ fn miss_of(fault: VisitFault) -> u64
     ensures { result ≡ miss_of fault }
 {
     match fault {
-        VisitFault::Cell => 0,
-        VisitFault::Wire => 0,
-        VisitFault::Site => 0,
-        VisitFault::Load => 0,
-        VisitFault::Period(z) => slack_magnitude(z) as u64,
+        VisitFault::Period(slack) => u64::from(slack_magnitude(slack)),
+        _ => 0,
     }
 }
+
+const NOTHING: Found = Found {
+    accepted: 0,
+    visit: 0,
+    fault: 0,
+    element: 0,
+    slack: 0,
+};
 
 pub fn found_of(verdict: Verdict) -> Found
     ensures { result ≡ found_of verdict }
 {
     match verdict {
-        Ok(Finding::Accepted(z)) => Found {
+        Ok(Finding::Accepted(slack)) => Found {
             accepted: 1,
-            visit: 0,
-            fault: 0,
-            element: 0,
-            slack: slack_magnitude(z) as u64,
+            slack: u64::from(slack_magnitude(slack)),
+            ..NOTHING
         },
-        Ok(Finding::AtFault(i, f)) => Found {
-            accepted: 0,
-            visit: i as u64,
-            fault: visit_fault_number(f),
-            element: 0,
-            slack: miss_of(f),
+        Ok(Finding::AtFault(visit, fault)) => Found {
+            visit: visit as u64,
+            fault: visit_fault_number(fault),
+            slack: miss_of(fault),
+            ..NOTHING
         },
-        Err(r) => Found {
-            accepted: 0,
-            visit: 0,
-            fault: 0,
-            element: refusal_fault(r, 1) as u64,
-            slack: 0,
+        Err(refusal) => Found {
+            element: u64::from(refusal_fault(refusal, 1)),
+            ..NOTHING
         },
     }
 }
 
+#[tactic(auto, unfolding(crate::specs::Judged::found_words))]
 pub fn write_found(f: Found, words: &mut [u64])
     requires { length words.old ≡ result_numbers }
     ensures { words.new ≡ found_words f }
 {
-    words[0] = f.accepted;
-    words[1] = f.visit;
-    words[2] = f.fault;
-    words[3] = f.element;
-    words[4] = f.slack;
+    words.copy_from_slice(&[f.accepted, f.visit, f.fault, f.element, f.slack]);
 }

@@ -18,34 +18,25 @@ const CLOCK_NUMBERS: usize = 5;
 const CROSSING_RESULTS: usize = 6;
 
 // Eleven words of tables, three words a buffer.
+#[tactic(auto, unfolding(crate::specs::Words::inputs_right))]
 fn inputs_right(tables: usize, buffers: usize) -> bool
     ensures { result ≡ inputs_right tables buffers }
 {
-    if tables != TABLE_NUMBERS {
-        return false;
-    }
-    buffers % 3 == 0
+    tables == TABLE_NUMBERS && buffers % 3 == 0
 }
 
 // And five words for what is told.
+#[tactic(auto, unfolding(crate::specs::Words::lengths_right))]
 pub fn lengths_right(tables: usize, buffers: usize, results: usize) -> bool
     ensures { result ≡ lengths_right tables buffers results }
 {
-    if results != RESULTS {
-        return false;
-    }
-    inputs_right(tables, buffers)
+    results == RESULTS && inputs_right(tables, buffers)
 }
 
 // And five words of the clocks, six for what is told.
+#[tactic(auto, unfolding(crate::specs::Crossed::crossing_lengths_right))]
 pub fn crossing_lengths_right(tables: usize, clocks: usize, buffers: usize, results: usize) -> bool
     ensures { result ≡ crossing_lengths_right tables clocks buffers results }
 {
-    if clocks != CLOCK_NUMBERS {
-        return false;
-    }
-    if results != CROSSING_RESULTS {
-        return false;
-    }
-    inputs_right(tables, buffers)
+    clocks == CLOCK_NUMBERS && results == CROSSING_RESULTS && inputs_right(tables, buffers)
 }

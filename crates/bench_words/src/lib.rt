@@ -10,6 +10,7 @@ mod why;
 mod words;
 
 pub use crossed::write_crossed;
+pub use faults::fault_number;
 pub use figures::write_figures;
 pub use found::{Found, found_of, write_found};
 pub use lengths::{WRONG_LENGTH, crossing_lengths_right, lengths_right};

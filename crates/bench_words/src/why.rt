@@ -32,10 +32,8 @@ fn period_of(reason: Reason) -> u32
     ensures { result ≡ period_told reason }
 {
     match reason {
-        Reason::WalledOff => 0,
-        Reason::Load => 0,
-        Reason::Period(t) => t as u32,
-        Reason::TooShort => 0,
+        Reason::Period(period) => u32::from(period),
+        _ => 0,
     }
 }
 
@@ -56,13 +54,10 @@ pub fn why_of(explained: Explained) -> Why
     }
 }
 
+#[tactic(auto, unfolding(crate::specs::Explained::why_words))]
 pub fn write_why(w: Why, words: &mut [u32])
     requires { length words.old ≡ result_numbers }
     ensures { words.new ≡ why_words w }
 {
-    words[0] = w.reason;
-    words[1] = w.period;
-    words[2] = w.element;
-    words[3] = 0;
-    words[4] = 0;
+    words.copy_from_slice(&[w.reason, w.period, w.element, 0, 0]);
 }

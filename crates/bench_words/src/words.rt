@@ -10,10 +10,11 @@ use answers::{BufferList, BufferRecord, Crossing, RegisterRecord};
 fn word(words: &[u16], i: usize) -> u16
     ensures { result ≡ get_or words.now i 0 }
 {
-    if i < words.len() { words[i] } else { 0 }
+    words.get(i).copied().unwrap_or(0)
 }
 
 // The buffer at index i, from three words each.
+#[tactic(auto, unfolding(job::specs::Fields::buffer_record_at))]
 fn read_buffer(words: &[u16], i: usize) -> BufferRecord
     requires { i < 6 }
     ensures { result ≡ buffer_record_at words.now i }
@@ -25,22 +26,25 @@ fn read_buffer(words: &[u16], i: usize) -> BufferRecord
     }
 }
 
+#[tactic(auto, unfolding(crate::specs::Words::buffers_in, job::specs::Fields::buffer_list_of))]
 pub fn read_buffers(words: &[u16]) -> BufferList
     ensures { result ≡ buffers_in words.now }
 {
-    let b0 = read_buffer(words, 0);
-    let b1 = read_buffer(words, 1);
-    let b2 = read_buffer(words, 2);
-    let b3 = read_buffer(words, 3);
-    let b4 = read_buffer(words, 4);
-    let b5 = read_buffer(words, 5);
     BufferList {
         n: words.len() / 3,
-        items: [b0, b1, b2, b3, b4, b5],
+        items: [
+            read_buffer(words, 0),
+            read_buffer(words, 1),
+            read_buffer(words, 2),
+            read_buffer(words, 3),
+            read_buffer(words, 4),
+            read_buffer(words, 5),
+        ],
     }
 }
 
 // The source's period and the FIFO, from five words.
+#[tactic(auto, unfolding(crate::specs::Crossed::crossing_in))]
 pub fn read_crossing(words: &[u16]) -> Crossing
     requires { clock_numbers ≤ length words.now }
     ensures { result ≡ crossing_in words.now }

@@ -6,14 +6,14 @@ ghost use Rattle.question.specs.Question.{question_of};
 ghost use Rattle.reasons.specs.Reasons.{explained_of};
 
 use answers::{Explained, Numbered, Reason};
-use player::{Net, Player, Turn, ended, next, read_net, refill};
+use player::{Net, PlayError, Player, UNUSED};
 use reasons::explain_with;
-use report::{smaller, write_call, write_element, write_zeroed};
-use script::Cursor;
-use std::io::{Result, Write};
+use report::{write_call, write_element, write_zeroed};
+use script::Script;
+use std::io::{self, Write};
 use streams::{write_number, write_text};
 
-fn write_reason<W: Write>(out: &mut W, reason: Reason) -> Result<()> {
+fn write_reason<W: Write>(out: &mut W, reason: Reason) -> io::Result<()> {
     match reason {
         Reason::WalledOff => write_text(out, b" walled"),
         Reason::Load => write_text(out, b" load"),
@@ -25,7 +25,7 @@ fn write_reason<W: Write>(out: &mut W, reason: Reason) -> Result<()> {
     }
 }
 
-fn write_explained<W: Write>(out: &mut W, explained: Explained) -> Result<()> {
+fn write_explained<W: Write>(out: &mut W, explained: Explained) -> io::Result<()> {
     match explained {
         Ok(reason) => write_reason(out, reason),
         Err(r) => write_element(out, r),
@@ -33,54 +33,36 @@ fn write_explained<W: Write>(out: &mut W, explained: Explained) -> Result<()> {
 }
 
 // The call on the first bytes of the plan and the first scratch words.
-fn explained_of(net: Net, p: Player, plan: &[u8], scratch: &mut [u16]) -> Explained
-    ensures { result ≡ explained_of (question_of (take p.plan plan.now) net.width net.height p.tables p.list net.source net.sink) (length (take p.scratch scratch.old)) }
+fn explained_of(net: Net, player: &Player, plan: &[u8], scratch: &mut [u16]) -> Explained
+    ensures { result ≡ explained_of (question_of (take player.now.plan plan.now) net.width net.height player.now.tables player.now.list net.source net.sink) (length (take player.now.scratch scratch.old)) }
 {
-    let n = smaller(p.plan, plan.len());
-    let s = smaller(p.scratch, scratch.len());
-    let tables = p.tables;
-    let list = p.list;
+    let n = player.plan.min(plan.len());
+    let s = player.scratch.min(scratch.len());
     explain_with(
-        &plan[0..n],
+        &plan[..n],
         net.width,
         net.height,
-        tables,
-        list,
+        player.tables,
+        player.list,
         net.source,
         net.sink,
-        &mut scratch[0..s],
+        &mut scratch[..s],
     )
 }
 
-// The call with fresh words, and its line.
-fn asked<W: Write>(
-    out: &mut W,
-    net: Net,
-    p: Player,
-    plan: &[u8],
-    scratch: &mut [u16],
-) -> Result<()> {
-    refill(scratch);
-    let explained = explained_of(net, p, plan, scratch);
-    write_call(out, b"reason", explained.number(), p.session.depth)?;
-    write_explained(out, explained)?;
-    write_zeroed(out, scratch)
-}
-
-// reason W H A B
+// reason W H A B, with fresh words
 pub fn reason<W: Write>(
     out: &mut W,
-    src: &[u8],
-    c: Cursor,
-    p: Player,
+    script: &mut Script,
+    player: &Player,
     plan: &[u8],
     scratch: &mut [u16],
-) -> Result<Turn> {
-    let net = read_net(src, c);
-    let cursor = net.cursor;
-    if cursor.bad != 0 {
-        return Ok(next(cursor, p));
-    }
-    let written = asked(out, net, p, plan, scratch);
-    ended(cursor, p, written)
+) -> Result<(), PlayError> {
+    let net = Net::read(script)?;
+    scratch.fill(UNUSED);
+    let explained = explained_of(net, player, plan, scratch);
+    write_call(out, b"reason", explained.number(), player.session.depth)?;
+    write_explained(out, explained)?;
+    write_zeroed(out, scratch)?;
+    Ok(())
 }

@@ -5,29 +5,21 @@
 
 mod lines;
 
-use lines::{next, start};
+use lines::Line;
 use printer::write_answer;
 use std::io::{Result, Write};
 use streams::{fail, read_input, write_text};
 
 const JOB: usize = 256;
 
-// Writes the answer to the job's bytes of a line that has ended.
-fn ended<W: Write>(out: &mut W, job: &[u8], n: usize) -> Result<()> {
-    if job.len() < n {
-        return Ok(());
-    }
-    write_answer(out, &job[..n])
-}
-
-// Runs the cases.
+// Runs the cases, and writes the answer to the job of each line that has ended.
 fn run<W: Write>(out: &mut W, cases: &[u8], job: &mut [u8]) -> Result<()> {
-    let mut line = start();
+    let mut line = Line::START;
     for byte in cases {
-        line = next(out, line, *byte, job)?;
+        line = line.next(out, *byte, job)?;
         if *byte == b'\n' {
-            ended(out, job, line.bytes)?;
-            line = start();
+            write_answer(out, &job[..line.bytes().min(job.len())])?;
+            line = Line::START;
         }
     }
     Ok(())

@@ -57,6 +57,6 @@ pub fn write_better<W: Write>(
     write_call(out, b"better", which.number(), depth)?;
     write_which(out, which)?;
     write_text(out, b" words")?;
-    write_words(out, handed, handed.len())?;
+    write_words(out, handed)?;
     write_text(out, b"\n")
 }

@@ -1,32 +1,15 @@
 // A list of words in a script.
-use report::smaller;
-use script::{Cursor, read_number};
+use script::{Script, ScriptFault};
 
 // The most words of a list.
 pub const LIST_WORDS: usize = 32768;
 
-// How many words a list has, and where to read on.
-#[derive(Clone, Copy)]
-pub struct ListRead {
-    pub words: usize,
-    pub cursor: Cursor,
-}
-
-// N W1 .. WN: the first words become the list.
-pub fn read_words(src: &[u8], c: Cursor, words: &mut [u16]) -> ListRead {
-    let n = read_number(src, c, LIST_WORDS as u16);
-    let stop = smaller(n.value as usize, words.len());
-    let mut cursor = n.cursor;
-    let mut i = 0;
-    while i < stop {
-        let word = read_number(src, cursor, 65535);
-        words[i] = word.value;
-        let after = word.cursor;
-        cursor = after;
-        i += 1;
+// N W1 .. WN: the first words become the list. How many they are.
+pub fn read_words(script: &mut Script, words: &mut [u16]) -> Result<usize, ScriptFault> {
+    let n = script.number_to(LIST_WORDS as u32)? as usize;
+    let count = n.min(words.len());
+    for word in &mut words[..count] {
+        *word = script.number()?;
     }
-    ListRead {
-        words: stop,
-        cursor: cursor,
-    }
+    Ok(count)
 }

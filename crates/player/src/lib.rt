@@ -2,12 +2,10 @@
 #![tactic(auto)]
 
 mod commands;
-mod fresh;
+mod error;
 mod net;
-mod state;
-mod words;
+mod player;
 
-pub use fresh::{SCRATCH_WORDS, UNUSED, VISIT_WORDS, refill};
-pub use net::{Net, read_net};
-pub use state::{Player, Turn, ended, new_player, next};
-pub use words::lend;
+pub use error::PlayError;
+pub use net::Net;
+pub use player::{Player, SCRATCH_WORDS, UNUSED, VISIT_WORDS};

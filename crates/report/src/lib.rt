@@ -2,9 +2,7 @@
 #![tactic(auto)]
 
 mod answer;
-mod crossing;
 mod words;
 
-pub use answer::{filled, write_call, write_element, write_fault, write_figures, write_slack};
-pub use crossing::{crossed, write_crossing_fault, write_crossing_figures};
-pub use words::{smaller, write_left, write_runs, write_words, write_zeroed};
+pub use answer::{Told, write_answer, write_call, write_element, write_fault, write_slack};
+pub use words::{write_left, write_runs, write_words, write_zeroed};

@@ -1,22 +1,14 @@
 // Lent words.
-ghost use Rattle.std.specs.Prelude.{◌≡◌, ◌<◌, min, length};
+ghost use Rattle.std.specs.Prelude.{◌≡◌, ◌<◌, length};
 ghost use Rattle.report.specs.Runs.{EqualRun};
 
 use std::io::{Result, Write};
 use streams::{write_number, write_text};
 
-// The smaller of two numbers.
-pub fn smaller(a: usize, b: usize) -> usize
-    ensures { result ≡ min a b }
-{
-    if a < b { a } else { b }
-}
-
-// The words before `end`, a space before each.
-pub fn write_words<W: Write>(out: &mut W, words: &[u16], end: usize) -> Result<()> {
-    let stop = smaller(end, words.len());
-    for word in &words[..stop] {
-        write_number(out, *word as u64)?;
+// All bytes or words, a space before each.
+pub fn write_words<W: Write, T: Copy + Into<u64>>(out: &mut W, words: &[T]) -> Result<()> {
+    for word in words {
+        write_number(out, (*word).into())?;
     }
     Ok(())
 }
@@ -26,26 +18,17 @@ pub fn run_end(words: &[u16], start: usize) -> usize
     requires { start < length words.now }
     ensures { EqualRun words.now start result }
 {
-    let value = words[start];
-    let mut i = start + 1;
-    while i < words.len() {
-        if words[i] != value {
+    for i in start + 1..words.len() {
+        if words[i] != words[start] {
             return i;
         }
-        i += 1;
     }
-    i
+    words.len()
 }
 
 // How many words from the first on are zero.
 fn zeros(words: &[u16]) -> usize {
-    if words.len() == 0 {
-        return 0;
-    }
-    if words[0] != 0 {
-        return 0;
-    }
-    run_end(words, 0)
+    words.iter().take_while(|word| **word == 0).count()
 }
 
 // The end of a call's line: how many scratch words it zeroed.
@@ -55,15 +38,15 @@ pub fn write_zeroed<W: Write>(out: &mut W, scratch: &[u16]) -> Result<()> {
     write_text(out, b"\n")
 }
 
-// The same after the visit words before `end`, which the call filled.
+// The same after the first `filled` visit words, which the call filled.
 pub fn write_left<W: Write>(
     out: &mut W,
     visits: &[u16],
-    end: usize,
+    filled: usize,
     scratch: &[u16],
 ) -> Result<()> {
     write_text(out, b" visits")?;
-    write_words(out, visits, end)?;
+    write_words(out, &visits[..filled.min(visits.len())])?;
     write_zeroed(out, scratch)
 }
 
@@ -79,11 +62,11 @@ fn write_run<W: Write>(out: &mut W, word: u16, times: usize) -> Result<()> {
 
 // All words, run by run.
 pub fn write_runs<W: Write>(out: &mut W, words: &[u16]) -> Result<()> {
-    let mut i = 0;
-    while i < words.len() {
-        let end = run_end(words, i);
-        write_run(out, words[i], end - i)?;
-        i = end;
+    let mut start = 0;
+    while start < words.len() {
+        let end = run_end(words, start);
+        write_run(out, words[start], end - start)?;
+        start = end;
     }
     Ok(())
 }

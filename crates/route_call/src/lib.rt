@@ -5,7 +5,6 @@ ghost use Rattle.std.specs.Prelude.{◌≡◌, take};
 ghost use Rattle.router.specs.Route.{question_of, answer_of};
 
 use answers::{Answer, BufferList, Tables};
-use report::smaller;
 use router::route_with;
 
 // A route call without its plan. `scratch` and `visits` are how many words are lent.
@@ -25,19 +24,17 @@ pub struct Call {
 pub fn ask(plan: &[u8], c: Call, scratch: &mut [u16], visits: &mut [u16]) -> Answer
     ensures { result ≡ answer_of (question_of plan.now c.width c.height c.tables c.list c.source c.sink) (take c.scratch scratch.old) (take c.visits visits.old) }
 {
-    let s = smaller(c.scratch, scratch.len());
-    let v = smaller(c.visits, visits.len());
-    let tables = c.tables;
-    let list = c.list;
+    let s = c.scratch.min(scratch.len());
+    let v = c.visits.min(visits.len());
     route_with(
         plan,
         c.width,
         c.height,
-        tables,
-        list,
+        c.tables,
+        c.list,
         c.source,
         c.sink,
-        &mut scratch[0..s],
-        &mut visits[0..v],
+        &mut scratch[..s],
+        &mut visits[..v],
     )
 }

@@ -1,7 +1,7 @@
 // One route call and the line printed of it: its label, number, registers, steps, latency and spare half-ticks, the cell and code of
 // each visit, then what became of the scratch words and of the visits' other words.
 use answers::{Answer, Numbered};
-use report::{filled, smaller, write_fault, write_figures, write_words};
+use report::{Told, write_fault, write_words};
 use route_call::{Call, ask};
 use std::io::{Result, Write};
 use streams::{write_number, write_text};
@@ -13,40 +13,31 @@ const SCRATCH: usize = 1600;
 
 const VISITS: usize = 16;
 
-// Whether each of the words from `start` up to `end` is `value`.
-fn all(words: &[u16], start: usize, end: usize, value: u16) -> bool {
-    let stop = smaller(end, words.len());
-    let mut i = start;
-    while i < stop {
-        if words[i] != value {
-            return false;
-        }
-        i += 1;
-    }
-    true
+fn all_are(words: &[u16], value: u16) -> bool {
+    words.iter().all(|word| *word == value)
 }
 
 // kept: no word has changed; zero: the first 256 of each cell are zero, and no other has changed.
 fn write_scratch<W: Write>(out: &mut W, scratch: &[u16], cells: usize) -> Result<()> {
-    if all(scratch, 0, SCRATCH, FILL) {
+    if all_are(scratch, FILL) {
         return write_text(out, b" kept");
     }
-    let used = 256 * smaller(cells, 1024);
-    if !all(scratch, 0, used, 0) {
-        return write_text(out, b" changed");
+    let used = 256 * cells.min(1024);
+    let (used, others) = scratch.split_at(used.min(scratch.len()));
+    if all_are(used, 0) && all_are(others, FILL) {
+        write_text(out, b" zero")
+    } else {
+        write_text(out, b" changed")
     }
-    if !all(scratch, used, SCRATCH, FILL) {
-        return write_text(out, b" changed");
-    }
-    write_text(out, b" zero")
 }
 
-// kept: no word from `start` on has changed.
-fn write_visits<W: Write>(out: &mut W, visits: &[u16], start: usize) -> Result<()> {
-    if all(visits, start, VISITS, FILL) {
-        return write_text(out, b" kept");
+// kept: none of these words has changed.
+fn write_others<W: Write>(out: &mut W, others: &[u16]) -> Result<()> {
+    if all_are(others, FILL) {
+        write_text(out, b" kept")
+    } else {
+        write_text(out, b" changed")
     }
-    write_text(out, b" changed")
 }
 
 // The line of an answer, and of the words that it was lent.
@@ -58,15 +49,15 @@ fn write_line<W: Write>(
     scratch: &[u16],
     visits: &[u16],
 ) -> Result<()> {
-    let used = filled(answer);
+    let (filled, others) = visits.split_at(answer.filled().min(visits.len()));
     write_text(out, label)?;
     write_text(out, b":")?;
     write_number(out, answer.number() as u64)?;
-    write_figures(out, answer)?;
+    answer.figures().write(out)?;
     write_fault(out, answer)?;
-    write_words(out, visits, used)?;
+    write_words(out, filled)?;
     write_scratch(out, scratch, cells)?;
-    write_visits(out, visits, used)?;
+    write_others(out, others)?;
     write_text(out, b"\n")
 }
 

@@ -9,41 +9,65 @@ use route_call::Call;
 use std::io::{Result, Write};
 use streams::fail;
 
-// Document 01's strip, 3 by 1, from cell 0 to cell 2, with this period, limit and this many of its buffers B.
+const WIRE: WireRecord = WireRecord {
+    resistance: 2,
+    load: 3,
+};
+
+const REGISTER: RegisterRecord = RegisterRecord {
+    resistance: 1,
+    delay: 2,
+    load: 1,
+    setup: 1,
+};
+
+// Document 01's buffer B.
+const BUFFER: BufferRecord = BufferRecord {
+    resistance: 1,
+    delay: 1,
+    load: 1,
+};
+
+const TABLES: Tables = Tables {
+    register: REGISTER,
+    horizontal: WIRE,
+    vertical: WIRE,
+    period: 26,
+    skew: 0,
+    limit: 63,
+};
+
+// Document 01's strip, 3 by 1, from cell 0 to cell 2.
+const STRIP: Call = Call {
+    width: 3,
+    height: 1,
+    tables: TABLES,
+    list: BufferList {
+        n: 0,
+        items: [BUFFER; 6],
+    },
+    source: 0,
+    sink: 2,
+    scratch: 1600,
+    visits: 16,
+};
+
+// The strip's marks.
+const MARKS: [u8; 3] = [0, 2, 0];
+
+// The strip with this period, limit and this many of its buffers B.
 fn case(period: u16, limit: u16, buffers: usize) -> Call {
-    let wire = WireRecord {
-        resistance: 2,
-        load: 3,
-    };
-    let b = BufferRecord {
-        resistance: 1,
-        delay: 1,
-        load: 1,
-    };
     Call {
-        width: 3,
-        height: 1,
         tables: Tables {
-            register: RegisterRecord {
-                resistance: 1,
-                delay: 2,
-                load: 1,
-                setup: 1,
-            },
-            horizontal: wire,
-            vertical: wire,
-            period: period,
-            skew: 0,
-            limit: limit,
+            period,
+            limit,
+            ..TABLES
         },
         list: BufferList {
             n: buffers,
-            items: [b; 6],
+            ..STRIP.list
         },
-        source: 0,
-        sink: 2,
-        scratch: 1600,
-        visits: 16,
+        ..STRIP
     }
 }
 
@@ -66,7 +90,7 @@ fn strip<W: Write>(
     limit: u16,
     buffers: usize,
 ) -> Result<()> {
-    marked(out, label, &[0, 2, 0], period, limit, buffers)
+    marked(out, label, &MARKS, period, limit, buffers)
 }
 
 fn r1_to_r7<W: Write>(out: &mut W) -> Result<()> {
@@ -88,18 +112,36 @@ fn r8_to_r12<W: Write>(out: &mut W) -> Result<()> {
 }
 
 fn r13<W: Write>(out: &mut W) -> Result<()> {
-    let mut c = case(12, 63, 0);
-    c.height = 2;
-    c.tables.vertical.resistance = 0;
-    c.tables.vertical.load = 0;
+    let vertical = WireRecord {
+        resistance: 0,
+        load: 0,
+    };
+    let tables = Tables {
+        vertical,
+        period: 12,
+        ..TABLES
+    };
+    let c = Call {
+        height: 2,
+        tables,
+        ..STRIP
+    };
     run(out, b"R13", &[0, 1, 0, 0, 2, 0], c)
+}
+
+// The strip with these tables.
+fn timed<W: Write>(out: &mut W, label: &[u8], tables: Tables) -> Result<()> {
+    run(out, label, &MARKS, Call { tables, ..STRIP })
 }
 
 // The strip with this period and this skew.
 fn skewed<W: Write>(out: &mut W, label: &[u8], period: u16, skew: u16) -> Result<()> {
-    let mut c = case(period, 63, 0);
-    c.tables.skew = skew;
-    run(out, label, &[0, 2, 0], c)
+    let tables = Tables {
+        period,
+        skew,
+        ..TABLES
+    };
+    timed(out, label, tables)
 }
 
 fn with_skew<W: Write>(out: &mut W) -> Result<()> {
@@ -111,20 +153,22 @@ fn with_skew<W: Write>(out: &mut W) -> Result<()> {
 
 // A plan that is said to be of this size, with the strip's tables.
 fn sized<W: Write>(out: &mut W, label: &[u8], plan: &[u8], width: u16, height: u16) -> Result<()> {
-    let mut c = case(26, 63, 0);
-    c.width = width;
-    c.height = height;
+    let c = Call {
+        width,
+        height,
+        ..STRIP
+    };
     run(out, label, plan, c)
 }
 
 fn size_refusals<W: Write>(out: &mut W) -> Result<()> {
     let wide = [0u8; 33];
-    sized(out, b"width 0", &[0, 2, 0], 0, 1)?;
-    sized(out, b"height 0", &[0, 2, 0], 3, 0)?;
+    sized(out, b"width 0", &MARKS, 0, 1)?;
+    sized(out, b"height 0", &MARKS, 3, 0)?;
     sized(out, b"width 33", &wide, 33, 1)?;
     sized(out, b"height 33", &wide, 1, 33)?;
-    sized(out, b"short plan", &[0, 2, 0], 4, 1)?;
-    sized(out, b"long plan", &[0, 2, 0], 2, 1)
+    sized(out, b"short plan", &MARKS, 4, 1)?;
+    sized(out, b"long plan", &MARKS, 2, 1)
 }
 
 fn mark_refusals<W: Write>(out: &mut W) -> Result<()> {
@@ -134,31 +178,37 @@ fn mark_refusals<W: Write>(out: &mut W) -> Result<()> {
 }
 
 fn register_fault<W: Write>(out: &mut W) -> Result<()> {
-    let mut c = case(26, 63, 0);
-    c.tables.register.setup = 30001;
-    run(out, b"register", &[0, 2, 0], c)
+    let register = RegisterRecord {
+        setup: 30001,
+        ..REGISTER
+    };
+    timed(out, b"register", Tables { register, ..TABLES })
 }
 
 fn horizontal_fault<W: Write>(out: &mut W) -> Result<()> {
-    let mut c = case(26, 63, 0);
-    c.tables.horizontal.resistance = 256;
-    run(out, b"horizontal", &[0, 2, 0], c)
+    let horizontal = WireRecord {
+        resistance: 256,
+        ..WIRE
+    };
+    timed(
+        out,
+        b"horizontal",
+        Tables {
+            horizontal,
+            ..TABLES
+        },
+    )
 }
 
 fn vertical_fault<W: Write>(out: &mut W) -> Result<()> {
-    let mut c = case(26, 63, 0);
-    c.tables.vertical.load = 64;
-    run(out, b"vertical", &[0, 2, 0], c)
+    let vertical = WireRecord { load: 64, ..WIRE };
+    timed(out, b"vertical", Tables { vertical, ..TABLES })
 }
 
 fn buffer_fault<W: Write>(out: &mut W) -> Result<()> {
     let mut c = case(26, 63, 2);
-    let mut list = c.list;
-    let mut second = list.items[1];
-    second.delay = 1001;
-    list.items[1] = second;
-    c.list = list;
-    run(out, b"buffer 2", &[0, 2, 0], c)
+    c.list.items[1].delay = 1001;
+    run(out, b"buffer 2", &MARKS, c)
 }
 
 fn element_refusals<W: Write>(out: &mut W) -> Result<()> {
@@ -182,12 +232,14 @@ fn lent<W: Write>(
     scratch: usize,
     visits: usize,
 ) -> Result<()> {
-    let mut c = case(26, 63, 0);
-    c.source = source;
-    c.sink = sink;
-    c.scratch = scratch;
-    c.visits = visits;
-    run(out, label, &[0, 2, 0], c)
+    let c = Call {
+        source,
+        sink,
+        scratch,
+        visits,
+        ..STRIP
+    };
+    run(out, label, &MARKS, c)
 }
 
 fn later_refusals<W: Write>(out: &mut W) -> Result<()> {

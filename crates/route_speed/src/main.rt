@@ -16,21 +16,24 @@ const SCRATCH: usize = 262144;
 // two for each cell
 const VISITS: usize = 2048;
 
+const WIRE: WireRecord = WireRecord {
+    resistance: 2,
+    load: 3,
+};
+
+const REGISTER: RegisterRecord = RegisterRecord {
+    resistance: 1,
+    delay: 2,
+    load: 1,
+    setup: 1,
+};
+
 fn tables(period: u16) -> Tables {
-    let wire = WireRecord {
-        resistance: 2,
-        load: 3,
-    };
     Tables {
-        register: RegisterRecord {
-            resistance: 1,
-            delay: 2,
-            load: 1,
-            setup: 1,
-        },
-        horizontal: wire,
-        vertical: wire,
-        period: period,
+        register: REGISTER,
+        horizontal: WIRE,
+        vertical: WIRE,
+        period,
         skew: 0,
         limit: 63,
     }
@@ -38,23 +41,25 @@ fn tables(period: u16) -> Tables {
 
 fn buffer(resistance: u16, delay: u16, load: u16) -> BufferRecord {
     BufferRecord {
-        resistance: resistance,
-        delay: delay,
-        load: load,
+        resistance,
+        delay,
+        load,
     }
 }
 
 // Six buffers, from small to large.
 fn buffers() -> BufferList {
-    let items = [
-        buffer(6, 1, 1),
-        buffer(5, 2, 2),
-        buffer(4, 3, 3),
-        buffer(3, 4, 4),
-        buffer(2, 5, 5),
-        buffer(1, 6, 6),
-    ];
-    BufferList { n: 6, items: items }
+    BufferList {
+        n: 6,
+        items: [
+            buffer(6, 1, 1),
+            buffer(5, 2, 2),
+            buffer(4, 3, 3),
+            buffer(3, 4, 4),
+            buffer(2, 5, 5),
+            buffer(1, 6, 6),
+        ],
+    }
 }
 
 // Routes from cell 0 to the sink, and prints the line.
@@ -89,14 +94,12 @@ fn open<W: Write>(out: &mut W) -> Result<()> {
 
 // The marks of a cell of the serpentine: a tap, and the wire below is cut but at the row's end where the path turns.
 fn marks(row: usize, column: usize) -> u8 {
-    if row == SIDE - 1 {
-        return 2;
-    }
     let end = if row % 2 == 0 { SIDE - 1 } else { 0 };
-    if column == end {
-        return 2;
+    if row == SIDE - 1 || column == end {
+        2
+    } else {
+        10
     }
-    10
 }
 
 // One path through all 1,024 cells, row by row. The `ensures` is what lending the array as a slice needs.
@@ -104,10 +107,8 @@ fn winding() -> [u8; CELLS]
     ensures { 1024 ≡ length result }
 {
     let mut plan = [2u8; CELLS];
-    let mut i = 0;
-    while i < CELLS {
-        plan[i] = marks(i / SIDE, i % SIDE);
-        i += 1;
+    for (i, cell) in plan.iter_mut().enumerate() {
+        *cell = marks(i / SIDE, i % SIDE);
     }
     plan
 }

@@ -2,5 +2,5 @@
 use Rattle.std.proofs.Common.{length, ◌-◌}
 use Rattle.report.proofs.words.write_runs.Given as goal
 
-abbrev pub decreases-loop-i : goal.decreases-loop-i
-decreases-loop-i g l = length l.words - l.i
+abbrev pub decreases-loop-start : goal.decreases-loop-start
+decreases-loop-start g l = length l.words - l.start

@@ -1,9 +1,0 @@
--- The loop stays within the script, and ends at `end`.
-use Prim.Native.Nat.{◌-◌, ◌≤◌}
-use Rattle.script.proofs.numbers.spelt.Given as goal
-
-abbrev pub invariant-loop-i : goal.invariant-loop-i
-invariant-loop-i l = 0 ≤ l.i
-
-abbrev pub decreases-loop-i : goal.decreases-loop-i
-decreases-loop-i l = l.end - l.i
