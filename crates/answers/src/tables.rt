@@ -4,8 +4,8 @@ ghost use Rattle.answers.specs.declared.tables.ElementFault.{ElementFault};
 ghost use Rattle.answers.specs.Tables.{period_in_range, checked_list, no_buffers, checked_tables, refused_tables, no_elements};
 ghost use Rattle.answers.specs.Crossing.{checked_elements, checked_crossing, refused_crossing};
 
-use crate::refusal::Fault;
 use crate::records::{BufferList, Crossing, RegisterRecord, Tables};
+use crate::refusal::Fault;
 use timing::{
     Buffer, BufferCheck, Clocks, Elements, Load, Register, RegisterCheck, Wire, WireCheck,
 };

@@ -4,7 +4,7 @@ ghost use Rattle.job.specs.Fields.{table_numbers};
 ghost use Rattle.bench_words.specs.Crossed.{clock_numbers, crossing_results, crossing_lengths_right};
 ghost use Rattle.bench_entry.specs.Crossed.{bench_crossing, BenchCrossed, CrossingEffect};
 
-use answers::{Numbered};
+use answers::Numbered;
 use bench_words::{
     WRONG_LENGTH, crossing_lengths_right, read_buffers, read_crossing, write_crossed,
 };

@@ -5,7 +5,7 @@ ghost use Rattle.bench_words.specs.Words.{lengths_right, result_numbers};
 ghost use Rattle.bench_entry.specs.Question.{bench_question};
 ghost use Rattle.bench_entry.specs.Explained.{BenchExplained, ExplainEffect};
 
-use answers::{Numbered};
+use answers::Numbered;
 use bench_words::{WRONG_LENGTH, lengths_right, read_buffers, why_of, write_why};
 use job::tables_of;
 use reasons::explain_with;

@@ -5,7 +5,7 @@ ghost use Rattle.bench_words.specs.Words.{lengths_right, result_numbers};
 ghost use Rattle.bench_entry.specs.Question.{bench_question};
 ghost use Rattle.bench_entry.specs.Judged.{Judged, JudgeEffect};
 
-use answers::{Numbered};
+use answers::Numbered;
 use bench_words::{WRONG_LENGTH, found_of, lengths_right, read_buffers, write_found};
 use job::tables_of;
 use verdict::judge_with;

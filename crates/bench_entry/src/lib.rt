@@ -8,7 +8,7 @@ ghost use Rattle.bench_words.specs.Words.{lengths_right, result_numbers};
 ghost use Rattle.bench_entry.specs.Question.{bench_question};
 ghost use Rattle.bench_entry.specs.Effect.{BenchAnswered, BenchEffect};
 
-use answers::{Numbered};
+use answers::Numbered;
 use bench_words::{WRONG_LENGTH, lengths_right, read_buffers, write_figures};
 use job::tables_of;
 use router::route_with;

@@ -5,7 +5,7 @@ ghost use Rattle.std.specs.Prelude.{◌≡◌, take};
 ghost use Rattle.question.specs.Crossing.{crossing_of};
 ghost use Rattle.crossing_router.specs.Route.{crossing_answer_of};
 
-use answers::{CrossingAnswer, Numbered};
+use answers::CrossingAnswer;
 use crossing_router::route_crossing_with;
 use player::{Net, PlayError, Player, UNUSED, VISIT_WORDS};
 use report::write_answer;

@@ -3,8 +3,8 @@
 
 pub use answers::{
     Answer, BufferRecord, Comparison, Crossing, CrossingAnswer, CrossingFigures, Explained, Fault,
-    Figures, Finding, Numbered, Reason, Refusal, RegisterRecord, Tables, Verdict, VisitFault, Which,
-    WireRecord,
+    Figures, Finding, Numbered, Reason, Refusal, RegisterRecord, Tables, Verdict, VisitFault,
+    Which, WireRecord,
 };
 pub use judging::{better, compare, judge};
 pub use routing::{explain, route, route_crossing};

@@ -2,7 +2,10 @@
 ghost use Rattle.std.specs.Prelude.{◌≡◌};
 ghost use Rattle.answers.specs.Numbers.{verdict_number, comparison_number, explained_number};
 
-use answers::{Answer, Comparison, CrossingAnswer, CrossingFigures, Explained, Figures, Finding, Numbered, Reason, Refusal, Verdict, VisitFault, Which, ends_fault};
+use answers::{
+    Answer, Comparison, CrossingAnswer, CrossingFigures, Explained, Figures, Finding, Numbered,
+    Reason, Refusal, Verdict, VisitFault, Which, ends_fault,
+};
 use check::expect;
 
 pub fn ends() {
