@@ -1,5 +1,6 @@
 // The answer of a route call. `refusal_number`, `answer_number` and `answer_figures` give document 01's numbers and figures.
 ghost use Rattle.std.specs.Prelude.{◌≡◌};
+ghost use Rattle.answers.specs.declared.answer.Refusal.TheVariants.{Element};
 ghost use Rattle.answers.specs.Numbers.{refusal_number, answer_number, answer_figures};
 
 // Refusal 4: which number was at fault. Buffer holds the buffer's place, from 1.
@@ -57,6 +58,14 @@ pub enum Answer {
     // sheet: the visits need more words than were lent
     NoRoom(Figures),
     Refused(Refusal),
+}
+
+impl From<Fault> for Refusal {
+    ghost from_gives = { λ fault refusal. refusal ≡ Element fault };
+
+    fn from(fault: Fault) -> Refusal {
+        Refusal::Element(fault)
+    }
 }
 
 impl Refusal {

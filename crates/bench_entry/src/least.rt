@@ -1,6 +1,5 @@
 // The entry to the search without the route.
 ghost use Rattle.std.specs.Prelude.{◌≤◌, ◌≡◌, length};
-ghost use Rattle.answers.specs.Tables.{checked_list};
 ghost use Rattle.job.specs.Fields.{table_numbers};
 ghost use Rattle.question.specs.Question.{question_of};
 ghost use Rattle.bench_words.specs.Words.{lengths_right, result_numbers};
@@ -12,7 +11,7 @@ use bench_words::{WRONG_LENGTH, lengths_right, read_buffers, write_figures};
 use costs::costs_of;
 use job::tables_of;
 use layout::CELL_WORDS;
-use question::{Checked, check_question};
+use question::check_question;
 use router::{Least, least_ready};
 
 // The best route's registers and steps by the search alone: no route is made. Returns 0, or document 01's number, 1 to 7. `tables` and `buffers` are those of
@@ -74,24 +73,14 @@ fn search_read(
     sink: u16,
     scratch: &mut [u16],
 ) -> Answer
-    requires { read ≡ checked_list read.list }
-    ensures { Searching (question_of plan.now width height tables read.list source sink) scratch.old scratch.new result }
+    ensures { Searching (question_of plan.now width height tables read source sink) scratch.old scratch.new result }
 {
-    let checked = check_question(plan, width, height, tables, read, source, sink);
-    let outcome = checked.outcome;
-    match outcome {
-        Checked::Fails(r) => {
-            return Answer::Refused(r);
-        }
-        Checked::Passes => {
-            if scratch.len() < plan.len() * CELL_WORDS {
-                return Answer::Refused(Refusal::Scratch);
-            }
-            let p = checked.problem;
-            let elements = p.elements;
-            let costs = costs_of(elements, elements.register);
-            let least = least_ready(plan, scratch, p, &costs);
-            return least_answer(least);
+    match check_question(plan, width, height, tables, read, source, sink) {
+        Err(r) => Answer::Refused(r),
+        Ok(_) if scratch.len() < plan.len() * CELL_WORDS => Answer::Refused(Refusal::Scratch),
+        Ok(p) => {
+            let costs = costs_of(p.elements, p.elements.register);
+            least_answer(least_ready(plan, scratch, p, &costs))
         }
     }
 }

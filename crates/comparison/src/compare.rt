@@ -1,6 +1,5 @@
 // Which of two route lists is the better: refusals 1 to 5, then 17 and 18.
 ghost use Rattle.std.specs.Prelude.{false, ◌≡◌};
-ghost use Rattle.answers.specs.Tables.{checked_list};
 ghost use Rattle.problem.specs.Problem.{rules_for, Ready};
 ghost use Rattle.question.specs.Question.{question_of};
 ghost use Rattle.rules.specs.Legal.{legal};
@@ -10,7 +9,7 @@ ghost use Rattle.comparison.specs.Better.{comparison_for, comparison_of};
 use crate::ranks::ranks_before;
 use answers::{BufferList, BuffersRead, Comparison, Refusal, Tables, Verdict, read_list};
 use problem::Problem;
-use question::{Checked, check_question};
+use question::check_question;
 use verdict::{bad_list, judge_ready};
 
 // The verdict accepts this list.
@@ -18,8 +17,7 @@ fn legal_ready(plan: &[u8], p: Problem, words: &[u16]) -> bool
     requires { Ready p plan.now × (bad_list words.now ≡ false) }
     ensures { result ≡ legal (rules_for p plan.now) (route_in words.now) }
 {
-    let verdict = judge_ready(plan, p, words);
-    match verdict {
+    match judge_ready(plan, p, words) {
         Verdict::Accepted(_) => true,
         Verdict::AtFault(_, _) => false,
         Verdict::Refused(_) => false,
@@ -57,21 +55,16 @@ pub fn compare_read(
     a: &[u16],
     b: &[u16],
 ) -> Comparison
-    requires { read ≡ checked_list read.list }
-    ensures { result ≡ comparison_of (question_of plan.now width height tables read.list source sink) a.now b.now }
+    ensures { result ≡ comparison_of (question_of plan.now width height tables read source sink) a.now b.now }
 {
-    let checked = check_question(plan, width, height, tables, read, source, sink);
-    let outcome = checked.outcome;
-    match outcome {
-        Checked::Fails(r) => {
-            return Comparison::Refused(r);
-        }
-        Checked::Passes => {
+    match check_question(plan, width, height, tables, read, source, sink) {
+        Err(r) => Comparison::Refused(r),
+        Ok(p) => {
             if bad_list(a) || bad_list(b) {
-                return Comparison::Refused(Refusal::RouteList);
+                Comparison::Refused(Refusal::RouteList)
+            } else {
+                compare_ready(plan, p, a, b)
             }
-            let p = checked.problem;
-            return compare_ready(plan, p, a, b);
         }
     }
 }

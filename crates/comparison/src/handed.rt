@@ -1,6 +1,5 @@
 // The better of two route lists: the caller's own words, or an empty part where the comparison is refused.
 ghost use Rattle.std.specs.Prelude.{◌≡◌};
-ghost use Rattle.answers.specs.Tables.{checked_list};
 ghost use Rattle.question.specs.Question.{question_of};
 ghost use Rattle.comparison.specs.Better.{comparison_of, Handed};
 
@@ -19,11 +18,9 @@ pub fn better_read<'a>(
     a: &'a [u16],
     b: &'a [u16],
 ) -> &'a [u16]
-    requires { read ≡ checked_list read.list }
-    ensures { Handed (comparison_of (question_of plan.now width height tables read.list source sink) a.now b.now) a.entry b.entry result }
+    ensures { Handed (comparison_of (question_of plan.now width height tables read source sink) a.now b.now) a.entry b.entry result }
 {
-    let comparison = compare_read(plan, width, height, tables, read, source, sink, a, b);
-    match comparison {
+    match compare_read(plan, width, height, tables, read, source, sink, a, b) {
         Comparison::First => a,
         Comparison::Second => b,
         Comparison::Refused(_) => &a[..0],

@@ -14,7 +14,6 @@ use verdict::judge_read;
 
 // The verdict on a list of words cell, code, cell, code, .. from the sink on: accepted, or the first visit at fault and the fault there.
 // `verdict_of` says it, refusals included.
-#[tactic(auto, unfolding(answers::specs::Tables::checked_list))]
 pub fn judge(
     plan: &[u8],
     width: u16,
@@ -33,7 +32,6 @@ pub fn judge(
 
 // Which of two lists is the better by the ranking of routes; of equal ones the first. An illegal list gives way to a legal one.
 // `comparison_of` says it, refusals included: 17 for either list, 18 where neither is legal.
-#[tactic(auto, unfolding(answers::specs::Tables::checked_list))]
 pub fn compare(
     plan: &[u8],
     width: u16,
@@ -53,7 +51,6 @@ pub fn compare(
 
 // The better list itself, the caller's own words; an empty part where `compare` refuses.
 // `Handed` says it of the references.
-#[tactic(auto, unfolding(answers::specs::Tables::checked_list))]
 pub fn better<'a>(
     plan: &[u8],
     width: u16,

@@ -1,13 +1,12 @@
 // The call: refusals 1 to 6 as a route's, then 19 or the reason.
 ghost use Rattle.std.specs.Prelude.{◌≡◌};
-ghost use Rattle.answers.specs.Tables.{checked_list};
 ghost use Rattle.router.specs.Route.{question_of};
 ghost use Rattle.reasons.specs.Reasons.{Explaining};
 
 use crate::reason::reason_ready;
 use answers::{BufferList, BuffersRead, Explained, Refusal, Tables, read_list};
 use layout::CELL_WORDS;
-use question::{Checked, check_question};
+use question::check_question;
 
 // The call on a list of buffers that was read and checked. Its whole effect, refused or not, is specs/Reasons.antt.
 pub fn explain_read(
@@ -20,22 +19,12 @@ pub fn explain_read(
     sink: u16,
     scratch: &mut [u16],
 ) -> Explained
-    requires { read ≡ checked_list read.list }
-    ensures { Explaining (question_of plan.now width height tables read.list source sink) scratch.old scratch.new result }
+    ensures { Explaining (question_of plan.now width height tables read source sink) scratch.old scratch.new result }
 {
-    let checked = check_question(plan, width, height, tables, read, source, sink);
-    let outcome = checked.outcome;
-    match outcome {
-        Checked::Fails(r) => {
-            return Explained::Refused(r);
-        }
-        Checked::Passes => {
-            if scratch.len() < plan.len() * CELL_WORDS {
-                return Explained::Refused(Refusal::Scratch);
-            }
-            let p = checked.problem;
-            return reason_ready(plan, scratch, p);
-        }
+    match check_question(plan, width, height, tables, read, source, sink) {
+        Err(r) => Explained::Refused(r),
+        Ok(_) if scratch.len() < plan.len() * CELL_WORDS => Explained::Refused(Refusal::Scratch),
+        Ok(p) => reason_ready(plan, scratch, p),
     }
 }
 

@@ -1,13 +1,12 @@
 // The route call: refusals 1 to 6 in their order, then the route.
 ghost use Rattle.std.specs.Prelude.{◌≡◌};
-ghost use Rattle.answers.specs.Tables.{checked_list};
 ghost use Rattle.router.specs.Route.{question_of, Routed};
 
 use crate::ready::route_ready;
 use answers::{Answer, BufferList, BuffersRead, Refusal, Tables, read_list};
 use costs::costs_of;
 use layout::CELL_WORDS;
-use question::{Checked, check_question};
+use question::check_question;
 
 // The route call on a list of buffers that was read and checked. Its whole effect, refused or not, is specs/Route.antt.
 pub fn route_read(
@@ -21,23 +20,14 @@ pub fn route_read(
     scratch: &mut [u16],
     visits: &mut [u16],
 ) -> Answer
-    requires { read ≡ checked_list read.list }
-    ensures { Routed (question_of plan.now width height tables read.list source sink) scratch.old scratch.new visits.old visits.new result }
+    ensures { Routed (question_of plan.now width height tables read source sink) scratch.old scratch.new visits.old visits.new result }
 {
-    let checked = check_question(plan, width, height, tables, read, source, sink);
-    let outcome = checked.outcome;
-    match outcome {
-        Checked::Fails(r) => {
-            return Answer::Refused(r);
-        }
-        Checked::Passes => {
-            if scratch.len() < plan.len() * CELL_WORDS {
-                return Answer::Refused(Refusal::Scratch);
-            }
-            let p = checked.problem;
-            let elements = p.elements;
-            let costs = costs_of(elements, elements.register);
-            return route_ready(plan, scratch, p, &costs, visits);
+    match check_question(plan, width, height, tables, read, source, sink) {
+        Err(r) => Answer::Refused(r),
+        Ok(_) if scratch.len() < plan.len() * CELL_WORDS => Answer::Refused(Refusal::Scratch),
+        Ok(p) => {
+            let costs = costs_of(p.elements, p.elements.register);
+            route_ready(plan, scratch, p, &costs, visits)
         }
     }
 }

@@ -9,7 +9,6 @@ use reasons::explain_read;
 
 // Why there is no route from source to sink: walled off, load, the smallest period, or that the longest is too short; 19 where there is one.
 // `Explaining` says the answer and what is left in the scratch words, refusals included.
-#[tactic(auto, unfolding(answers::specs::Tables::checked_list))]
 pub fn explain(
     plan: &[u8],
     width: u16,

@@ -16,7 +16,6 @@ pub use two_clocks::route_crossing;
 
 // The best route from source to sink: its figures in the answer, its visits in `visits`.
 // `Routed` says the answer and what is left in the lent words, refusals included.
-#[tactic(auto, unfolding(answers::specs::Tables::checked_list))]
 pub fn route(
     plan: &[u8],
     width: u16,

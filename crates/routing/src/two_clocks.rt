@@ -8,7 +8,6 @@ use lent_buffers::read_buffers;
 
 // The best route from source to sink through one FIFO: its figures in the answer, its visits in `visits`.
 // `Crossed` says the answer and what is left in the lent words, refusals included.
-#[tactic(auto, unfolding(answers::specs::Tables::checked_list))]
 pub fn route_crossing(
     plan: &[u8],
     width: u16,

@@ -2,12 +2,11 @@
 #![tactic(auto)]
 
 ghost use Rattle.std.specs.Prelude.{◌≡◌};
-ghost use Rattle.answers.specs.Tables.{checked_list};
 ghost use Rattle.question.specs.Question.{question_of};
 ghost use Rattle.verdict.specs.Verdict.{verdict_of};
 
 use answers::{BufferList, BuffersRead, Refusal, Tables, Verdict, read_list};
-use question::{Checked, check_question};
+use question::check_question;
 
 mod gates;
 mod list;
@@ -28,22 +27,12 @@ pub fn judge_read(
     sink: u16,
     words: &[u16],
 ) -> Verdict
-    requires { read ≡ checked_list read.list }
-    ensures { result ≡ verdict_of (question_of plan.now width height tables read.list source sink) words.now }
+    ensures { result ≡ verdict_of (question_of plan.now width height tables read source sink) words.now }
 {
-    let checked = check_question(plan, width, height, tables, read, source, sink);
-    let outcome = checked.outcome;
-    match outcome {
-        Checked::Fails(r) => {
-            return Verdict::Refused(r);
-        }
-        Checked::Passes => {
-            if bad_list(words) {
-                return Verdict::Refused(Refusal::RouteList);
-            }
-            let p = checked.problem;
-            return judge_ready(plan, p, words);
-        }
+    match check_question(plan, width, height, tables, read, source, sink) {
+        Err(r) => Verdict::Refused(r),
+        Ok(_) if bad_list(words) => Verdict::Refused(Refusal::RouteList),
+        Ok(p) => judge_ready(plan, p, words),
     }
 }
 
@@ -60,6 +49,14 @@ pub fn judge_with(
 ) -> Verdict
     ensures { result ≡ verdict_of (question_of plan.now width height tables list source sink) words.now }
 {
-    let read = read_list(list);
-    judge_read(plan, width, height, tables, read, source, sink, words)
+    judge_read(
+        plan,
+        width,
+        height,
+        tables,
+        read_list(list),
+        source,
+        sink,
+        words,
+    )
 }

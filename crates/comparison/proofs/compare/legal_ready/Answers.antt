@@ -17,7 +17,7 @@ use Rattle.verdict.specs.Verdict.{route_in, judge_route}
 use Rattle.verdict.proofs.Accepted.{accepted-legal, legal-accepted}
 use Rattle.verdict.proofs.Routes.{good-visits}
 use Rattle.comparison.proofs.compare.legal_ready.Goals as goal
-use Rattle.comparison.proofs.compare.legal_ready.Goals.{After-judge_ready-verdict}
+use Rattle.comparison.proofs.compare.legal_ready.Goals.{After-judge_ready}
 
 abbrev accepts : Verdict → Bool
 accepts (Accepted z) = true
@@ -36,15 +36,15 @@ accepts-legal R r h = go (judge_route R r) refl
     go (Refused k) e = not (λ y k. let z : ◌≡◌ {A = ℕ} 0 1 = cc in omega arith)
 
 -- what the verdict told says whether the list is legal
-told : (c : After-judge_ready-verdict) (v : Verdict) → c.judge_ready-verdict.result ≡ v → accepts v ≡ legal (rules_for c.args.p c.args.plan.now) (route_in c.args.words.now)
+told : (c : After-judge_ready) (v : Verdict) → c.judge_ready.result ≡ v → accepts v ≡ legal (rules_for c.args.p c.args.plan.now) (route_in c.args.words.now)
 told c v e =
-    ap accepts (sym e ∙ c.judge_ready-verdict.ensures) ∙ accepts-legal (rules_for c.args.p c.args.plan.now) (route_in c.args.words.now) (good-visits _ c.requires.1)
+    ap accepts (sym e ∙ c.judge_ready.ensures) ∙ accepts-legal (rules_for c.args.p c.args.plan.now) (route_in c.args.words.now) (good-visits _ c.requires.1)
 
 pub returns-in-Accepted : goal.returns-in-Accepted
-returns-in-Accepted c = told (goal.at.returns-in-Accepted c).After-judge_ready-verdict _ c.in-Accepted.is
+returns-in-Accepted c = told (goal.at.returns-in-Accepted c).After-judge_ready _ c.in-Accepted.is
 
 pub returns-in-AtFault : goal.returns-in-AtFault
-returns-in-AtFault c = told (goal.at.returns-in-AtFault c).After-judge_ready-verdict _ c.in-AtFault.is
+returns-in-AtFault c = told (goal.at.returns-in-AtFault c).After-judge_ready _ c.in-AtFault.is
 
 pub returns-in-Refused : goal.returns-in-Refused
-returns-in-Refused c = told (goal.at.returns-in-Refused c).After-judge_ready-verdict _ c.in-Refused.is
+returns-in-Refused c = told (goal.at.returns-in-Refused c).After-judge_ready _ c.in-Refused.is
