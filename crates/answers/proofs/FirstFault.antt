@@ -1,13 +1,7 @@
 -- Refusal 4 exactly in its case: each answer of `tables_fault` is given where the tests before it pass and its own fails, and nothing is at fault exactly where the elements are valid.
-use Prim.Native.Nat.{ℕ, zero, suc, ◌+◌, ◌<◌, ◌≤◌}
-use mathlib.Core.Path.{◌≡◌, refl, sym, ap, ◌∙◌}
-use mathlib.Core.Bool.{Bool, true, false, ◌&&◌, cond}
-use mathlib.Core.List.{List}
+use Rattle.std.proofs.Common.{◌≡◌, ℕ, zero, suc, ◌+◌, ◌<◌, ◌≤◌, Bool, true, false, ◌&&◌, cond, List, leb, ltb, get_or, Option, Some, None, refl, arith}
 use mathlib.Core.Logic.{⊎_elim}
-use lib.Dec.{leb, ltb}
-use lib.ListN.{get_or}
 use native.Mathlib.Nat.{eq-or-lt_of_le}
-use native.Mathlib.Omega.{arith}
 use borrow.Author.Tests.{leb-true, le-leb, lt-ltb, ltb-true}
 use Rattle.timing.specs.Ranges.{period_min, period_max, skew_max, load_max, buffers_max}
 use Rattle.timing.specs.Elements.{BufferInRange, buffer_of, buffer_in_range}
@@ -17,17 +11,14 @@ use Rattle.answers.specs.declared.records.BufferRecord.{BufferRecord}
 use Rattle.answers.specs.declared.records.BufferList.{BufferList}
 use Rattle.answers.specs.declared.records.Tables.{Tables}
 use Rattle.answers.specs.declared.refusal.Fault.{Fault}
-use Rattle.answers.specs.declared.tables.ElementFault.{ElementFault}
-use Rattle.answers.specs.declared.tables.ElementFault.TheVariants.{Nothing, At}
-use Rattle.answers.specs.declared.tables.BuffersRead.{BuffersRead}
 use Rattle.answers.specs.Lists.{no_buffer}
-use Rattle.answers.specs.Tables.{require, period_in_range, wire_ok, register_ok, buffer_ok, buffer_fault, buffers_fault, elements_fault, tables_fault, wire_from, register_from, buffer_from, listed_buffer, six_places, elements_of, list_fault, places_for, checked_list, refused_tables, tables_answer, checked_tables}
+use Rattle.answers.specs.Tables.{require, period_in_range, wire_ok, register_ok, buffer_ok, buffer_fault, buffers_fault, elements_fault, tables_fault, wire_from, register_from, buffer_from, listed_buffer, elements_of, list_fault}
 use Rattle.answers.proofs.Scan.{six-at, six-length}
 
 -- the first buffer out of range among `left` from index i on
-pub data FirstBuffer (items : List BufferRecord) (i left : ℕ) : ElementFault → Type 0 where
-  clean : ((k : ℕ) → i ≤ k → k < i + left → buffer_ok (get_or items k no_buffer) ≡ true) → FirstBuffer items i left Nothing
-  bad : (k : ℕ) → i ≤ k → k < i + left → ((j : ℕ) → i ≤ j → j < k → buffer_ok (get_or items j no_buffer) ≡ true) → buffer_ok (get_or items k no_buffer) ≡ false → FirstBuffer items i left (At (Fault.Buffer (k + 1)))
+pub data FirstBuffer (items : List BufferRecord) (i left : ℕ) : Option Fault → Type 0 where
+  clean : ((k : ℕ) → i ≤ k → k < i + left → buffer_ok (get_or items k no_buffer) ≡ true) → FirstBuffer items i left None
+  bad : (k : ℕ) → i ≤ k → k < i + left → ((j : ℕ) → i ≤ j → j < k → buffer_ok (get_or items j no_buffer) ≡ true) → buffer_ok (get_or items k no_buffer) ≡ false → FirstBuffer items i left (Some (Fault.Buffer (k + 1)))
 
 -- the tests that pass before each place of the order from the skew on
 abbrev pub UpToSkew : Tables → Type 0
@@ -52,20 +43,20 @@ abbrev pub UpToCount : Bool → Tables → BufferList → Type 0
 UpToCount fifoOk t list = UpToFifo fifoOk t × (leb list.n buffers_max ≡ true)
 
 -- the first fault from the skew on, by cases in their order
-pub data FirstElement (fifoOk : Bool) (t : Tables) (list : BufferList) : ElementFault → Type 0 where
-  skew : leb t.skew skew_max ≡ false → FirstElement fifoOk t list (At Fault.Skew)
-  limit : UpToSkew t → leb t.limit load_max ≡ false → FirstElement fifoOk t list (At Fault.Limit)
-  horizontal : UpToLimit t → wire_ok t.horizontal ≡ false → FirstElement fifoOk t list (At Fault.Horizontal)
-  vertical : UpToHorizontal t → wire_ok t.vertical ≡ false → FirstElement fifoOk t list (At Fault.Vertical)
-  register : UpToVertical t → register_ok t.register ≡ false → FirstElement fifoOk t list (At Fault.Register)
-  fifo : UpToRegister t → fifoOk ≡ false → FirstElement fifoOk t list (At Fault.Fifo)
-  count : UpToFifo fifoOk t → leb list.n buffers_max ≡ false → FirstElement fifoOk t list (At Fault.Count)
-  buffers : {f : ElementFault} → UpToCount fifoOk t list → FirstBuffer list.items 0 list.n f → FirstElement fifoOk t list f
+pub data FirstElement (fifoOk : Bool) (t : Tables) (list : BufferList) : Option Fault → Type 0 where
+  skew : leb t.skew skew_max ≡ false → FirstElement fifoOk t list (Some Fault.Skew)
+  limit : UpToSkew t → leb t.limit load_max ≡ false → FirstElement fifoOk t list (Some Fault.Limit)
+  horizontal : UpToLimit t → wire_ok t.horizontal ≡ false → FirstElement fifoOk t list (Some Fault.Horizontal)
+  vertical : UpToHorizontal t → wire_ok t.vertical ≡ false → FirstElement fifoOk t list (Some Fault.Vertical)
+  register : UpToVertical t → register_ok t.register ≡ false → FirstElement fifoOk t list (Some Fault.Register)
+  fifo : UpToRegister t → fifoOk ≡ false → FirstElement fifoOk t list (Some Fault.Fifo)
+  count : UpToFifo fifoOk t → leb list.n buffers_max ≡ false → FirstElement fifoOk t list (Some Fault.Count)
+  buffers : {f : Option Fault} → UpToCount fifoOk t list → FirstBuffer list.items 0 list.n f → FirstElement fifoOk t list f
 
 -- the first fault with one clock: T, then the skew and what follows it
-pub data FirstFault (t : Tables) (list : BufferList) : ElementFault → Type 0 where
-  period : period_in_range t.period ≡ false → FirstFault t list (At Fault.Period)
-  elements : {f : ElementFault} → period_in_range t.period ≡ true → FirstElement true t list f → FirstFault t list f
+pub data FirstFault (t : Tables) (list : BufferList) : Option Fault → Type 0 where
+  period : period_in_range t.period ≡ false → FirstFault t list (Some Fault.Period)
+  elements : {f : Option Fault} → period_in_range t.period ≡ true → FirstElement true t list f → FirstFault t list f
 
 from_next : (items : List BufferRecord) (i stop : ℕ) → buffer_ok (get_or items i no_buffer) ≡ true → ((k : ℕ) → i + 1 ≤ k → k < stop → buffer_ok (get_or items k no_buffer) ≡ true) → (k : ℕ) → i ≤ k → k < stop → buffer_ok (get_or items k no_buffer) ≡ true
 from_next items i stop ok all k g h = ⊎_elim (λ (e : i ≡ k). rw (← e) ok) (λ (l : i < k). all k (omega arith) h) (eq-or-lt_of_le g)
@@ -75,7 +66,7 @@ pub first-buffer : (items : List BufferRecord) (i left : ℕ) → FirstBuffer it
 unfolding buffer_fault
 first-buffer items i zero = clean (λ k g h. absurd (omega arith))
 first-buffer items i (suc left) = go (buffer_ok (get_or items i no_buffer)) refl (first-buffer items (i + 1) left) where
-  more : {f : ElementFault} → buffer_ok (get_or items i no_buffer) ≡ true → FirstBuffer items (i + 1) left f → FirstBuffer items i (suc left) f
+  more : {f : Option Fault} → buffer_ok (get_or items i no_buffer) ≡ true → FirstBuffer items (i + 1) left f → FirstBuffer items i (suc left) f
   more ok (clean all) = clean (from_next items i (i + suc left) ok (λ k g h. all k g (omega arith)))
   more ok (bad k g h all out) = bad k (omega arith) (omega arith) (from_next items i k ok all) out
 
@@ -83,7 +74,7 @@ first-buffer items i (suc left) = go (buffer_ok (get_or items i no_buffer)) refl
   go true e v = more e v
   go false e v = bad i (omega arith) (omega arith) (λ j g h. absurd (omega arith)) e
 
-pub buffer-is : (items : List BufferRecord) (i left : ℕ) {f : ElementFault} → FirstBuffer items i left f → buffer_fault items i left ≡ f
+pub buffer-is : (items : List BufferRecord) (i left : ℕ) {f : Option Fault} → FirstBuffer items i left f → buffer_fault items i left ≡ f
 unfolding buffer_fault
 buffer-is items i zero (clean all) = refl
 buffer-is items i zero (bad k g h all out) = absurd (omega arith)
@@ -106,7 +97,7 @@ first-element fifoOk t list = go _ _ _ _ _ _ _ refl refl refl refl refl refl ref
   go true true true true true true false k' l' h' v' r' x' n' = count (((((k', l'), h'), v'), r'), x') n'
   go true true true true true true true k' l' h' v' r' x' n' = buffers ((((((k', l'), h'), v'), r'), x'), n') (first-buffer list.items 0 list.n)
 
-pub element-is : (fifoOk : Bool) (t : Tables) (list : BufferList) {f : ElementFault} → FirstElement fifoOk t list f → elements_fault fifoOk t list ≡ f
+pub element-is : (fifoOk : Bool) (t : Tables) (list : BufferList) {f : Option Fault} → FirstElement fifoOk t list f → elements_fault fifoOk t list ≡ f
 unfolding list_fault buffers_fault
 element-is fifoOk t list (skew k) = simp k
 element-is fifoOk t list (limit k l) = simp (k, l)
@@ -125,14 +116,14 @@ first-fault t list = go (period_in_range t.period) refl where
   go false e = period e
   go true e = elements e (first-element true t list)
 
-pub fault-is : (t : Tables) (list : BufferList) {f : ElementFault} → FirstFault t list f → tables_fault t list ≡ f
+pub fault-is : (t : Tables) (list : BufferList) {f : Option Fault} → FirstFault t list f → tables_fault t list ≡ f
 unfolding tables_fault
 fault-is t list (period p) = simp p
 fault-is t list (elements p e) = rw p (element-is true t list e)
 
 both : (a b : Bool) → (a && b) ≡ true → (a ≡ true) × (b ≡ true)
 both true b h = (refl, h)
-both false b h = let z : ◌≡◌ {A = ℕ} 0 1 = cc in absurd (omega arith)
+both false b h = absurd cc
 
 -- a buffer of zeros is in range
 zero_in : BufferInRange (buffer_of 0 0 0)
@@ -151,13 +142,13 @@ at_in list k h = go (ltb k list.n) refl where
   go false e = zero_in
 
 -- nothing is at fault: every test passes
-all_pass : (fifoOk : Bool) (t : Tables) (list : BufferList) → FirstElement fifoOk t list Nothing → UpToCount fifoOk t list × ((k : ℕ) → k < list.n → buffer_ok (get_or list.items k no_buffer) ≡ true)
+all_pass : (fifoOk : Bool) (t : Tables) (list : BufferList) → FirstElement fifoOk t list None → UpToCount fifoOk t list × ((k : ℕ) → k < list.n → buffer_ok (get_or list.items k no_buffer) ≡ true)
 all_pass fifoOk t list (buffers pass (clean all)) = (pass, λ k h. all k (omega arith) (omega arith))
 
 -- a test that is passed, and what follows it
-pub require-passed : (ok : Bool) (f : Fault) (rest : ElementFault) → require ok f rest ≡ Nothing → (ok ≡ true) × (rest ≡ Nothing)
+pub require-passed : (ok : Bool) (f : Fault) (rest : Option Fault) → require ok f rest ≡ None → (ok ≡ true) × (rest ≡ None)
 require-passed true f rest e = (refl, e)
-require-passed false f rest e = let z : ◌≡◌ {A = ℕ} 0 1 = cc in absurd (omega arith)
+require-passed false f rest e = absurd cc
 
 pub period-in : (p : ℕ) → period_in_range p ≡ true → (period_min ≤ p) × (p ≤ period_max)
 unfolding period_in_range
@@ -168,7 +159,7 @@ unfolding period_in_range
 in-period p l m = simp (le-leb _ _ l, le-leb _ _ m)
 
 -- No fault from the skew on exactly where, with a period in range, the elements are valid and the FIFO is in range.
-pub elements-valid : (fifoOk : Bool) (t : Tables) (list : BufferList) → period_in_range t.period ≡ true → elements_fault fifoOk t list ≡ Nothing → Valid (elements_of t list) × (fifoOk ≡ true)
+pub elements-valid : (fifoOk : Bool) (t : Tables) (list : BufferList) → period_in_range t.period ≡ true → elements_fault fifoOk t list ≡ None → Valid (elements_of t list) × (fifoOk ≡ true)
 unfolding elements_of wire_ok register_ok buffer_ok wire_from register_from buffer_from
 elements-valid fifoOk t list p e =
     let a = all_pass fifoOk t list (rw e at (first-element fifoOk t list)) in
@@ -189,7 +180,7 @@ elements-valid fifoOk t list p e =
       a.0.0.1,
     )
 
-pub valid-elements : (fifoOk : Bool) (t : Tables) (list : BufferList) → Valid (elements_of t list) → fifoOk ≡ true → elements_fault fifoOk t list ≡ Nothing
+pub valid-elements : (fifoOk : Bool) (t : Tables) (list : BufferList) → Valid (elements_of t list) → fifoOk ≡ true → elements_fault fifoOk t list ≡ None
 unfolding elements_of wire_ok register_ok buffer_ok wire_from register_from buffer_from
 valid-elements fifoOk t list v x =
     element-is fifoOk t list
@@ -204,43 +195,11 @@ unfolding elements_of
 valid-period t list v = in-period _ v.least v.most
 
 -- No fault exactly where the elements are valid.
-pub tables-valid : (t : Tables) (list : BufferList) → tables_fault t list ≡ Nothing → Valid (elements_of t list)
+pub tables-valid : (t : Tables) (list : BufferList) → tables_fault t list ≡ None → Valid (elements_of t list)
 unfolding tables_fault
 tables-valid t list e =
     let p = require-passed (period_in_range t.period) Fault.Period (elements_fault true t list) e in
     (elements-valid true t list p.0 p.1).0
 
-pub valid-tables : (t : Tables) (list : BufferList) → Valid (elements_of t list) → tables_fault t list ≡ Nothing
+pub valid-tables : (t : Tables) (list : BufferList) → Valid (elements_of t list) → tables_fault t list ≡ None
 valid-tables t list v = fault-is t list (elements (valid-period t list v) (rw (valid-elements true t list v refl) at (first-element true t list)))
-
--- What the checks answer, by the first fault.
-
--- the list's own fault, where the tests before it pass
-pub list-first : (fifoOk : Bool) (t : Tables) (list : BufferList) (f : ElementFault) → UpToFifo fifoOk t → list_fault list ≡ f → FirstElement fifoOk t list f
-list-first fifoOk t list f (((((k, l), h), v), r), x) e =
-    let is : elements_fault fifoOk t list ≡ f = simp (k, l, h, v, r, x) e in
-    rw is at (first-element fifoOk t list)
-
-pub read-clean : (list : BufferList) → list_fault list ≡ Nothing → (checked_list list).buffers ≡ six_places (listed_buffer list)
-unfolding checked_list places_for
-read-clean list e = simp e
-
--- what was read of some list is what is read of its own
-pub read-own : (read : BuffersRead) (list : BufferList) → read ≡ checked_list list → read ≡ checked_list read.list
-unfolding checked_list
-read-own read list e = e ∙ ap checked_list (ap (λ (r : BuffersRead). r.list) (sym e))
-
-pub period-refused : (t : Tables) (list : BufferList) → period_in_range t.period ≡ false → refused_tables Fault.Period ≡ checked_tables t list
-unfolding checked_tables tables_answer
-period-refused t list p = simp (fault-is t list (period p))
-
-pub tables-clean : (t : Tables) (list : BufferList) → tables_fault t list ≡ Nothing → checked_tables t list ≡ record { fault = Nothing; elements = elements_of t list }
-unfolding checked_tables tables_answer
-tables-clean t list e = simp e
-
-pub tables-fault : (t : Tables) (list : BufferList) → (checked_tables t list).fault ≡ tables_fault t list
-unfolding checked_tables tables_answer refused_tables
-tables-fault t list = go (tables_fault t list) where
-  go : (f : ElementFault) → (tables_answer f (elements_of t list)).fault ≡ f
-  go Nothing = refl
-  go (At f) = refl

@@ -1,4 +1,5 @@
 pub mod Lists
+pub mod Made
 pub mod GoodEnds
 pub mod Scan
 pub mod FirstFault

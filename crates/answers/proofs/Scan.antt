@@ -1,12 +1,7 @@
 -- The buffers looked at one by one: what the loop of the check keeps, and the first buffer out of range.
-use Prim.Native.Nat.{ℕ, zero, suc, ◌+◌, ◌-◌, ◌<◌, ◌≤◌}
-use mathlib.Core.Path.{◌≡◌, refl, sym, ◌∙◌}
-use mathlib.Core.Bool.{Bool, true, false}
-use mathlib.Core.List.{List}
-use lib.Dec.{ltb}
-use lib.ListN.{length, get_or, set, length-set}
-use lib.Seq.{get_or-set_same, get_or-set_other, ext_get_or}
-use native.Mathlib.Omega.{arith}
+use Rattle.std.proofs.Common.{◌≡◌, ℕ, zero, suc, ◌+◌, ◌-◌, ◌<◌, ◌≤◌, Bool, true, false, List, ltb, length, get_or, set, get_or-set_same, get_or-set_other, Some, None, refl, sym, ◌∙◌, arith}
+use lib.ListN.{length-set}
+use lib.Seq.{ext_get_or}
 use borrow.Author.Count.{below_more}
 use borrow.Author.Tests.{ltb-true, ltb-false}
 use Rattle.timing.specs.Ranges.{buffers_max}
@@ -14,9 +9,8 @@ use Rattle.timing.specs.Elements.{buffer_of}
 use Rattle.timing.specs.declared.elements.Buffer.{Buffer}
 use Rattle.answers.specs.declared.records.BufferList.{BufferList}
 use Rattle.answers.specs.declared.refusal.Fault.{Fault}
-use Rattle.answers.specs.declared.tables.ElementFault.{ElementFault}
 use Rattle.answers.specs.Lists.{no_buffer}
-use Rattle.answers.specs.Tables.{buffer_ok, buffer_fault, buffers_fault, buffer_from, listed_buffer, six_places, no_buffers}
+use Rattle.answers.specs.Tables.{buffer_ok, buffer_fault, buffers_fault, buffer_from, listed_buffer, six_places}
 
 -- six places, read one by one
 pub six-at : (f : ℕ → Buffer) (i : ℕ) → i < buffers_max → get_or (six_places f) i (buffer_of 0 0 0) ≡ f i
@@ -40,8 +34,8 @@ pub record Scanned (list : BufferList) (i : ℕ) (buffers : List Buffer) : Type 
   pub done : (k : ℕ) → k < i → get_or buffers k (buffer_of 0 0 0) ≡ buffer_from (get_or list.items k no_buffer)
   pub free : (k : ℕ) → i ≤ k → k < buffers_max → get_or buffers k (buffer_of 0 0 0) ≡ buffer_of 0 0 0
 
-pub scanned-none : (list : BufferList) → Scanned list 0 no_buffers
-unfolding no_buffers buffers_fault
+pub scanned-none : (list : BufferList) → Scanned list 0 (six_places (λ i. buffer_of 0 0 0))
+unfolding buffers_fault
 scanned-none list =
     record {
       six = six-length (λ i. buffer_of 0 0 0);
@@ -67,12 +61,12 @@ scanned-more list i buffers s h m ok =
     }
 
 -- a buffer out of range at i is the first
-pub scanned-bad : (list : BufferList) (i : ℕ) (buffers : List Buffer) → Scanned list i buffers → i < list.n → buffer_ok (get_or list.items i no_buffer) ≡ false → buffers_fault list ≡ ElementFault.At (Fault.Buffer (i + 1))
+pub scanned-bad : (list : BufferList) (i : ℕ) (buffers : List Buffer) → Scanned list i buffers → i < list.n → buffer_ok (get_or list.items i no_buffer) ≡ false → buffers_fault list ≡ Some (Fault.Buffer (i + 1))
 unfolding buffer_fault
 scanned-bad list i buffers s h bad = s.rest ∙ simp (one_more list.n i h, bad)
 
 -- all looked at: no fault, and the six places
-pub scanned-clean : (list : BufferList) (i : ℕ) (buffers : List Buffer) → Scanned list i buffers → list.n ≤ i → buffers_fault list ≡ ElementFault.Nothing
+pub scanned-clean : (list : BufferList) (i : ℕ) (buffers : List Buffer) → Scanned list i buffers → list.n ≤ i → buffers_fault list ≡ None
 unfolding buffer_fault
 scanned-clean list i buffers s h = let e : list.n - i ≡ 0 = omega arith in s.rest ∙ simp e
 

@@ -1,5 +1,6 @@
 -- The number and the figures that document 01 gives for each case of a route's answer, with one clock and with two (document 02, C-15), and the words it fills; the numbers of a verdict, of a comparison and of a reason (document 02, C-11 and C-13).
 use Rattle.std.specs.Prelude.{ℕ, ◌+◌, ◌*◌, ◌≡◌, refl, pos, Result, Ok, Err}
+use Rattle.plan.specs.declared.PlanFault.{PlanFault}
 use Rattle.answers.specs.declared.refusal.Refusal.{Refusal}
 use Rattle.answers.specs.declared.refusal.Refusal.TheVariants.{Grid, Length, Mark, Element, Ends, Scratch, NoRoute, RouteList, NoneLegal, RouteExists}
 use Rattle.answers.specs.declared.answer.Figures.{Figures}
@@ -26,6 +27,12 @@ Comparison = Result Which Refusal
 
 abbrev pub Explained : Type 0
 Explained = Result Reason Refusal
+
+-- the refusal of a plan's fault
+abbrev pub plan_refusal : PlanFault → Refusal
+plan_refusal PlanFault.Grid = Grid
+plan_refusal PlanFault.Length = Length
+plan_refusal PlanFault.Mark = Mark
 
 abbrev pub refusal_number : Refusal → ℕ
 refusal_number Grid = 1

@@ -1,7 +1,7 @@
 -- Refusal 4 of document 01: a number outside its range, or over 6 buffers. It carries the first fault in this order:
 -- T, the skew (document 02, C-16), L, horizontal wire, vertical wire, register, buffer count, the place of a buffer from 1.
 -- A net between two clocks (document 02, C-15) has its two periods in T's place, and the FIFO after the register: Crossing.antt.
-use Rattle.std.specs.Prelude.{ℕ, zero, suc, ◌+◌, Bool, true, ◌&&◌, cond, List, [], ◌∷◌, leb, ltb, get_or}
+use Rattle.std.specs.Prelude.{ℕ, zero, suc, ◌+◌, Bool, true, ◌&&◌, cond, List, [], ◌∷◌, leb, ltb, get_or, Option, Some, None, Result, Ok, Err}
 use Rattle.timing.specs.Ranges.{load_max, period_min, period_max, skew_max, buffers_max}
 use Rattle.timing.specs.Elements.{wire_in_range, register_in_range, buffer_in_range, wire_of, register_of, buffer_of}
 use Rattle.timing.specs.declared.elements.Wire.{Wire}
@@ -15,14 +15,10 @@ use Rattle.answers.specs.declared.records.BufferRecord.{BufferRecord}
 use Rattle.answers.specs.declared.records.Tables.{Tables}
 use Rattle.answers.specs.declared.records.BufferList.{BufferList}
 use Rattle.answers.specs.declared.refusal.Fault.{Fault}
-use Rattle.answers.specs.declared.tables.ElementFault.{ElementFault}
-use Rattle.answers.specs.declared.tables.ElementFault.TheVariants.{Nothing, At}
-use Rattle.answers.specs.declared.tables.BuffersRead.{BuffersRead}
-use Rattle.answers.specs.declared.tables.TablesCheck.{TablesCheck}
 
 -- a test of a chain: the fault where it fails, the rest of the chain where it passes
-abbrev pub require : Bool → Fault → ElementFault → ElementFault
-require ok f rest = cond ok rest (At f)
+abbrev pub require : Bool → Fault → Option Fault → Option Fault
+require ok f rest = cond ok rest (Some f)
 
 unfoldable pub period_in_range : ℕ → Bool
 period_in_range p = leb period_min p && leb p period_max
@@ -37,19 +33,19 @@ unfoldable pub buffer_ok : BufferRecord → Bool
 buffer_ok b = buffer_in_range b.resistance b.delay b.load
 
 -- the first buffer out of range among `left` of them from index i on
-unfoldable pub buffer_fault : List BufferRecord → ℕ → ℕ → ElementFault
-buffer_fault items i zero = Nothing
+unfoldable pub buffer_fault : List BufferRecord → ℕ → ℕ → Option Fault
+buffer_fault items i zero = None
 buffer_fault items i (suc left) = require (buffer_ok (get_or items i no_buffer)) (Fault.Buffer (i + 1)) (buffer_fault items (i + 1) left)
 
-unfoldable pub buffers_fault : BufferList → ElementFault
+unfoldable pub buffers_fault : BufferList → Option Fault
 buffers_fault list = buffer_fault list.items 0 list.n
 
 -- the count, then the first buffer out of range
-unfoldable pub list_fault : BufferList → ElementFault
+unfoldable pub list_fault : BufferList → Option Fault
 list_fault list = require (leb list.n buffers_max) Fault.Count (buffers_fault list)
 
 -- The order from L on, for every call. `fifoOk` says whether the FIFO's numbers are in range; without a FIFO nothing can fail there.
-abbrev pub fault_from_limit : Bool → Tables → BufferList → ElementFault
+abbrev pub fault_from_limit : Bool → Tables → BufferList → Option Fault
 fault_from_limit fifoOk t list =
     require (leb t.limit load_max) Fault.Limit
     (require (wire_ok t.horizontal) Fault.Horizontal
@@ -59,10 +55,10 @@ fault_from_limit fifoOk t list =
     (list_fault list)))))
 
 -- and from the skew on, which stands after the periods
-abbrev pub elements_fault : Bool → Tables → BufferList → ElementFault
+abbrev pub elements_fault : Bool → Tables → BufferList → Option Fault
 elements_fault fifoOk t list = require (leb t.skew skew_max) Fault.Skew (fault_from_limit fifoOk t list)
 
-unfoldable pub tables_fault : Tables → BufferList → ElementFault
+unfoldable pub tables_fault : Tables → BufferList → Option Fault
 tables_fault t list = require (period_in_range t.period) Fault.Period (elements_fault true t list)
 
 -- the elements of given records
@@ -95,37 +91,14 @@ elements_of t list =
       buffers = six_places (listed_buffer list);
     }
 
-unfoldable pub no_buffers : List Buffer
-no_buffers = six_places (λ i. buffer_of 0 0 0)
+-- What a check answers: what it made, or the first fault.
+abbrev pub unless_fault : {A : Type 0} → Option Fault → A → Result A Fault
+unless_fault None made = Ok made
+unless_fault (Some f) made = Err f
 
-unfoldable pub no_elements : Elements
-no_elements =
-    record {
-      period = 0;
-      skew = 0;
-      limit = record { 0 = 0 };
-      horizontal = wire_of 0 0;
-      vertical = wire_of 0 0;
-      register = register_of 0 0 0 0;
-      count = 0;
-      buffers = no_buffers;
-    }
+-- the check of a list: its six places
+unfoldable pub checked_list : BufferList → Result (List Buffer) Fault
+checked_list list = unless_fault (list_fault list) (six_places (listed_buffer list))
 
--- What the checks answer: the elements, or the first fault and zeros.
-unfoldable pub places_for : ElementFault → BufferList → List Buffer
-places_for Nothing list = six_places (listed_buffer list)
-places_for (At f) list = no_buffers
-
--- a list and its check
-unfoldable pub checked_list : BufferList → BuffersRead
-checked_list list = record { list = list; fault = list_fault list; buffers = places_for (list_fault list) list }
-
-unfoldable pub refused_tables : Fault → TablesCheck
-refused_tables f = record { fault = At f; elements = no_elements }
-
-unfoldable pub tables_answer : ElementFault → Elements → TablesCheck
-tables_answer Nothing e = record { fault = Nothing; elements = e }
-tables_answer (At f) e = refused_tables f
-
-unfoldable pub checked_tables : Tables → BufferList → TablesCheck
-checked_tables t list = tables_answer (tables_fault t list) (elements_of t list)
+unfoldable pub checked_tables : Tables → BufferList → Result Elements Fault
+checked_tables t list = unless_fault (tables_fault t list) (elements_of t list)

@@ -3,6 +3,7 @@
 #![tactic(auto)]
 
 mod answer;
+mod buffers;
 mod ends;
 mod explained;
 mod records;
@@ -11,12 +12,10 @@ mod tables;
 mod verdicts;
 
 pub use answer::{Answer, CrossingAnswer, CrossingFigures, Figures, RouteAnswer, RouteFigures};
+pub use buffers::{BuffersRead, read_list};
 pub use ends::ends_fault;
 pub use explained::{Explained, Reason};
 pub use records::{BufferList, BufferRecord, Crossing, RegisterRecord, Tables, WireRecord};
 pub use refusal::{Fault, Numbered, Refusal};
-pub use tables::{
-    BuffersRead, CrossingCheck, ElementFault, TablesCheck, check_crossing, check_tables,
-    no_elements, read_list,
-};
+pub use tables::{CrossingElements, check_crossing, check_tables};
 pub use verdicts::{Comparison, Finding, Verdict, VisitFault, Which};

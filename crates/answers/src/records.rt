@@ -7,7 +7,7 @@ pub struct WireRecord {
     pub load: u16,
 }
 
-#[derive(Clone, Copy)]
+#[derive(Clone, Copy, Default)]
 pub struct RegisterRecord {
     pub resistance: u16,
     pub delay: u16,
@@ -15,7 +15,7 @@ pub struct RegisterRecord {
     pub setup: u16,
 }
 
-#[derive(Clone, Copy)]
+#[derive(Clone, Copy, Default)]
 pub struct BufferRecord {
     pub resistance: u16,
     pub delay: u16,
@@ -34,7 +34,7 @@ pub struct Tables {
 }
 
 // What a net between two clocks has beside its tables, whose period is the sink's: the source's period and the FIFO. Document 02, C-15.
-#[derive(Clone, Copy)]
+#[derive(Clone, Copy, Default)]
 pub struct Crossing {
     pub period: u16,
     pub fifo: RegisterRecord,

@@ -1,6 +1,9 @@
 // Refusals, and the numbers of all that answers: document 01's and document 02's.
 ghost use Rattle.std.specs.Prelude.{◌≡◌, ℕ};
-ghost use Rattle.answers.specs.Numbers.{refusal_number, result_number};
+ghost use Rattle.answers.specs.declared.refusal.Refusal.TheVariants.{Element};
+ghost use Rattle.answers.specs.Numbers.{plan_refusal, refusal_number, result_number};
+
+use plan::PlanFault;
 
 // Refusal 4: which number was at fault. Buffer holds the buffer's place, from 1.
 // With one clock T is `Period`; between two clocks `SourcePeriod` and `SinkPeriod` stand in its place, and `Fifo` after `Register`. `Skew` is document 02's, C-16.
@@ -40,6 +43,26 @@ pub enum Refusal {
     NoneLegal,
     // asked why there is no route, but there is one
     RouteExists,
+}
+
+impl From<PlanFault> for Refusal {
+    ghost from_gives = { λ fault refusal. refusal ≡ plan_refusal fault };
+
+    fn from(fault: PlanFault) -> Refusal {
+        match fault {
+            PlanFault::Grid => Refusal::Grid,
+            PlanFault::Length => Refusal::Length,
+            PlanFault::Mark => Refusal::Mark,
+        }
+    }
+}
+
+impl From<Fault> for Refusal {
+    ghost from_gives = { λ fault refusal. refusal ≡ Element fault };
+
+    fn from(fault: Fault) -> Refusal {
+        Refusal::Element(fault)
+    }
 }
 
 // What has a number of document 01 or 02.

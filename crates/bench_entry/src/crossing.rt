@@ -4,12 +4,13 @@ ghost use Rattle.job.specs.Fields.{table_numbers};
 ghost use Rattle.bench_words.specs.Crossed.{clock_numbers, crossing_results, crossing_lengths_right};
 ghost use Rattle.bench_entry.specs.Crossed.{bench_crossing, BenchCrossed, CrossingEffect};
 
-use answers::Numbered;
+use answers::{Numbered, read_list};
 use bench_words::{
     WRONG_LENGTH, crossing_lengths_right, read_buffers, read_crossing, write_crossed,
 };
-use crossing_router::route_crossing_with;
+use crossing_router::route_crossing_asked;
 use job::tables_of;
+use question::Asking;
 
 // The best route between two clocks. Returns document 01's number, 0 to 8. `tables` and `buffers` are those of `bench_entry`; T is the sink's period.
 // `clocks` holds five words: the source's period, FIFO R K C setup. `figures` gets the registers of the source's side and of the sink's, steps, latency,
@@ -56,12 +57,16 @@ fn ask_crossing(
     requires { (table_numbers ≤ length tables.now) × ((clock_numbers ≤ length clocks.now) × (length figures.old ≡ crossing_results)) }
     ensures { BenchCrossed (bench_crossing plan.now width height tables.now clocks.now buffers.now source sink) scratch.old scratch.new visits.old visits.new figures.new result }
 {
-    let raw = tables_of(tables);
-    let crossing = read_crossing(clocks);
-    let list = read_buffers(buffers);
-    let answer = route_crossing_with(
-        plan, width, height, raw, crossing, list, source, sink, scratch, visits,
-    );
+    let asking = Asking {
+        plan,
+        width,
+        height,
+        tables: tables_of(tables),
+        buffers: read_list(read_buffers(buffers)),
+        source,
+        sink,
+    };
+    let answer = route_crossing_asked(&asking, read_crossing(clocks), scratch, visits);
     write_crossed(answer, figures);
     answer.number()
 }

@@ -5,10 +5,11 @@ ghost use Rattle.bench_words.specs.Words.{lengths_right, result_numbers};
 ghost use Rattle.bench_entry.specs.Question.{bench_question};
 ghost use Rattle.bench_entry.specs.Explained.{BenchExplained, ExplainEffect};
 
-use answers::Numbered;
+use answers::{Numbered, read_list};
 use bench_words::{WRONG_LENGTH, lengths_right, read_buffers, why_of, write_why};
 use job::tables_of;
-use reasons::explain_with;
+use question::Asking;
+use reasons::explain_asked;
 
 // Why there is no route. Returns document 02's number: 0, 1 to 6 or 19. `tables` and `buffers` are those of `bench_entry`.
 // `told` gets the reason's place (1 walled off, 2 load, 3 period, 4 too short; 0 where refused), the smallest period, the fault of refusal 4, 0 and 0.
@@ -50,9 +51,16 @@ fn ask_why(
     requires { (table_numbers ≤ length tables.now) × (length told.old ≡ result_numbers) }
     ensures { BenchExplained (bench_question plan.now width height tables.now buffers.now source sink) scratch.old scratch.new told.new result }
 {
-    let raw = tables_of(tables);
-    let list = read_buffers(buffers);
-    let explained = explain_with(plan, width, height, raw, list, source, sink, scratch);
+    let asking = Asking {
+        plan,
+        width,
+        height,
+        tables: tables_of(tables),
+        buffers: read_list(read_buffers(buffers)),
+        source,
+        sink,
+    };
+    let explained = explain_asked(&asking, scratch);
     write_why(why_of(explained), told);
     explained.number()
 }

@@ -5,10 +5,11 @@ ghost use Rattle.bench_words.specs.Words.{lengths_right, result_numbers};
 ghost use Rattle.bench_entry.specs.Question.{bench_question};
 ghost use Rattle.bench_entry.specs.Judged.{Judged, JudgeEffect};
 
-use answers::Numbered;
+use answers::{Numbered, read_list};
 use bench_words::{WRONG_LENGTH, found_of, lengths_right, read_buffers, write_found};
 use job::tables_of;
-use verdict::judge_with;
+use question::Asking;
+use verdict::judge_asked;
 
 // The verdict on a list. Returns document 02's number: 0, 1 to 5 or 17. `tables` and `buffers` are those of `bench_entry`.
 // `found` gets whether the list is accepted, the first visit at fault, its fault's place from 1, the fault of refusal 4, and the spare half-ticks of an accepted list or the miss of a period fault.
@@ -50,9 +51,16 @@ fn ask_verdict(
     requires { (table_numbers ≤ length tables.now) × (length found.old ≡ result_numbers) }
     ensures { Judged (bench_question plan.now width height tables.now buffers.now source sink) list.now found.new result }
 {
-    let raw = tables_of(tables);
-    let read = read_buffers(buffers);
-    let verdict = judge_with(plan, width, height, raw, read, source, sink, list);
+    let asking = Asking {
+        plan,
+        width,
+        height,
+        tables: tables_of(tables),
+        buffers: read_list(read_buffers(buffers)),
+        source,
+        sink,
+    };
+    let verdict = judge_asked(&asking, list);
     write_found(found_of(verdict), found);
     verdict.number()
 }

@@ -1,18 +1,17 @@
 // The entry to the search without the route.
 ghost use Rattle.std.specs.Prelude.{◌≤◌, ◌≡◌, length};
-ghost use Rattle.answers.specs.Tables.{checked_list};
 ghost use Rattle.job.specs.Fields.{table_numbers};
-ghost use Rattle.question.specs.Question.{question_of};
+ghost use Rattle.question.specs.Asked.{asked};
 ghost use Rattle.bench_words.specs.Words.{lengths_right, result_numbers};
 ghost use Rattle.bench_entry.specs.Question.{bench_question};
 ghost use Rattle.bench_entry.specs.Searched.{least_answer, Searching, BenchSearched, SearchEffect};
 
-use answers::{Answer, BuffersRead, Figures, Numbered, Refusal, Tables, read_list};
+use answers::{Answer, Figures, Numbered, Refusal, read_list};
 use bench_words::{WRONG_LENGTH, lengths_right, read_buffers, write_figures};
 use costs::costs_of;
 use job::tables_of;
 use layout::CELL_WORDS;
-use question::{Checked, check_question};
+use question::Asking;
 use router::{Least, least_ready};
 
 // The best route's registers and steps by the search alone: no route is made. Returns 0, or document 01's number, 1 to 7. `tables` and `buffers` are those of
@@ -55,43 +54,31 @@ fn ask_search(
     requires { (table_numbers ≤ length tables.now) × (length figures.old ≡ result_numbers) }
     ensures { BenchSearched (bench_question plan.now width height tables.now buffers.now source sink) scratch.old scratch.new figures.new result }
 {
-    let raw = tables_of(tables);
-    let list = read_buffers(buffers);
-    let read = read_list(list);
-    let answer = search_read(plan, width, height, raw, read, source, sink, scratch);
+    let asking = Asking {
+        plan,
+        width,
+        height,
+        tables: tables_of(tables),
+        buffers: read_list(read_buffers(buffers)),
+        source,
+        sink,
+    };
+    let answer = search_asked(&asking, scratch);
     write_figures(answer, figures);
     answer.number()
 }
 
 // Refusals 1 to 6 as the route call's, then the search.
-fn search_read(
-    plan: &[u8],
-    width: u16,
-    height: u16,
-    tables: Tables,
-    read: BuffersRead,
-    source: u16,
-    sink: u16,
-    scratch: &mut [u16],
-) -> Answer
-    requires { read ≡ checked_list read.list }
-    ensures { Searching (question_of plan.now width height tables read.list source sink) scratch.old scratch.new result }
+fn search_asked(asking: &Asking, scratch: &mut [u16]) -> Answer
+    ensures { Searching (asked asking.now) scratch.old scratch.new result }
 {
-    let checked = check_question(plan, width, height, tables, read, source, sink);
-    let outcome = checked.outcome;
-    match outcome {
-        Checked::Fails(r) => {
-            return Answer::Refused(r);
-        }
-        Checked::Passes => {
-            if scratch.len() < plan.len() * CELL_WORDS {
-                return Answer::Refused(Refusal::Scratch);
-            }
-            let p = checked.problem;
-            let elements = p.elements;
-            let costs = costs_of(elements, elements.register);
-            let least = least_ready(plan, scratch, p, &costs);
-            return least_answer(least);
+    let plan = asking.plan;
+    match asking.check() {
+        Err(r) => Answer::Refused(r),
+        Ok(_) if scratch.len() < plan.len() * CELL_WORDS => Answer::Refused(Refusal::Scratch),
+        Ok(p) => {
+            let costs = costs_of(p.elements, p.elements.register);
+            least_answer(least_ready(plan, scratch, p, &costs))
         }
     }
 }

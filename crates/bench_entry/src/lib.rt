@@ -8,10 +8,11 @@ ghost use Rattle.bench_words.specs.Words.{lengths_right, result_numbers};
 ghost use Rattle.bench_entry.specs.Question.{bench_question};
 ghost use Rattle.bench_entry.specs.Effect.{BenchAnswered, BenchEffect};
 
-use answers::Numbered;
+use answers::{Numbered, read_list};
 use bench_words::{WRONG_LENGTH, lengths_right, read_buffers, write_figures};
 use job::tables_of;
-use router::route_with;
+use question::Asking;
+use router::route_asked;
 
 mod crossing;
 mod explain;
@@ -65,11 +66,16 @@ fn ask(
     requires { (table_numbers ≤ length tables.now) × (length figures.old ≡ result_numbers) }
     ensures { BenchAnswered (bench_question plan.now width height tables.now buffers.now source sink) scratch.old scratch.new visits.old visits.new figures.new result }
 {
-    let raw = tables_of(tables);
-    let list = read_buffers(buffers);
-    let answer = route_with(
-        plan, width, height, raw, list, source, sink, scratch, visits,
-    );
+    let asking = Asking {
+        plan,
+        width,
+        height,
+        tables: tables_of(tables),
+        buffers: read_list(read_buffers(buffers)),
+        source,
+        sink,
+    };
+    let answer = route_asked(&asking, scratch, visits);
     write_figures(answer, figures);
     answer.number()
 }

@@ -1,16 +1,15 @@
 // Which of two route lists is the better: refusals 1 to 5, then 17 and 18.
 ghost use Rattle.std.specs.Prelude.{false, ◌≡◌};
-ghost use Rattle.answers.specs.Tables.{checked_list};
 ghost use Rattle.problem.specs.Problem.{rules_for, Ready};
-ghost use Rattle.question.specs.Question.{question_of};
+ghost use Rattle.question.specs.Asked.{asked};
 ghost use Rattle.rules.specs.Legal.{legal};
 ghost use Rattle.verdict.specs.Verdict.{route_in, bad_list};
 ghost use Rattle.comparison.specs.Better.{comparison_for, comparison_of};
 
 use crate::ranks::ranks_before;
-use answers::{BufferList, BuffersRead, Comparison, Finding, Refusal, Tables, Which, read_list};
+use answers::{Comparison, Finding, Refusal, Which};
 use problem::Problem;
-use question::{Checked, check_question};
+use question::Asking;
 use verdict::{bad_list, judge_ready};
 
 // The verdict accepts this list.
@@ -40,51 +39,13 @@ fn compare_ready(plan: &[u8], p: Problem, a: &[u16], b: &[u16]) -> Comparison
     }
 }
 
-// The comparison with a list of buffers that was read and checked.
-pub fn compare_read(
-    plan: &[u8],
-    width: u16,
-    height: u16,
-    tables: Tables,
-    read: BuffersRead,
-    source: u16,
-    sink: u16,
-    a: &[u16],
-    b: &[u16],
-) -> Comparison
-    requires { read ≡ checked_list read.list }
-    ensures { result ≡ comparison_of (question_of plan.now width height tables read.list source sink) a.now b.now }
+// Refusals 1 to 5, then 17 for either list, then the comparison.
+pub fn compare_asked(asking: &Asking, a: &[u16], b: &[u16]) -> Comparison
+    ensures { result ≡ comparison_of (asked asking.now) a.now b.now }
 {
-    let checked = check_question(plan, width, height, tables, read, source, sink);
-    let outcome = checked.outcome;
-    match outcome {
-        Checked::Fails(r) => {
-            return Err(r);
-        }
-        Checked::Passes => {
-            if bad_list(a) || bad_list(b) {
-                return Err(Refusal::RouteList);
-            }
-            let p = checked.problem;
-            return compare_ready(plan, p, a, b);
-        }
+    let p = asking.check()?;
+    if bad_list(a) || bad_list(b) {
+        return Err(Refusal::RouteList);
     }
-}
-
-// The comparison with a list of buffers by value.
-pub fn compare_with(
-    plan: &[u8],
-    width: u16,
-    height: u16,
-    tables: Tables,
-    list: BufferList,
-    source: u16,
-    sink: u16,
-    a: &[u16],
-    b: &[u16],
-) -> Comparison
-    ensures { result ≡ comparison_of (question_of plan.now width height tables list source sink) a.now b.now }
-{
-    let read = read_list(list);
-    compare_read(plan, width, height, tables, read, source, sink, a, b)
+    compare_ready(asking.plan, p, a, b)
 }

@@ -5,5 +5,5 @@ mod compare;
 mod handed;
 mod ranks;
 
-pub use compare::{compare_read, compare_with};
-pub use handed::{better_read, better_with};
+pub use compare::compare_asked;
+pub use handed::better_asked;

@@ -5,9 +5,10 @@ ghost use Rattle.std.specs.Prelude.{◌≡◌, take};
 ghost use Rattle.question.specs.Crossing.{crossing_of};
 ghost use Rattle.crossing_router.specs.Route.{crossing_answer_of};
 
-use answers::CrossingAnswer;
-use crossing_router::route_crossing_with;
+use answers::{CrossingAnswer, read_list};
+use crossing_router::route_crossing_asked;
 use player::{Net, PlayError, Player, UNUSED, VISIT_WORDS};
+use question::Asking;
 use report::write_answer;
 use script::Script;
 use std::io::Write;
@@ -26,18 +27,17 @@ fn crossing_of(
     let n = player.plan.min(plan.len());
     let s = player.scratch.min(scratch.len());
     let v = room.min(visits.len());
-    route_crossing_with(
-        &plan[..n],
-        net.width,
-        net.height,
-        player.tables,
-        player.crossing,
-        player.list,
-        net.source,
-        net.sink,
-        &mut scratch[..s],
-        &mut visits[..v],
-    )
+    let asking = Asking {
+        plan: &plan[..n],
+        width: net.width,
+        height: net.height,
+        tables: player.tables,
+        buffers: read_list(player.list),
+        source: net.source,
+        sink: net.sink,
+    };
+    let (scratch, visits) = (&mut scratch[..s], &mut visits[..v]);
+    route_crossing_asked(&asking, player.crossing, scratch, visits)
 }
 
 // crossing W H A B V, with fresh words

@@ -24,7 +24,7 @@ use Rattle.problem.specs.Net.{net_rules}
 use Rattle.problem.proofs.Clocks.{net-bound}
 use Rattle.question.specs.Checked.{problem_asked}
 use Rattle.crossing_router.specs.Route.{CrossingQuestion, rules_crossed, checks, passes, figures_of, figures_crossed, latency_crossed, answer_for, answer_after, crossing_answer_of, visits_for, visits_after, crossing_visits_of}
-use Rattle.crossing_router.proofs.Refusals.{net_asked}
+use Rattle.question.specs.Crossing.{net_asked}
 use Rattle.crossing_router.proofs.Passed.{passed-ready, asked-best, asked-none}
 use Rattle.answers.specs.declared.answer.RouteAnswer.{RouteAnswer}
 

@@ -13,7 +13,8 @@ use Rattle.problem.specs.Net.{net_rules, NetReady}
 use Rattle.question.specs.Checked.{problem_asked}
 use Rattle.crossing_router.specs.Route.{CrossingQuestion, rules_crossed, latency_crossed, checks, passes}
 use Rattle.crossing_router.proofs.BestCrossing.{crossed-best, crossed-none}
-use Rattle.crossing_router.proofs.Refusals.{net_asked, net-ready}
+use Rattle.question.specs.Crossing.{net_asked}
+use Rattle.crossing_router.proofs.Refusals.{net-ready}
 
 module _ (c : CrossingQuestion) (scratch : ℕ) (pass : checks c scratch ≡ passes) where
   pub passed-ready : NetReady (net_asked c) c.question.marks

@@ -1,37 +1,26 @@
 -- The call's effect once its checks are known.
-use Prim.Native.Nat.{ℕ, ◌*◌, ◌≤◌, ◌<◌}
-use mathlib.Core.Path.{◌≡◌, refl, sym, ap, ◌∙◌, subst}
-use mathlib.Core.List.{List}
-use native.Mathlib.Omega.{arith}
+use Rattle.std.proofs.Common.{◌≡◌, ℕ, ◌*◌, ◌≤◌, ◌<◌, List, length, Ok, refl, sym, ◌∙◌, subst, arith}
 use borrow.Author.Tests.{le-ltb, lt-ltb}
-use lib.ListN.{length}
 use Rattle.timing.specs.Elements.{RegisterInRange}
 use Rattle.timing.specs.Valid.{Valid}
 use Rattle.rules.specs.Rules.{fifo_code}
 use Rattle.rules.proofs.Clocks.{gate-fifo}
 use Rattle.costs.specs.Costs.{CostsOf}
 use Rattle.answers.specs.Tables.{elements_of}
-use Rattle.answers.specs.Crossing.{clocks_of, checked_crossing}
-use Rattle.answers.proofs.FirstCrossing.{crossing-clean}
-use Rattle.answers.specs.declared.tables.CrossingCheck.{CrossingCheck}
+use Rattle.answers.specs.Crossing.{clocks_of}
 use Rattle.answers.specs.declared.refusal.Refusal.{Refusal}
 use Rattle.answers.specs.Numbers.{CrossingAnswer}
 use Rattle.problem.specs.declared.net.Net.{Net}
 use Rattle.problem.specs.Problem.{plan_for}
 use Rattle.problem.specs.Net.{fifo_of, net_rules, NetReady}
-use Rattle.question.specs.Checked.{problem_asked, checked_with}
-use Rattle.question.specs.declared.Checked.{Checked}
-use Rattle.question.specs.declared.QuestionCheck.{QuestionCheck}
-use Rattle.question.proofs.Crossing.{crossing-passed, crossing-first-five, crossing-five-fail, crossing-ready, crossing-clocks, crossing-cells, crossing-checked, crossing-made, crossing-told-fails, crossing-told-passes}
+use Rattle.question.specs.Checked.{problem_asked}
+use Rattle.question.specs.Crossing.{net_asked, crossing_checked}
+use Rattle.question.proofs.Crossing.{crossing-first-five, crossing-five-fail, crossing-ready, crossing-clocks, crossing-cells, crossing-told-passes}
 use Rattle.crossing_router.specs.Route.{CrossingQuestion, rules_crossed, crossing_words, Check, passes, fails, crossing_checks, checks, answer_after, crossing_answer_of, scratch_after, crossing_scratch_of, visits_after, crossing_visits_of, Crossed}
 use Rattle.crossing_router.specs.Sides.{TwoAsks, CrossingDone}
 use Rattle.answers.specs.declared.answer.RouteAnswer.{RouteAnswer}
 
--- the net asked about
-abbrev pub net_asked : CrossingQuestion → Net
-net_asked c = record { problem = problem_asked c.question; clocks = clocks_of c.crossing }
-
--- it is ready, whatever follows the first five checks
+-- the net asked about is ready, whatever follows the first five checks
 pub net-ready : (c : CrossingQuestion) (rest : Check) → crossing_checks c rest ≡ passes → NetReady (net_asked c) c.question.marks
 net-ready c rest e = record { ready = crossing-ready c rest e; clocks = crossing-clocks c rest e }
 
@@ -63,49 +52,30 @@ module _ (c : CrossingQuestion) (scratch visits : List ℕ) where
       routed scratch' visits' r d =
           record { answer = rw (all-passed, answer_after) d.answer; scratch_left = rw (all-passed, scratch_after) (rw (crossing-cells c passes five) at d.zero-words); visits_left = rw (all-passed, visits_after) d.filled }
 
--- what passed checks hand on is that net
-pub record Handed (c : CrossingQuestion) (k : QuestionCheck) (m : CrossingCheck) : Type 0 where
-  pub five : crossing_checks c passes ≡ passes
-  pub problem : k.problem ≡ problem_asked c.question
-  pub elements : m.elements ≡ (problem_asked c.question).elements
-  pub clocks : m.clocks ≡ clocks_of c.crossing
+-- what the checks have handed on: that net
+module _ (c : CrossingQuestion) {net : Net} (handed : crossing_checked c ≡ Ok net) where
+  -- the checks pass
+  pub handed-five : crossing_checks c passes ≡ passes
+  handed-five = (crossing-told-passes c handed).0
 
-abbrev pub net_of : QuestionCheck → CrossingCheck → Net
-net_of k m = record { problem = k.problem; clocks = m.clocks }
+  net-is : net ≡ net_asked c
+  net-is = (crossing-told-passes c handed).1
 
-pub handed : (c : CrossingQuestion) (m : CrossingCheck) → m ≡ checked_crossing c.question.tables c.crossing c.question.buffers → (k : QuestionCheck) → k ≡ checked_with m.fault m.elements c.question → k.outcome ≡ Checked.Passes → Handed c k m
-unfolding problem_asked
-handed c m e k d h =
-    let t = crossing-told-passes c k (d ∙ crossing-checked c m e) h in
-    record {
-      five = t.0;
-      problem = t.1;
-      elements = ap (λ (x : CrossingCheck). x.elements) (e ∙ crossing-clean c.question.tables c.crossing c.question.buffers (crossing-passed c passes t.0).clean);
-      clocks = crossing-made c m e t.0;
-    }
-
-pub handed-fails : (c : CrossingQuestion) (m : CrossingCheck) → m ≡ checked_crossing c.question.tables c.crossing c.question.buffers → (k : QuestionCheck) → k ≡ checked_with m.fault m.elements c.question → (r : Refusal) → k.outcome ≡ Checked.Fails r → crossing_checks c passes ≡ fails r
-handed-fails c m e k d r h = crossing-told-fails c k r (d ∙ crossing-checked c m e) h
-
-module _ {c : CrossingQuestion} {k : QuestionCheck} {m : CrossingCheck} (x : Handed c k m) where
-  net-is : net_of k m ≡ net_asked c
-  net-is = rw (x.problem, x.clocks) refl
-
-  pub handed-valid : Valid m.elements × RegisterInRange m.clocks.fifo
+  pub handed-valid : Valid net.problem.elements × RegisterInRange net.clocks.fifo
   handed-valid =
-      rw (x.elements, x.clocks) ((crossing-ready c passes x.five).valid, (crossing-clocks c passes x.five).fifo)
+      rw net-is ((crossing-ready c passes handed-five).valid, (crossing-clocks c passes handed-five).fifo)
 
-  pub two-asks : (costs words : List ℕ) → length c.question.marks * crossing_words ≤ length words → CostsOf m.elements m.clocks.fifo costs → TwoAsks (net_of k m) c.question.marks costs words
+  pub two-asks : (costs words : List ℕ) → length c.question.marks * crossing_words ≤ length words → CostsOf net.problem.elements net.clocks.fifo costs → TwoAsks net c.question.marks costs words
   unfolding clocks_of fifo_of
   two-asks costs words room h =
-      subst (λ (net : Net). TwoAsks net c.question.marks costs words) (sym net-is)
+      subst (λ (n : Net). TwoAsks n c.question.marks costs words) (sym net-is)
       (record {
-        ready = net-ready c passes x.five;
+        ready = net-ready c passes handed-five;
         two = refl;
         room = room;
-        costed = rw (gate-fifo (problem_asked c.question).elements (clocks_of c.crossing) fifo_code (omega arith) refl) (rw (x.elements, x.clocks) at h);
+        costed = rw (gate-fifo (problem_asked c.question).elements (clocks_of c.crossing) fifo_code (omega arith) refl) (rw net-is at h);
       })
 
-  pub handed-routed : (scratch visits : List ℕ) → length c.question.marks * crossing_words ≤ length scratch → (scratch' visits' : List ℕ) (r : CrossingAnswer) → CrossingDone (net_of k m) c.question.marks scratch scratch' visits visits' r → Crossed c scratch scratch' visits visits' r
+  pub handed-routed : (scratch visits : List ℕ) → length c.question.marks * crossing_words ≤ length scratch → (scratch' visits' : List ℕ) (r : CrossingAnswer) → CrossingDone net c.question.marks scratch scratch' visits visits' r → Crossed c scratch scratch' visits visits' r
   handed-routed scratch visits room scratch' visits' r d =
-      routed c scratch visits x.five room scratch' visits' r (subst (λ (net : Net). CrossingDone net c.question.marks scratch scratch' visits visits' r) net-is d)
+      routed c scratch visits handed-five room scratch' visits' r (subst (λ (n : Net). CrossingDone n c.question.marks scratch scratch' visits visits' r) net-is d)

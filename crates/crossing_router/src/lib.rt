@@ -4,4 +4,4 @@
 mod checks;
 mod sides;
 
-pub use checks::{route_crossing_read, route_crossing_with};
+pub use checks::route_crossing_asked;

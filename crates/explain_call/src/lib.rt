@@ -5,9 +5,10 @@ ghost use Rattle.std.specs.Prelude.{◌≡◌, length, take};
 ghost use Rattle.question.specs.Question.{question_of};
 ghost use Rattle.reasons.specs.Reasons.{explained_of};
 
-use answers::{Explained, Numbered, Reason};
+use answers::{Explained, Numbered, Reason, read_list};
 use player::{Net, PlayError, Player, UNUSED};
-use reasons::explain_with;
+use question::Asking;
+use reasons::explain_asked;
 use report::{write_call, write_element, write_zeroed};
 use script::Script;
 use std::io::{self, Write};
@@ -38,16 +39,16 @@ fn explained_of(net: Net, player: &Player, plan: &[u8], scratch: &mut [u16]) -> 
 {
     let n = player.plan.min(plan.len());
     let s = player.scratch.min(scratch.len());
-    explain_with(
-        &plan[..n],
-        net.width,
-        net.height,
-        player.tables,
-        player.list,
-        net.source,
-        net.sink,
-        &mut scratch[..s],
-    )
+    let asking = Asking {
+        plan: &plan[..n],
+        width: net.width,
+        height: net.height,
+        tables: player.tables,
+        buffers: read_list(player.list),
+        source: net.source,
+        sink: net.sink,
+    };
+    explain_asked(&asking, &mut scratch[..s])
 }
 
 // reason W H A B, with fresh words

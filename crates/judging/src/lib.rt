@@ -8,13 +8,13 @@ ghost use Rattle.verdict.specs.Verdict.{verdict_of};
 ghost use Rattle.comparison.specs.Better.{comparison_of, Handed};
 
 use answers::{BufferRecord, Comparison, Tables, Verdict};
-use comparison::{better_read, compare_read};
+use comparison::{better_asked, compare_asked};
 use lent_buffers::read_buffers;
-use verdict::judge_read;
+use question::Asking;
+use verdict::judge_asked;
 
 // The verdict on a list of words cell, code, cell, code, .. from the sink on: accepted, or the first visit at fault and the fault there.
 // `verdict_of` says it, refusals included.
-#[tactic(auto, unfolding(answers::specs::Tables::checked_list))]
 pub fn judge(
     plan: &[u8],
     width: u16,
@@ -27,13 +27,20 @@ pub fn judge(
 ) -> Verdict
     ensures { result ≡ verdict_of (question_of plan.now width height tables (list_of buffers.now) source sink) list.now }
 {
-    let read = read_buffers(buffers);
-    judge_read(plan, width, height, tables, read, source, sink, list)
+    let asking = Asking {
+        plan,
+        width,
+        height,
+        tables,
+        buffers: read_buffers(buffers),
+        source,
+        sink,
+    };
+    judge_asked(&asking, list)
 }
 
 // Which of two lists is the better by the ranking of routes; of equal ones the first. An illegal list gives way to a legal one.
 // `comparison_of` says it, refusals included: 17 for either list, 18 where neither is legal.
-#[tactic(auto, unfolding(answers::specs::Tables::checked_list))]
 pub fn compare(
     plan: &[u8],
     width: u16,
@@ -47,13 +54,20 @@ pub fn compare(
 ) -> Comparison
     ensures { result ≡ comparison_of (question_of plan.now width height tables (list_of buffers.now) source sink) a.now b.now }
 {
-    let read = read_buffers(buffers);
-    compare_read(plan, width, height, tables, read, source, sink, a, b)
+    let asking = Asking {
+        plan,
+        width,
+        height,
+        tables,
+        buffers: read_buffers(buffers),
+        source,
+        sink,
+    };
+    compare_asked(&asking, a, b)
 }
 
 // The better list itself, the caller's own words; an empty part where `compare` refuses.
 // `Handed` says it of the references.
-#[tactic(auto, unfolding(answers::specs::Tables::checked_list))]
 pub fn better<'a>(
     plan: &[u8],
     width: u16,
@@ -67,6 +81,14 @@ pub fn better<'a>(
 ) -> &'a [u16]
     ensures { Handed (comparison_of (question_of plan.now width height tables (list_of buffers.now) source sink) a.now b.now) a.entry b.entry result }
 {
-    let read = read_buffers(buffers);
-    better_read(plan, width, height, tables, read, source, sink, a, b)
+    let asking = Asking {
+        plan,
+        width,
+        height,
+        tables,
+        buffers: read_buffers(buffers),
+        source,
+        sink,
+    };
+    better_asked(&asking, a, b)
 }

@@ -1,11 +1,13 @@
 // The commands. The calls are the functions below `planner`'s judge, compare and better.
 use crate::lines::{write_better, write_verdict};
 use crate::words::read_words;
-use comparison::{better_with, compare_with};
+use answers::read_list;
+use comparison::{better_asked, compare_asked};
 use player::{Net, PlayError, Player};
+use question::Asking;
 use script::Script;
 use std::io::Write;
-use verdict::judge_with;
+use verdict::judge_asked;
 
 // judge W H A B N W1 .. WN
 pub fn judge<W: Write>(
@@ -17,16 +19,16 @@ pub fn judge<W: Write>(
 ) -> Result<(), PlayError> {
     let net = Net::read(script)?;
     let count = read_words(script, words)?;
-    let verdict = judge_with(
-        &plan[..player.plan.min(plan.len())],
-        net.width,
-        net.height,
-        player.tables,
-        player.list,
-        net.source,
-        net.sink,
-        &words[..count.min(words.len())],
-    );
+    let asking = Asking {
+        plan: &plan[..player.plan.min(plan.len())],
+        width: net.width,
+        height: net.height,
+        tables: player.tables,
+        buffers: read_list(player.list),
+        source: net.source,
+        sink: net.sink,
+    };
+    let verdict = judge_asked(&asking, &words[..count.min(words.len())]);
     write_verdict(out, verdict, player.session.depth)?;
     Ok(())
 }
@@ -46,28 +48,17 @@ pub fn better<W: Write>(
     let plan = &plan[..player.plan.min(plan.len())];
     let a = &first[..n.min(first.len())];
     let b = &second[..m.min(second.len())];
-    let which = compare_with(
+    let asking = Asking {
         plan,
-        net.width,
-        net.height,
-        player.tables,
-        player.list,
-        net.source,
-        net.sink,
-        a,
-        b,
-    );
-    let handed = better_with(
-        plan,
-        net.width,
-        net.height,
-        player.tables,
-        player.list,
-        net.source,
-        net.sink,
-        a,
-        b,
-    );
+        width: net.width,
+        height: net.height,
+        tables: player.tables,
+        buffers: read_list(player.list),
+        source: net.source,
+        sink: net.sink,
+    };
+    let which = compare_asked(&asking, a, b);
+    let handed = better_asked(&asking, a, b);
     write_better(out, which, player.session.depth, handed)?;
     Ok(())
 }

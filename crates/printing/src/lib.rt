@@ -7,8 +7,10 @@ ghost use Rattle.job.specs.Job.{asks, cells_max, question_from, marks_of};
 ghost use Rattle.text.specs.Put.{Put};
 ghost use Rattle.printing.specs.Printed.{scratch_words, visit_words, text_bytes, reading_text, Prints};
 
+use answers::read_list;
 use job::{Asked, buffers_of, read_job};
-use router::route_with;
+use question::Asking;
+use router::route_asked;
 use text::{put_answer, put_refusal};
 
 // The text of a job's answer, at the start of `out`; answers its length. The job's numbers stand in the scratch words
@@ -43,16 +45,15 @@ fn print_asked(
 {
     let list = buffers_of(scratch, count);
     let cells = asked.width as usize * asked.height as usize;
-    let answer = route_with(
-        &plan[..cells],
-        asked.width,
-        asked.height,
-        asked.tables,
-        list,
-        asked.source,
-        asked.sink,
-        scratch,
-        visits,
-    );
+    let asking = Asking {
+        plan: &plan[..cells],
+        width: asked.width,
+        height: asked.height,
+        tables: asked.tables,
+        buffers: read_list(list),
+        source: asked.source,
+        sink: asked.sink,
+    };
+    let answer = route_asked(&asking, scratch, visits);
     put_answer(answer, visits, out)
 }

@@ -1,11 +1,10 @@
--- What the checks hand back: whether refusals 1 to 5 pass, and the routing problem if they do.
+-- What the checks hand back: the routing problem, or the first of refusals 1 to 5.
+use Rattle.std.specs.Prelude.{Result, Ok, Err}
 use Rattle.timing.specs.declared.elements.Elements.{Elements}
-use Rattle.answers.specs.Tables.{tables_fault, elements_of, no_elements}
-use Rattle.answers.specs.declared.tables.ElementFault.{ElementFault}
+use Rattle.answers.specs.Tables.{elements_of}
+use Rattle.answers.specs.declared.refusal.Refusal.{Refusal}
 use Rattle.problem.specs.declared.Problem.{Problem}
-use Rattle.question.specs.Question.{Question, Check, passes, fails, checks_with}
-use Rattle.question.specs.declared.Checked.{Checked}
-use Rattle.question.specs.declared.QuestionCheck.{QuestionCheck}
+use Rattle.question.specs.Question.{Question, Check, passes, fails, question_checks}
 
 -- the problem of these elements
 abbrev pub problem_with : Elements → Question → Problem
@@ -15,18 +14,11 @@ problem_with elements q =
 unfoldable pub problem_asked : Question → Problem
 problem_asked q = problem_with (elements_of q.tables q.buffers) q
 
--- stands where a check fails
-unfoldable pub no_problem : Problem
-no_problem = record { width = 0; height = 0; source = 0; sink = 0; elements = no_elements }
-
-unfoldable pub checked_as : Check → Problem → QuestionCheck
-checked_as passes p = record { outcome = Checked.Passes; problem = p }
-checked_as (fails r) p = record { outcome = Checked.Fails r; problem = no_problem }
-
--- by the fault of the tables' check and its elements
-unfoldable pub checked_with : ElementFault → Elements → Question → QuestionCheck
-checked_with fault elements q = checked_as (checks_with fault q passes) (problem_with elements q)
+-- what is made where the checks pass, or the refusal
+unfoldable pub checked_as : {A : Type 0} → Check → A → Result A Refusal
+checked_as passes made = Ok made
+checked_as (fails r) made = Err r
 
 -- with one clock
-unfoldable pub checked_question : Question → QuestionCheck
-checked_question q = checked_with (tables_fault q.tables q.buffers) (elements_of q.tables q.buffers) q
+unfoldable pub checked_question : Question → Result Problem Refusal
+checked_question q = checked_as (question_checks q passes) (problem_asked q)

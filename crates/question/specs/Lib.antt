@@ -1,3 +1,4 @@
 pub mod Question
 pub mod Checked
 pub mod Crossing
+pub mod Asked

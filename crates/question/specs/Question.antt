@@ -1,5 +1,5 @@
 -- What is asked on a plan, and refusals 1 to 5 of document 01, which every call about a route has.
-use Rattle.std.specs.Prelude.{ℕ, ◌*◌, Bool, cond, List, Ok, Err, Result}
+use Rattle.std.specs.Prelude.{ℕ, ◌*◌, Bool, cond, List, Option, Some, None, Ok, Err, Result}
 use Rattle.plan.specs.Plan.{plan_of}
 use Rattle.plan.specs.Check.{checked_plan}
 use Rattle.plan.specs.declared.PlanFault.{PlanFault}
@@ -9,8 +9,7 @@ use Rattle.answers.specs.Tables.{tables_fault, elements_of}
 use Rattle.answers.specs.Ends.{ends_fault}
 use Rattle.answers.specs.declared.records.Tables.{Tables}
 use Rattle.answers.specs.declared.records.BufferList.{BufferList}
-use Rattle.answers.specs.declared.tables.ElementFault.{ElementFault}
-use Rattle.answers.specs.declared.tables.ElementFault.TheVariants.{Nothing, At}
+use Rattle.answers.specs.declared.refusal.Fault.{Fault}
 use Rattle.answers.specs.declared.refusal.Refusal.{Refusal}
 
 -- what is asked: the plan's bytes and sides, the raw tables, the buffers, the ends
@@ -48,16 +47,16 @@ after_plan (Err Length) rest = fails Refusal.Length
 after_plan (Err Mark) rest = fails Refusal.Mark
 
 -- 4 with the number at fault, then the rest
-unfoldable pub after_tables : ElementFault → Check → Check
-after_tables Nothing rest = rest
-after_tables (At f) rest = fails (Refusal.Element f)
+unfoldable pub after_tables : Option Fault → Check → Check
+after_tables None rest = rest
+after_tables (Some f) rest = fails (Refusal.Element f)
 
 -- this refusal where the test is met, or else the rest
 abbrev pub or_else : Bool → Refusal → Check → Check
 or_else fault r rest = cond fault (fails r) rest
 
 -- 1 to 5, with what 4 names where a number is at fault, then the rest
-abbrev pub checks_with : ElementFault → Question → Check → Check
+abbrev pub checks_with : Option Fault → Question → Check → Check
 checks_with fault q rest =
     after_plan (checked_plan (plan_of q.width q.height q.marks))
     (after_tables fault

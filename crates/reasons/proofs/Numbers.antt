@@ -1,11 +1,6 @@
 -- Which numbers `explain` gives (document 02, C-13): 0 with a reason, 1 to 6 as a route call, 19. 7 and 8 never occur.
-use Prim.Native.Nat.{ℕ, ◌*◌, ◌≤◌}
-use mathlib.Core.Bool.{Bool, true, false}
-use mathlib.Core.Path.{◌≡◌, refl}
-use mathlib.Core.Logic.{◌⊎◌, inl, inr}
-use native.Mathlib.Omega.{arith}
-use lib.Dec.{ltb}
-use Rattle.std.proofs.Common.{Ok, Err, Result}
+use Rattle.std.proofs.Common.{◌≡◌, ℕ, ◌*◌, ◌≤◌, Bool, true, false, ltb, ◌⊎◌, Option, Some, None, Ok, Err, Result, refl, arith}
+use mathlib.Core.Logic.{inl, inr}
 use Rattle.plan.specs.declared.PlanFault.{PlanFault}
 use Rattle.plan.specs.declared.PlanFault.TheVariants.{Grid, Length, Mark}
 use Rattle.answers.specs.Ends.{ends_fault}
@@ -13,8 +8,7 @@ use Rattle.answers.specs.Tables.{tables_fault}
 use Rattle.answers.specs.Numbers.{refusal_number, explained_number}
 use Rattle.answers.specs.declared.refusal.Refusal.{Refusal}
 use Rattle.answers.specs.Numbers.{Explained}
-use Rattle.answers.specs.declared.tables.ElementFault.{ElementFault}
-use Rattle.answers.specs.declared.tables.ElementFault.TheVariants.{Nothing, At}
+use Rattle.answers.specs.declared.refusal.Fault.{Fault}
 use Rattle.question.specs.Question.{Question, Check, passes, fails, after_plan, after_tables, or_else, question_checks}
 use Rattle.router.specs.Route.{cells_asked, cell_words, checks}
 use Rattle.reasons.specs.Explains.{Explains}
@@ -33,10 +27,10 @@ plan-checked (Err Grid) rest h = omega arith
 plan-checked (Err Length) rest h = omega arith
 plan-checked (Err Mark) rest h = omega arith
 
-tables-checked : (f : ElementFault) (rest : Check) → UpToSix rest → UpToSix (after_tables f rest)
+tables-checked : (f : Option Fault) (rest : Check) → UpToSix rest → UpToSix (after_tables f rest)
 unfolding after_tables
-tables-checked Nothing rest h = h
-tables-checked (At f) rest h = omega arith
+tables-checked None rest h = h
+tables-checked (Some f) rest h = omega arith
 
 else-checked : (fault : Bool) (r : Refusal) (rest : Check) → refusal_number r ≤ 6 → UpToSix rest → UpToSix (or_else fault r rest)
 else-checked true r rest k h = k

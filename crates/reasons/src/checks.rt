@@ -1,57 +1,19 @@
 // The call: refusals 1 to 6 as a route's, then 19 or the reason.
-ghost use Rattle.std.specs.Prelude.{◌≡◌};
-ghost use Rattle.answers.specs.Tables.{checked_list};
-ghost use Rattle.router.specs.Route.{question_of};
+ghost use Rattle.question.specs.Asked.{asked};
 ghost use Rattle.reasons.specs.Reasons.{Explaining};
 
 use crate::reason::reason_ready;
-use answers::{BufferList, BuffersRead, Explained, Refusal, Tables, read_list};
+use answers::{Explained, Refusal};
 use layout::CELL_WORDS;
-use question::{Checked, check_question};
+use question::Asking;
 
-// The call on a list of buffers that was read and checked. Its whole effect, refused or not, is specs/Reasons.antt.
-pub fn explain_read(
-    plan: &[u8],
-    width: u16,
-    height: u16,
-    tables: Tables,
-    read: BuffersRead,
-    source: u16,
-    sink: u16,
-    scratch: &mut [u16],
-) -> Explained
-    requires { read ≡ checked_list read.list }
-    ensures { Explaining (question_of plan.now width height tables read.list source sink) scratch.old scratch.new result }
+// Its whole effect, refused or not, is specs/Reasons.antt.
+pub fn explain_asked(asking: &Asking, scratch: &mut [u16]) -> Explained
+    ensures { Explaining (asked asking.now) scratch.old scratch.new result }
 {
-    let checked = check_question(plan, width, height, tables, read, source, sink);
-    let outcome = checked.outcome;
-    match outcome {
-        Checked::Fails(r) => {
-            return Err(r);
-        }
-        Checked::Passes => {
-            if scratch.len() < plan.len() * CELL_WORDS {
-                return Err(Refusal::Scratch);
-            }
-            let p = checked.problem;
-            return reason_ready(plan, scratch, p);
-        }
+    let p = asking.check()?;
+    if scratch.len() < asking.plan.len() * CELL_WORDS {
+        return Err(Refusal::Scratch);
     }
-}
-
-// The call on a list of buffers by value.
-pub fn explain_with(
-    plan: &[u8],
-    width: u16,
-    height: u16,
-    tables: Tables,
-    list: BufferList,
-    source: u16,
-    sink: u16,
-    scratch: &mut [u16],
-) -> Explained
-    ensures { Explaining (question_of plan.now width height tables list source sink) scratch.old scratch.new result }
-{
-    let read = read_list(list);
-    explain_read(plan, width, height, tables, read, source, sink, scratch)
+    reason_ready(asking.plan, scratch, p)
 }

@@ -6,4 +6,4 @@ mod period;
 mod probe;
 mod reason;
 
-pub use checks::{explain_read, explain_with};
+pub use checks::explain_asked;

@@ -4,8 +4,9 @@
 ghost use Rattle.std.specs.Prelude.{◌≡◌, take};
 ghost use Rattle.router.specs.Route.{question_of, answer_of};
 
-use answers::{Answer, BufferList, Tables};
-use router::route_with;
+use answers::{Answer, BufferList, Tables, read_list};
+use question::Asking;
+use router::route_asked;
 
 // A route call without its plan. `scratch` and `visits` are how many words are lent.
 #[derive(Clone, Copy)]
@@ -26,15 +27,14 @@ pub fn ask(plan: &[u8], c: Call, scratch: &mut [u16], visits: &mut [u16]) -> Ans
 {
     let s = c.scratch.min(scratch.len());
     let v = c.visits.min(visits.len());
-    route_with(
+    let asking = Asking {
         plan,
-        c.width,
-        c.height,
-        c.tables,
-        c.list,
-        c.source,
-        c.sink,
-        &mut scratch[..s],
-        &mut visits[..v],
-    )
+        width: c.width,
+        height: c.height,
+        tables: c.tables,
+        buffers: read_list(c.list),
+        source: c.source,
+        sink: c.sink,
+    };
+    route_asked(&asking, &mut scratch[..s], &mut visits[..v])
 }

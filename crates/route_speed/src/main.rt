@@ -3,8 +3,9 @@
 
 ghost use Rattle.std.specs.Prelude.{◌≡◌, length};
 
-use answers::{BufferList, BufferRecord, Numbered, RegisterRecord, Tables, WireRecord};
-use router::route_with;
+use answers::{BufferList, BufferRecord, Numbered, RegisterRecord, Tables, WireRecord, read_list};
+use question::Asking;
+use router::route_asked;
 use std::io::{Result, Write};
 use streams::{fail, write_number, write_text};
 
@@ -66,17 +67,16 @@ fn buffers() -> BufferList {
 fn time<W: Write>(out: &mut W, label: &[u8], plan: &[u8], period: u16, sink: u16) -> Result<()> {
     let mut scratch = [0u16; SCRATCH];
     let mut visits = [0u16; VISITS];
-    let answer = route_with(
+    let asking = Asking {
         plan,
-        32,
-        32,
-        tables(period),
-        buffers(),
-        0,
+        width: 32,
+        height: 32,
+        tables: tables(period),
+        buffers: read_list(buffers()),
+        source: 0,
         sink,
-        &mut scratch,
-        &mut visits,
-    );
+    };
+    let answer = route_asked(&asking, &mut scratch, &mut visits);
     let f = answer.figures();
     write_text(out, label)?;
     write_text(out, b":")?;

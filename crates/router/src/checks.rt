@@ -1,63 +1,24 @@
 // The route call: refusals 1 to 6 in their order, then the route.
-ghost use Rattle.std.specs.Prelude.{◌≡◌};
-ghost use Rattle.answers.specs.Tables.{checked_list};
-ghost use Rattle.router.specs.Route.{question_of, Routed};
+ghost use Rattle.question.specs.Asked.{asked};
+ghost use Rattle.router.specs.Route.{Routed};
 
 use crate::ready::route_ready;
-use answers::{Answer, BufferList, BuffersRead, Refusal, Tables, read_list};
+use answers::{Answer, Refusal};
 use costs::costs_of;
 use layout::CELL_WORDS;
-use question::{Checked, check_question};
+use question::Asking;
 
-// The route call on a list of buffers that was read and checked. Its whole effect, refused or not, is specs/Route.antt.
-pub fn route_read(
-    plan: &[u8],
-    width: u16,
-    height: u16,
-    tables: Tables,
-    read: BuffersRead,
-    source: u16,
-    sink: u16,
-    scratch: &mut [u16],
-    visits: &mut [u16],
-) -> Answer
-    requires { read ≡ checked_list read.list }
-    ensures { Routed (question_of plan.now width height tables read.list source sink) scratch.old scratch.new visits.old visits.new result }
+// Its whole effect, refused or not, is specs/Route.antt.
+pub fn route_asked(asking: &Asking, scratch: &mut [u16], visits: &mut [u16]) -> Answer
+    ensures { Routed (asked asking.now) scratch.old scratch.new visits.old visits.new result }
 {
-    let checked = check_question(plan, width, height, tables, read, source, sink);
-    let outcome = checked.outcome;
-    match outcome {
-        Checked::Fails(r) => {
-            return Answer::Refused(r);
-        }
-        Checked::Passes => {
-            if scratch.len() < plan.len() * CELL_WORDS {
-                return Answer::Refused(Refusal::Scratch);
-            }
-            let p = checked.problem;
-            let elements = p.elements;
-            let costs = costs_of(elements, elements.register);
-            return route_ready(plan, scratch, p, &costs, visits);
+    let plan = asking.plan;
+    match asking.check() {
+        Err(r) => Answer::Refused(r),
+        Ok(_) if scratch.len() < plan.len() * CELL_WORDS => Answer::Refused(Refusal::Scratch),
+        Ok(p) => {
+            let costs = costs_of(p.elements, p.elements.register);
+            route_ready(plan, scratch, p, &costs, visits)
         }
     }
-}
-
-// The route call on a list of buffers by value.
-pub fn route_with(
-    plan: &[u8],
-    width: u16,
-    height: u16,
-    tables: Tables,
-    list: BufferList,
-    source: u16,
-    sink: u16,
-    scratch: &mut [u16],
-    visits: &mut [u16],
-) -> Answer
-    ensures { Routed (question_of plan.now width height tables list source sink) scratch.old scratch.new visits.old visits.new result }
-{
-    let read = read_list(list);
-    route_read(
-        plan, width, height, tables, read, source, sink, scratch, visits,
-    )
 }

@@ -6,6 +6,6 @@ mod least;
 mod ready;
 mod writing;
 
-pub use checks::{route_read, route_with};
+pub use checks::route_asked;
 pub use least::{Least, least_ready};
 pub use writing::{Written, write_out};

@@ -5,11 +5,11 @@ ghost use Rattle.reasons.specs.Reasons.{Explaining};
 
 use answers::{BufferRecord, Explained, Tables};
 use lent_buffers::read_buffers;
-use reasons::explain_read;
+use question::Asking;
+use reasons::explain_asked;
 
 // Why there is no route from source to sink: walled off, load, the smallest period, or that the longest is too short; 19 where there is one.
 // `Explaining` says the answer and what is left in the scratch words, refusals included.
-#[tactic(auto, unfolding(answers::specs::Tables::checked_list))]
 pub fn explain(
     plan: &[u8],
     width: u16,
@@ -22,6 +22,14 @@ pub fn explain(
 ) -> Explained
     ensures { Explaining (question_of plan.now width height tables (list_of buffers.now) source sink) scratch.old scratch.new result }
 {
-    let read = read_buffers(buffers);
-    explain_read(plan, width, height, tables, read, source, sink, scratch)
+    let asking = Asking {
+        plan,
+        width,
+        height,
+        tables,
+        buffers: read_buffers(buffers),
+        source,
+        sink,
+    };
+    explain_asked(&asking, scratch)
 }

@@ -6,7 +6,8 @@ ghost use Rattle.router.specs.Route.{question_of, Routed};
 
 use answers::{Answer, BufferRecord, Tables};
 use lent_buffers::read_buffers;
-use router::route_read;
+use question::Asking;
+use router::route_asked;
 
 mod explaining;
 mod two_clocks;
@@ -16,7 +17,6 @@ pub use two_clocks::route_crossing;
 
 // The best route from source to sink: its figures in the answer, its visits in `visits`.
 // `Routed` says the answer and what is left in the lent words, refusals included.
-#[tactic(auto, unfolding(answers::specs::Tables::checked_list))]
 pub fn route(
     plan: &[u8],
     width: u16,
@@ -30,8 +30,14 @@ pub fn route(
 ) -> Answer
     ensures { Routed (question_of plan.now width height tables (list_of buffers.now) source sink) scratch.old scratch.new visits.old visits.new result }
 {
-    let read = read_buffers(buffers);
-    route_read(
-        plan, width, height, tables, read, source, sink, scratch, visits,
-    )
+    let asking = Asking {
+        plan,
+        width,
+        height,
+        tables,
+        buffers: read_buffers(buffers),
+        source,
+        sink,
+    };
+    route_asked(&asking, scratch, visits)
 }

@@ -3,6 +3,7 @@ use Prim.Native.Nat.{ℕ}
 use mathlib.Core.Bool.{Bool, true, false}
 use mathlib.Core.Path.{◌≡◌, refl, ap, ap₂, fun_ext}
 use native.Mathlib.Omega.{arith}
+use Rattle.std.proofs.Common.{Option}
 use borrow.Author.Tests.{le-leb}
 use lib.Dec.{leb}
 use Rattle.timing.specs.declared.elements.Elements.{Elements}
@@ -13,8 +14,8 @@ use Rattle.rules.proofs.Skew.{rules-unskewed, between-unskewed}
 use Rattle.budget.specs.Emission.{first_from}
 use Rattle.answers.specs.Tables.{tables_fault, elements_of}
 use Rattle.answers.specs.Crossing.{crossing_fault, clocks_of}
+use Rattle.answers.specs.declared.refusal.Fault.{Fault}
 use Rattle.answers.specs.declared.refusal.Refusal.{Refusal}
-use Rattle.answers.specs.declared.tables.ElementFault.{ElementFault}
 use Rattle.answers.specs.declared.explained.Reason.{Reason}
 use Rattle.answers.specs.Numbers.{Explained}
 use Rattle.question.specs.Question.{Question, Check, passes, fails, checks_with, question_checks, rules_asked}
@@ -50,7 +51,7 @@ module _ (q : Question) where
 
     refusals : (rest : Check) → question_checks q rest ≡ checks_with (fault_before q) q rest
     unfolding question_checks
-    refusals rest = ap (λ (f : ElementFault). checks_with f q rest) fault
+    refusals rest = ap (λ (f : Option Fault). checks_with f q rest) fault
 
 module _ (q : Question) (e : Elements) (none : e.skew ≡ 0) where
   -- the tables with another period keep the skew; those without delays have none
@@ -111,7 +112,7 @@ module _ (c : CrossingQuestion) (none : c.question.tables.skew ≡ 0) where
 
   crossing-refusals : (rest : Check) → crossing_checks c rest ≡ checks_with (crossing_fault_before c) c.question rest
   unfolding crossing_checks
-  crossing-refusals rest = ap (λ (f : ElementFault). checks_with f c.question rest) crossing-fault
+  crossing-refusals rest = ap (λ (f : Option Fault). checks_with f c.question rest) crossing-fault
 
   pub crossings-before-16 : CrossingsBefore c
   unfolding crossing_answer_of crossing_visits_of

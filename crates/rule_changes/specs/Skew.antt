@@ -1,12 +1,11 @@
 -- C-16 of document 02: "A skew of 0 gives the answers of before." The answers of before are those of the same definitions under rules that read no skew (rules/specs/Unskewed.antt), all else in them as now, and refusal 4 without its test of the skew. `better` hands back by `comparison_of`; the scratch words go by the checks alone; the session's calls read no tables.
-use Rattle.std.specs.Prelude.{ℕ, true, List, ◌≡◌}
+use Rattle.std.specs.Prelude.{ℕ, true, List, ◌≡◌, Option}
 use Rattle.timing.specs.declared.elements.Elements.{Elements}
 use Rattle.rules.specs.Rules.{Rules}
 use Rattle.rules.specs.Unskewed.{unskewed_rules, unskewed_between}
 use Rattle.answers.specs.Tables.{require, period_in_range, register_ok, fault_from_limit, elements_of}
 use Rattle.answers.specs.Crossing.{clocks_of}
 use Rattle.answers.specs.declared.refusal.Fault.{Fault}
-use Rattle.answers.specs.declared.tables.ElementFault.{ElementFault}
 use Rattle.question.specs.Question.{Question, Check, checks_with, question_checks}
 use Rattle.question.specs.Crossing.{CrossingQuestion, crossing_checks}
 use Rattle.router.specs.Route.{answer_under, answer_of, visits_under, visits_of}
@@ -29,7 +28,7 @@ unfoldable pub unskewed_asked : Question → Rules
 unskewed_asked q = unskewed_with q (elements_of q.tables q.buffers)
 
 -- refusal 4: T, then L
-unfoldable pub fault_before : Question → ElementFault
+unfoldable pub fault_before : Question → Option Fault
 fault_before q = require (period_in_range q.tables.period) Fault.Period (fault_from_limit true q.tables q.buffers)
 
 pub record AnswersBefore (q : Question) : Type 0 where
@@ -50,7 +49,7 @@ unskewed_crossed c =
     unskewed_between (plan_asked c.question) (elements_of c.question.tables c.question.buffers) (clocks_of c.crossing) c.question.source c.question.sink
 
 -- refusal 4: the source's period, the sink's, then L
-unfoldable pub crossing_fault_before : CrossingQuestion → ElementFault
+unfoldable pub crossing_fault_before : CrossingQuestion → Option Fault
 crossing_fault_before c =
     require (period_in_range c.crossing.period) Fault.SourcePeriod
     (require (period_in_range c.question.tables.period) Fault.SinkPeriod

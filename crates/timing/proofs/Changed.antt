@@ -1,9 +1,5 @@
 -- A list whose first places are changed by a function: what a loop over an array keeps.
-use Prim.Native.Nat.{ℕ, zero, suc, ◌≤◌, ◌<◌}
-use mathlib.Core.Path.{◌≡◌, refl, ap}
-use mathlib.Core.List.{List, [], ◌∷◌, map}
-use native.Mathlib.Omega.{arith}
-use lib.ListN.{length, get_or, set}
+use Rattle.std.proofs.Common.{◌≡◌, ℕ, zero, suc, ◌≤◌, ◌<◌, List, [], ◌∷◌, map, length, get_or, set, refl, ap, arith}
 
 module _ {A : Type 0} (f : A → A) where
   unfoldable pub changed : ℕ → List A → List A
@@ -16,6 +12,13 @@ module _ {A : Type 0} (f : A → A) where
   changed-more d i [] h = absurd (omega arith)
   changed-more d zero (x ∷ xs) h = refl
   changed-more d (suc i) (x ∷ xs) h = ap (λ (ys : List A). f x ∷ ys) (changed-more d i xs (omega arith))
+
+  -- the place to be looked at next is as it was
+  pub changed-rest : (d : A) (i : ℕ) (xs : List A) → get_or (changed i xs) i d ≡ get_or xs i d
+  unfolding changed
+  changed-rest d zero xs = refl
+  changed-rest d (suc i) [] = refl
+  changed-rest d (suc i) (x ∷ xs) = changed-rest d i xs
 
   pub changed-all : (i : ℕ) (xs : List A) → length xs ≤ i → changed i xs ≡ map f xs
   unfolding changed

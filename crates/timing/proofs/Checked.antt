@@ -1,66 +1,50 @@
 -- What the answer of a checking constructor tells, and that its range test says that the element is in range.
-use Prim.Native.Nat.{ℕ, ◌≤◌}
-use mathlib.Core.Path.{◌≡◌, refl, sym}
-use mathlib.Core.Bool.{Bool, true, false, ◌&&◌, cond}
-use lib.Dec.{leb}
-use native.Mathlib.Omega.{arith}
+use Rattle.std.proofs.Common.{◌≡◌, ℕ, ◌≤◌, Bool, true, false, ◌&&◌, cond, leb, refl, Some, None}
 use borrow.Author.Tests.{leb-true, le-leb}
 use Rattle.timing.specs.Ranges.{resistance_max, delay_max, load_max, setup_max}
 use Rattle.timing.specs.declared.elements.Wire.{Wire}
-use Rattle.timing.specs.declared.elements.WireCheck.{WireCheck}
 use Rattle.timing.specs.declared.elements.Buffer.{Buffer}
-use Rattle.timing.specs.declared.elements.BufferCheck.{BufferCheck}
 use Rattle.timing.specs.declared.elements.Register.{Register}
-use Rattle.timing.specs.declared.elements.RegisterCheck.{RegisterCheck}
 use Rattle.timing.specs.Elements.{WireInRange, BufferInRange, RegisterInRange, wire_of, driver_of, buffer_of, register_of, wire_in_range, buffer_in_range, register_in_range, checked_wire, checked_buffer, checked_register}
 
 -- a bound at the end of a chain of tests
 last : (a : Bool) (x m : ℕ) → (a && leb x m) ≡ true → (a ≡ true) × (x ≤ m)
 last true x m h = (refl, leb-true x m h)
-last false x m h = let z : ◌≡◌ {A = ℕ} 0 1 = cc in absurd (omega arith)
+last false x m h = absurd cc
 
--- the two answers of a checking constructor, `valid` and `out`, are told apart
-module _ {A C : Type 0} (valid : A → C) (out : C) (same : (x y : A) → valid x ≡ valid y → x ≡ y) (apart : (x : A) → valid x ≡ out → ⊥) where
-  passed : (b : Bool) (x y : A) → cond b (valid x) out ≡ valid y → (b ≡ true) × (y ≡ x)
-  passed true x y h = (refl, sym (same x y h))
-  passed false x y h = absurd (apart y (sym h))
+-- the two answers of a checking constructor
+module _ {A : Type 0} where
+  passed : (b : Bool) (x y : A) → cond b (Some x) None ≡ Some y → (b ≡ true) × (y ≡ x)
+  passed true x y h = (refl, cc)
+  passed false x y h = absurd cc
 
-  failed : (b : Bool) (x : A) → cond b (valid x) out ≡ out → b ≡ false
-  failed true x h = absurd (apart x h)
+  failed : (b : Bool) (x : A) → cond b (Some x) None ≡ None → b ≡ false
+  failed true x h = absurd cc
   failed false x h = refl
 
-wire-apart : (w : Wire) → WireCheck.Valid w ≡ WireCheck.OutOfRange → ⊥
-wire-apart w h = let z : ◌≡◌ {A = ℕ} 0 1 = cc in omega arith
-
-pub wire-valid : (r c : ℕ) (w : Wire) → checked_wire r c ≡ WireCheck.Valid w → (wire_in_range r c ≡ true) × (w ≡ wire_of r c)
+pub wire-valid : (r c : ℕ) (w : Wire) → checked_wire r c ≡ Some w → (wire_in_range r c ≡ true) × (w ≡ wire_of r c)
 unfolding checked_wire
-wire-valid r c w h = passed WireCheck.Valid WireCheck.OutOfRange (λ x y e. cc) wire-apart (wire_in_range r c) (wire_of r c) w h
+wire-valid r c w h = passed (wire_in_range r c) (wire_of r c) w h
 
-pub wire-out : (r c : ℕ) → checked_wire r c ≡ WireCheck.OutOfRange → wire_in_range r c ≡ false
+pub wire-out : (r c : ℕ) → checked_wire r c ≡ None → wire_in_range r c ≡ false
 unfolding checked_wire
-wire-out r c h = failed WireCheck.Valid WireCheck.OutOfRange (λ x y e. cc) wire-apart (wire_in_range r c) (wire_of r c) h
+wire-out r c h = failed (wire_in_range r c) (wire_of r c) h
 
-buffer-apart : (b : Buffer) → BufferCheck.Valid b ≡ BufferCheck.OutOfRange → ⊥
-buffer-apart b h = let z : ◌≡◌ {A = ℕ} 0 1 = cc in omega arith
-
-pub buffer-valid : (r k c : ℕ) (b : Buffer) → checked_buffer r k c ≡ BufferCheck.Valid b → (buffer_in_range r k c ≡ true) × (b ≡ buffer_of r k c)
+pub buffer-valid : (r k c : ℕ) (b : Buffer) → checked_buffer r k c ≡ Some b → (buffer_in_range r k c ≡ true) × (b ≡ buffer_of r k c)
 unfolding checked_buffer
-buffer-valid r k c b h = passed BufferCheck.Valid BufferCheck.OutOfRange (λ x y e. cc) buffer-apart (buffer_in_range r k c) (buffer_of r k c) b h
+buffer-valid r k c b h = passed (buffer_in_range r k c) (buffer_of r k c) b h
 
-pub buffer-out : (r k c : ℕ) → checked_buffer r k c ≡ BufferCheck.OutOfRange → buffer_in_range r k c ≡ false
+pub buffer-out : (r k c : ℕ) → checked_buffer r k c ≡ None → buffer_in_range r k c ≡ false
 unfolding checked_buffer
-buffer-out r k c h = failed BufferCheck.Valid BufferCheck.OutOfRange (λ x y e. cc) buffer-apart (buffer_in_range r k c) (buffer_of r k c) h
+buffer-out r k c h = failed (buffer_in_range r k c) (buffer_of r k c) h
 
-register-apart : (g : Register) → RegisterCheck.Valid g ≡ RegisterCheck.OutOfRange → ⊥
-register-apart g h = let z : ◌≡◌ {A = ℕ} 0 1 = cc in omega arith
-
-pub register-valid : (r k c s : ℕ) (g : Register) → checked_register r k c s ≡ RegisterCheck.Valid g → (register_in_range r k c s ≡ true) × (g ≡ register_of r k c s)
+pub register-valid : (r k c s : ℕ) (g : Register) → checked_register r k c s ≡ Some g → (register_in_range r k c s ≡ true) × (g ≡ register_of r k c s)
 unfolding checked_register
-register-valid r k c s g h = passed RegisterCheck.Valid RegisterCheck.OutOfRange (λ x y e. cc) register-apart (register_in_range r k c s) (register_of r k c s) g h
+register-valid r k c s g h = passed (register_in_range r k c s) (register_of r k c s) g h
 
-pub register-out : (r k c s : ℕ) → checked_register r k c s ≡ RegisterCheck.OutOfRange → register_in_range r k c s ≡ false
+pub register-out : (r k c s : ℕ) → checked_register r k c s ≡ None → register_in_range r k c s ≡ false
 unfolding checked_register
-register-out r k c s h = failed RegisterCheck.Valid RegisterCheck.OutOfRange (λ x y e. cc) register-apart (register_in_range r k c s) (register_of r k c s) h
+register-out r k c s h = failed (register_in_range r k c s) (register_of r k c s) h
 
 -- the range tests decide the ranges
 pub wire-in : (r c : ℕ) → wire_in_range r c ≡ true → WireInRange (wire_of r c)

@@ -1,13 +1,10 @@
 -- When an element is within its ranges, and what each checking constructor answers (document 01, "Elements").
-use Rattle.std.specs.Prelude.{ℕ, ◌≤◌, Bool, ◌&&◌, cond, leb}
+use Rattle.std.specs.Prelude.{ℕ, ◌≤◌, Bool, ◌&&◌, cond, leb, Option, Some, None}
 use Rattle.timing.specs.Ranges.{resistance_max, delay_max, load_max, setup_max}
 use Rattle.timing.specs.declared.elements.Wire.{Wire}
-use Rattle.timing.specs.declared.elements.WireCheck.{WireCheck}
 use Rattle.timing.specs.declared.elements.Driver.{Driver}
 use Rattle.timing.specs.declared.elements.Buffer.{Buffer}
-use Rattle.timing.specs.declared.elements.BufferCheck.{BufferCheck}
 use Rattle.timing.specs.declared.elements.Register.{Register}
-use Rattle.timing.specs.declared.elements.RegisterCheck.{RegisterCheck}
 
 pub record WireInRange (w : Wire) : Type 0 where
   pub resistance : w.resistance.0 ≤ resistance_max
@@ -50,11 +47,11 @@ unfoldable pub register_in_range : ℕ → ℕ → ℕ → ℕ → Bool
 register_in_range r k c s = leb r resistance_max && leb k delay_max && leb c load_max && leb s setup_max
 
 -- the answers of the checking constructors
-unfoldable pub checked_wire : ℕ → ℕ → WireCheck
-checked_wire r c = cond (wire_in_range r c) (WireCheck.Valid (wire_of r c)) WireCheck.OutOfRange
+unfoldable pub checked_wire : ℕ → ℕ → Option Wire
+checked_wire r c = cond (wire_in_range r c) (Some (wire_of r c)) None
 
-unfoldable pub checked_buffer : ℕ → ℕ → ℕ → BufferCheck
-checked_buffer r k c = cond (buffer_in_range r k c) (BufferCheck.Valid (buffer_of r k c)) BufferCheck.OutOfRange
+unfoldable pub checked_buffer : ℕ → ℕ → ℕ → Option Buffer
+checked_buffer r k c = cond (buffer_in_range r k c) (Some (buffer_of r k c)) None
 
-unfoldable pub checked_register : ℕ → ℕ → ℕ → ℕ → RegisterCheck
-checked_register r k c s = cond (register_in_range r k c s) (RegisterCheck.Valid (register_of r k c s)) RegisterCheck.OutOfRange
+unfoldable pub checked_register : ℕ → ℕ → ℕ → ℕ → Option Register
+checked_register r k c s = cond (register_in_range r k c s) (Some (register_of r k c s)) None

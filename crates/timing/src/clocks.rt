@@ -19,7 +19,7 @@ impl Clocks {
     {
         Clocks {
             fifos: 0,
-            period: period,
+            period,
             fifo: Register::zero(),
         }
     }

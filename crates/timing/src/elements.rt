@@ -50,24 +50,6 @@ pub struct Elements {
     pub buffers: [Buffer; Elements::BUFFERS_MAX],
 }
 
-#[derive(Clone, Copy)]
-pub enum WireCheck {
-    Valid(Wire),
-    OutOfRange,
-}
-
-#[derive(Clone, Copy)]
-pub enum BufferCheck {
-    Valid(Buffer),
-    OutOfRange,
-}
-
-#[derive(Clone, Copy)]
-pub enum RegisterCheck {
-    Valid(Register),
-    OutOfRange,
-}
-
 impl Elements {
     // Ticks.
     pub const PERIOD_MIN: u16 = 1;
@@ -85,51 +67,33 @@ impl Elements {
         requires { Valid self × ((load.0 ≤ load_max) × (delay.0 ≤ sum_most)) }
         ensures { result ≡ slack_of (2 * self.period) (delay.0 + gate_delay (skewed self.skew (register_driver self.register)) load.0) }
     {
-        let register = self.register;
-        register.slack(self.period, self.skew, load, delay)
+        self.register.slack(self.period, self.skew, load, delay)
     }
 
     // The same tables with another period, in ticks.
     pub fn at_period(self, period: u16) -> Elements
         ensures { result ≡ at_period period self }
     {
-        let mut e = self;
-        e.period = period;
-        e
+        Elements { period, ..self }
     }
 
     // The same tables with every delay and the skew left out, and every load too unless `loads`.
     pub fn relaxed(self, loads: bool) -> Elements
         ensures { result ≡ relaxed loads self }
     {
-        let horizontal = self.horizontal;
-        let vertical = self.vertical;
-        let register = self.register;
-        let given = self.buffers;
-        let buffers = relaxed_buffers(given, loads);
-        let mut e = self;
-        e.skew = 0;
-        e.horizontal = horizontal.relaxed(loads);
-        e.vertical = vertical.relaxed(loads);
-        e.register = register.relaxed(loads);
-        e.buffers = buffers;
-        e
+        let mut buffers = self.buffers;
+        for buffer in buffers.iter_mut() {
+            *buffer = buffer.relaxed(loads);
+        }
+        Elements {
+            skew: 0,
+            horizontal: self.horizontal.relaxed(loads),
+            vertical: self.vertical.relaxed(loads),
+            register: self.register.relaxed(loads),
+            buffers,
+            ..self
+        }
     }
-}
-
-fn relaxed_buffers(
-    buffers: [Buffer; Elements::BUFFERS_MAX],
-    loads: bool,
-) -> [Buffer; Elements::BUFFERS_MAX]
-    ensures { result ≡ map (relaxed_buffer loads) buffers }
-{
-    let mut relaxed = buffers;
-    let mut i = 0;
-    while i < Elements::BUFFERS_MAX {
-        relaxed[i] = buffers[i].relaxed(loads);
-        i += 1;
-    }
-    relaxed
 }
 
 impl Wire {
@@ -137,20 +101,18 @@ impl Wire {
 
     pub const LOAD_MAX: u16 = Load::MAX;
 
-    // The wire of these numbers, or OutOfRange.
-    pub fn checked(resistance: u16, load: u16) -> WireCheck
+    // The wire of these numbers, or none.
+    pub fn checked(resistance: u16, load: u16) -> Option<Wire>
         ensures { result ≡ checked_wire resistance load }
     {
-        if Self::RESISTANCE_MAX < resistance {
-            return WireCheck::OutOfRange;
+        if resistance <= Self::RESISTANCE_MAX && load <= Self::LOAD_MAX {
+            Some(Wire {
+                resistance: Resistance(resistance),
+                load: Load(load),
+            })
+        } else {
+            None
         }
-        if Self::LOAD_MAX < load {
-            return WireCheck::OutOfRange;
-        }
-        WireCheck::Valid(Wire {
-            resistance: Resistance(resistance),
-            load: Load(load),
-        })
     }
 
     // A wire of zeros.
@@ -213,26 +175,24 @@ impl Buffer {
 
     pub const LOAD_MAX: u16 = Load::MAX;
 
-    // The buffer of these numbers, or OutOfRange.
-    pub fn checked(resistance: u16, delay: u16, load: u16) -> BufferCheck
+    // The buffer of these numbers, or none.
+    pub fn checked(resistance: u16, delay: u16, load: u16) -> Option<Buffer>
         ensures { result ≡ checked_buffer resistance delay load }
     {
-        if Self::RESISTANCE_MAX < resistance {
-            return BufferCheck::OutOfRange;
+        if resistance <= Self::RESISTANCE_MAX
+            && delay <= Self::DELAY_MAX
+            && load <= Self::LOAD_MAX
+        {
+            Some(Buffer {
+                driver: Driver {
+                    resistance: Resistance(resistance),
+                    delay,
+                },
+                load: Load(load),
+            })
+        } else {
+            None
         }
-        if Self::DELAY_MAX < delay {
-            return BufferCheck::OutOfRange;
-        }
-        if Self::LOAD_MAX < load {
-            return BufferCheck::OutOfRange;
-        }
-        BufferCheck::Valid(Buffer {
-            driver: Driver {
-                resistance: Resistance(resistance),
-                delay: delay,
-            },
-            load: Load(load),
-        })
     }
 
     // A buffer of zeros, for the unused places of a list.
@@ -282,30 +242,26 @@ impl Register {
 
     pub const SETUP_MAX: u16 = 30_000;
 
-    // The register of these numbers, or OutOfRange.
-    pub fn checked(resistance: u16, delay: u16, load: u16, setup: u16) -> RegisterCheck
+    // The register of these numbers, or none.
+    pub fn checked(resistance: u16, delay: u16, load: u16, setup: u16) -> Option<Register>
         ensures { result ≡ checked_register resistance delay load setup }
     {
-        if Self::RESISTANCE_MAX < resistance {
-            return RegisterCheck::OutOfRange;
+        if resistance <= Self::RESISTANCE_MAX
+            && delay <= Self::DELAY_MAX
+            && load <= Self::LOAD_MAX
+            && setup <= Self::SETUP_MAX
+        {
+            Some(Register {
+                driver: Driver {
+                    resistance: Resistance(resistance),
+                    delay,
+                },
+                load: Load(load),
+                setup,
+            })
+        } else {
+            None
         }
-        if Self::DELAY_MAX < delay {
-            return RegisterCheck::OutOfRange;
-        }
-        if Self::LOAD_MAX < load {
-            return RegisterCheck::OutOfRange;
-        }
-        if Self::SETUP_MAX < setup {
-            return RegisterCheck::OutOfRange;
-        }
-        RegisterCheck::Valid(Register {
-            driver: Driver {
-                resistance: Resistance(resistance),
-                delay: delay,
-            },
-            load: Load(load),
-            setup: setup,
-        })
     }
 
     // A register of zeros.
@@ -352,8 +308,9 @@ impl Register {
         requires { RegisterInRange self × ((skew ≤ skew_max) × ((load.0 ≤ load_max) × (delay.0 ≤ sum_most))) }
         ensures { result.0 ≡ delay.0 + gate_delay (skewed skew (register_driver self)) load.0 }
     {
-        let after = self.driver().after(load, delay);
-        after.plus(HalfTicks(2 * skew as u32))
+        self.driver
+            .after(load, delay)
+            .plus(HalfTicks(2 * skew as u32))
     }
 
     // The spare half-ticks of a span that comes here with this load and delay and closes, within this period and with this skew, in ticks. It is in time where they are not below zero.

@@ -8,8 +8,6 @@ mod slack;
 mod units;
 
 pub use clocks::Clocks;
-pub use elements::{
-    Buffer, BufferCheck, Driver, Elements, Register, RegisterCheck, Wire, WireCheck,
-};
+pub use elements::{Buffer, Driver, Elements, Register, Wire};
 pub use slack::{MOST as SLACK_MOST, slack_magnitude, smaller_slack};
 pub use units::{HalfTicks, Load, Resistance};

@@ -21,8 +21,5 @@ pub fn smaller_slack(a: i32, b: i32) -> i32
 pub fn slack_magnitude(z: i32) -> u32
     ensures { result ≡ magnitude z }
 {
-    if z < 0 {
-        return (-1 - z) as u32 + 1;
-    }
-    z as u32
+    z.unsigned_abs()
 }

@@ -1,8 +1,7 @@
 -- The tables that the checks vary, and a number for each fault of theirs.
-use Rattle.std.specs.Prelude.{ℕ, [], ◌∷◌}
+use Rattle.std.specs.Prelude.{ℕ, [], ◌∷◌, Option, Some, None}
+use Rattle.answers.specs.declared.refusal.Fault.{Fault}
 use Rattle.answers.specs.declared.refusal.Fault.TheVariants.{Period, SourcePeriod, SinkPeriod, Skew, Limit, Horizontal, Vertical, Register, Fifo, Count, Buffer}
-use Rattle.answers.specs.declared.tables.ElementFault.{ElementFault}
-use Rattle.answers.specs.declared.tables.ElementFault.TheVariants.{Nothing, At}
 use Rattle.answers.specs.declared.records.Tables.{Tables}
 use Rattle.answers.specs.declared.records.Crossing.{Crossing}
 use Rattle.answers.specs.declared.records.BufferList.{BufferList}
@@ -11,19 +10,19 @@ use Rattle.answers.specs.Tables.{tables_fault}
 use Rattle.answers.specs.Crossing.{crossing_fault}
 
 -- a buffer's place, or above 100
-abbrev pub fault_number : ElementFault → ℕ
-fault_number Nothing = 0
-fault_number (At Period) = 101
-fault_number (At Limit) = 102
-fault_number (At Horizontal) = 103
-fault_number (At Vertical) = 104
-fault_number (At Register) = 105
-fault_number (At Count) = 106
-fault_number (At SourcePeriod) = 107
-fault_number (At SinkPeriod) = 108
-fault_number (At Fifo) = 109
-fault_number (At Skew) = 110
-fault_number (At (Buffer place)) = place
+abbrev pub fault_number : Option Fault → ℕ
+fault_number None = 0
+fault_number (Some Period) = 101
+fault_number (Some Limit) = 102
+fault_number (Some Horizontal) = 103
+fault_number (Some Vertical) = 104
+fault_number (Some Register) = 105
+fault_number (Some Count) = 106
+fault_number (Some SourcePeriod) = 107
+fault_number (Some SinkPeriod) = 108
+fault_number (Some Fifo) = 109
+fault_number (Some Skew) = 110
+fault_number (Some (Buffer place)) = place
 
 -- the strip's tables, with these numbers for period, skew, limit, the resistances of wires and register
 unfoldable pub tables_with : ℕ → ℕ → ℕ → ℕ → ℕ → ℕ → Tables

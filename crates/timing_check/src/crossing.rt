@@ -80,12 +80,12 @@ fn crossing(period: u16, resistance: u16, delay: u16, load: u16, setup: u16) -> 
     ensures { result ≡ crossing_with period resistance delay load setup }
 {
     Crossing {
-        period: period,
+        period,
         fifo: RegisterRecord {
-            resistance: resistance,
-            delay: delay,
-            load: load,
-            setup: setup,
+            resistance,
+            delay,
+            load,
+            setup,
         },
     }
 }
@@ -93,8 +93,5 @@ fn crossing(period: u16, resistance: u16, delay: u16, load: u16, setup: u16) -> 
 fn number_of(t: Tables, x: Crossing, list: BufferList) -> u16
     ensures { result ≡ crossing_number_of t x list }
 {
-    let read = read_list(list);
-    let checked = check_crossing(t, x, read);
-    let f = checked.fault;
-    number(f)
+    number(check_crossing(t, x, read_list(list)).err())
 }

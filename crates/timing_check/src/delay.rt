@@ -5,7 +5,7 @@ ghost use Rattle.timing.specs.Elements.{wire_in_range, buffer_in_range, register
 ghost use Rattle.timing.specs.Formulas.{wire_delay, gate_delay, buffer_driver, setup_delay};
 
 use check::expect;
-use timing::{Buffer, BufferCheck, Load, Register, RegisterCheck, Wire, WireCheck};
+use timing::{Buffer, Load, Register, Wire};
 
 pub fn delays() {
     // the strip's first and second step; halving the whole bracket gives 8 for the first
@@ -24,7 +24,7 @@ fn step(resistance: u16, load: u16, under: u16) -> u32
     requires { under ≤ load_max }
     ensures { result ≡ cond (wire_in_range resistance load) (wire_delay (wire_of resistance load) under) 0 }
 {
-    let WireCheck::Valid(wire) = Wire::checked(resistance, load) else {
+    let Some(wire) = Wire::checked(resistance, load) else {
         return 0;
     };
     wire.delay(Load(under)).0
@@ -35,7 +35,7 @@ fn gate(resistance: u16, delay: u16, under: u16) -> u32
     requires { under ≤ load_max }
     ensures { result ≡ cond (buffer_in_range resistance delay 0) (gate_delay (buffer_driver (buffer_of resistance delay 0)) under) 0 }
 {
-    let BufferCheck::Valid(buffer) = Buffer::checked(resistance, delay, 0) else {
+    let Some(buffer) = Buffer::checked(resistance, delay, 0) else {
         return 0;
     };
     buffer.driver().delay(Load(under)).0
@@ -45,7 +45,7 @@ fn gate(resistance: u16, delay: u16, under: u16) -> u32
 fn start(setup: u16) -> u32
     ensures { result ≡ cond (register_in_range 0 0 0 setup) (setup_delay (register_of 0 0 0 setup)) 0 }
 {
-    let RegisterCheck::Valid(register) = Register::checked(0, 0, 0, setup) else {
+    let Some(register) = Register::checked(0, 0, 0, setup) else {
         return 0;
     };
     register.start_delay().0

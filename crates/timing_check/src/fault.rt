@@ -3,8 +3,7 @@ ghost use Rattle.std.specs.Prelude.{◌≡◌};
 ghost use Rattle.timing_check.specs.Faults.{fault_number, tables_with, list_with, fault_with};
 
 use answers::{
-    BufferList, BufferRecord, ElementFault, Fault, RegisterRecord, Tables, WireRecord,
-    check_tables, read_list,
+    BufferList, BufferRecord, Fault, RegisterRecord, Tables, WireRecord, check_tables, read_list,
 };
 use check::expect;
 
@@ -47,13 +46,11 @@ fn fault(
 ) -> u16
     ensures { result ≡ fault_with period skew limit horizontal vertical register n buffer }
 {
-    let read = read_list(list(n, buffer));
     let checked = check_tables(
         tables(period, skew, limit, horizontal, vertical, register),
-        read,
+        read_list(list(n, buffer)),
     );
-    let f = checked.fault;
-    number(f)
+    number(checked.err())
 }
 
 // The strip's tables with these numbers: the period, the skew, the limit, and the resistances of the wires and the register.
@@ -82,9 +79,9 @@ pub fn tables(
             resistance: vertical,
             load: 3,
         },
-        period: period,
-        skew: skew,
-        limit: limit,
+        period,
+        skew,
+        limit,
     }
 }
 
@@ -103,28 +100,26 @@ pub fn list(n: usize, buffer: u16) -> BufferList
         load: 1,
     };
     BufferList {
-        n: n,
+        n,
         items: [none, second, none, none, none, none],
     }
 }
 
-pub fn number(fault: ElementFault) -> u16
+pub fn number(fault: Option<Fault>) -> u16
     ensures { result ≡ fault_number fault }
 {
     match fault {
-        ElementFault::Nothing => 0,
-        ElementFault::At(f) => match f {
-            Fault::Period => 101,
-            Fault::Limit => 102,
-            Fault::Horizontal => 103,
-            Fault::Vertical => 104,
-            Fault::Register => 105,
-            Fault::Count => 106,
-            Fault::SourcePeriod => 107,
-            Fault::SinkPeriod => 108,
-            Fault::Fifo => 109,
-            Fault::Skew => 110,
-            Fault::Buffer(place) => place,
-        },
+        None => 0,
+        Some(Fault::Period) => 101,
+        Some(Fault::Limit) => 102,
+        Some(Fault::Horizontal) => 103,
+        Some(Fault::Vertical) => 104,
+        Some(Fault::Register) => 105,
+        Some(Fault::Count) => 106,
+        Some(Fault::SourcePeriod) => 107,
+        Some(Fault::SinkPeriod) => 108,
+        Some(Fault::Fifo) => 109,
+        Some(Fault::Skew) => 110,
+        Some(Fault::Buffer(place)) => place,
     }
 }

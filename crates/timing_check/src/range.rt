@@ -3,7 +3,7 @@ ghost use Rattle.std.specs.Prelude.{◌≡◌};
 ghost use Rattle.timing.specs.Elements.{wire_in_range, buffer_in_range, register_in_range};
 
 use check::expect;
-use timing::{Buffer, BufferCheck, Register, RegisterCheck, Wire, WireCheck};
+use timing::{Buffer, Register, Wire};
 
 pub fn wires() {
     expect(has_wire(0, 0));
@@ -32,26 +32,17 @@ pub fn registers() {
 fn has_wire(resistance: u16, load: u16) -> bool
     ensures { result ≡ wire_in_range resistance load }
 {
-    match Wire::checked(resistance, load) {
-        WireCheck::Valid(_) => true,
-        WireCheck::OutOfRange => false,
-    }
+    Wire::checked(resistance, load).is_some()
 }
 
 fn has_buffer(resistance: u16, delay: u16, load: u16) -> bool
     ensures { result ≡ buffer_in_range resistance delay load }
 {
-    match Buffer::checked(resistance, delay, load) {
-        BufferCheck::Valid(_) => true,
-        BufferCheck::OutOfRange => false,
-    }
+    Buffer::checked(resistance, delay, load).is_some()
 }
 
 fn has_register(resistance: u16, delay: u16, load: u16, setup: u16) -> bool
     ensures { result ≡ register_in_range resistance delay load setup }
 {
-    match Register::checked(resistance, delay, load, setup) {
-        RegisterCheck::Valid(_) => true,
-        RegisterCheck::OutOfRange => false,
-    }
+    Register::checked(resistance, delay, load, setup).is_some()
 }

@@ -2,12 +2,11 @@
 #![tactic(auto)]
 
 ghost use Rattle.std.specs.Prelude.{◌≡◌};
-ghost use Rattle.answers.specs.Tables.{checked_list};
-ghost use Rattle.question.specs.Question.{question_of};
+ghost use Rattle.question.specs.Asked.{asked};
 ghost use Rattle.verdict.specs.Verdict.{verdict_of};
 
-use answers::{BufferList, BuffersRead, Refusal, Tables, Verdict, read_list};
-use question::{Checked, check_question};
+use answers::{Refusal, Verdict};
+use question::Asking;
 
 mod gates;
 mod list;
@@ -17,49 +16,13 @@ mod wires;
 
 pub use list::{bad_list, judge_ready};
 
-// The verdict on a list of buffers that was read: refusals 1 to 5, then 17, then the visits.
-pub fn judge_read(
-    plan: &[u8],
-    width: u16,
-    height: u16,
-    tables: Tables,
-    read: BuffersRead,
-    source: u16,
-    sink: u16,
-    words: &[u16],
-) -> Verdict
-    requires { read ≡ checked_list read.list }
-    ensures { result ≡ verdict_of (question_of plan.now width height tables read.list source sink) words.now }
+// Refusals 1 to 5, then 17, then the verdict on the visits.
+pub fn judge_asked(asking: &Asking, words: &[u16]) -> Verdict
+    ensures { result ≡ verdict_of (asked asking.now) words.now }
 {
-    let checked = check_question(plan, width, height, tables, read, source, sink);
-    let outcome = checked.outcome;
-    match outcome {
-        Checked::Fails(r) => {
-            return Err(r);
-        }
-        Checked::Passes => {
-            if bad_list(words) {
-                return Err(Refusal::RouteList);
-            }
-            let p = checked.problem;
-            return Ok(judge_ready(plan, p, words));
-        }
+    let p = asking.check()?;
+    if bad_list(words) {
+        return Err(Refusal::RouteList);
     }
-}
-
-// The same on a list of buffers by value.
-pub fn judge_with(
-    plan: &[u8],
-    width: u16,
-    height: u16,
-    tables: Tables,
-    list: BufferList,
-    source: u16,
-    sink: u16,
-    words: &[u16],
-) -> Verdict
-    ensures { result ≡ verdict_of (question_of plan.now width height tables list source sink) words.now }
-{
-    let read = read_list(list);
-    judge_read(plan, width, height, tables, read, source, sink, words)
+    Ok(judge_ready(asking.plan, p, words))
 }

@@ -1,17 +1,12 @@
 -- The question of the words is the one that was asked.
-use mathlib.Core.Path.{ap, ◌∙◌}
-use Rattle.answers.specs.Tables.{checked_list}
+use Rattle.std.proofs.Common.{ap, ◌∙◌}
 use Rattle.answers.specs.Numbers.{answer_number}
-use Rattle.answers.proofs.FirstFault.{read-own}
 use Rattle.bench_words.specs.Figures.{figure_words}
 use Rattle.bench_entry.specs.Question.{bench_question}
 use Rattle.bench_entry.proofs.least.ask_search.Goals as goal
 
-pub search_read-answer-requires : goal.search_read-answer-requires
-search_read-answer-requires c = read-own _ _ c.read_list-read.ensures
-
 pub returns : goal.returns
-unfolding bench_question checked_list
+unfolding bench_question
 returns c =
     let done = rw (c.tables_of-raw.ensures, c.read_list-read.ensures, c.read_buffers-list.ensures) at c.search_read-answer.ensures in
     record {

@@ -1,16 +1,16 @@
 -- The fault that `check_tables` answers, as a number.
-use mathlib.Core.Path.{ap, ◌∙◌}
-use Rattle.answers.specs.declared.tables.TablesCheck.{TablesCheck}
-use Rattle.answers.specs.Tables.{checked_list}
-use Rattle.answers.proofs.FirstFault.{tables-fault, read-own}
-use Rattle.timing_check.specs.Faults.{fault_number, fault_with}
+use Rattle.std.proofs.Common.{◌≡◌}
+use Rattle.std.specs.Result.{result_err}
+use Rattle.answers.specs.Tables.{tables_fault, elements_of, checked_tables}
+use Rattle.answers.proofs.Made.{fault-found}
+use Rattle.timing_check.specs.Faults.{tables_with, list_with, fault_with}
 use Rattle.timing_check.proofs.fault.fault.Goals as goal
 
-pub check_tables-checked-requires : goal.check_tables-checked-requires
-check_tables-checked-requires c = read-own _ _ c.read_list-read.ensures
-
 pub returns : goal.returns
-unfolding fault_with checked_list
+unfolding fault_with checked_tables
 returns c =
-    let checked = rw (c.read_list-read.ensures, c.list.ensures, c.tables.ensures) at c.check_tables-checked.ensures in
-    c.number.ensures ∙ ap fault_number (ap (λ (x : TablesCheck). x.fault) checked ∙ tables-fault _ _)
+    let a = c.args in
+    let t = tables_with a.period a.skew a.limit a.horizontal a.vertical a.register in
+    let l = list_with a.n a.buffer in
+    let found : result_err c.check_tables-checked.result ≡ tables_fault t l = rw (c.check_tables-checked.ensures, c.read_list.ensures, c.list.ensures, c.tables.ensures) (fault-found (tables_fault t l) (elements_of t l)) in
+    rw (c.number.ensures, c.err.ensures.value, found)

@@ -1,10 +1,9 @@
 -- The constructor's answer tells its range test.
-use mathlib.Core.Path.{sym, ◌∙◌}
-use Rattle.timing.proofs.Checked.{register-valid, register-out}
+use Rattle.std.proofs.Common.{arith}
+use Rattle.std.proofs.lemmas.Bool.Decides.{nat_tests}
+use Rattle.timing.specs.Elements.{checked_register}
 use Rattle.timing_check.proofs.range.has_register.Goals as goal
 
-pub returns-in-Valid : goal.returns-in-Valid
-returns-in-Valid c = sym (register-valid _ _ _ _ _ (sym c.checked.ensures ∙ c.in-Valid.is)).0
-
-pub returns-in-OutOfRange : goal.returns-in-OutOfRange
-returns-in-OutOfRange c = sym (register-out _ _ _ _ (sym c.checked.ensures ∙ c.in-OutOfRange.is))
+pub returns : goal.returns
+unfolding checked_register
+returns c = grind (arith, nat_tests)

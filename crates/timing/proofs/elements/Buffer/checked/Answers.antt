@@ -1,19 +1,12 @@
-use borrow.Author.Tests.{le-leb, lt-leb}
+use Rattle.std.proofs.Common.{arith}
+use Rattle.std.proofs.lemmas.Bool.Decides.{nat_tests}
 use Rattle.timing.specs.Elements.{checked_buffer, buffer_in_range, buffer_of, driver_of}
 use Rattle.timing.proofs.elements.Buffer.checked.Goals as goal
 
-pub returns-then-resistance-gt-RESISTANCE_MAX : goal.returns-then-resistance-gt-RESISTANCE_MAX
-unfolding checked_buffer buffer_in_range
-returns-then-resistance-gt-RESISTANCE_MAX c = simp (lt-leb _ _ c.if-resistance-gt-RESISTANCE_MAX.true)
-
-pub returns-then-delay-gt-DELAY_MAX : goal.returns-then-delay-gt-DELAY_MAX
-unfolding checked_buffer buffer_in_range
-returns-then-delay-gt-DELAY_MAX c = simp (le-leb _ _ c.if-resistance-gt-RESISTANCE_MAX.false, lt-leb _ _ c.if-delay-gt-DELAY_MAX.true)
-
-pub returns-then-load-gt-LOAD_MAX : goal.returns-then-load-gt-LOAD_MAX
-unfolding checked_buffer buffer_in_range
-returns-then-load-gt-LOAD_MAX c = simp (le-leb _ _ c.if-resistance-gt-RESISTANCE_MAX.false, le-leb _ _ c.if-delay-gt-DELAY_MAX.false, lt-leb _ _ c.if-load-gt-LOAD_MAX.true)
-
-pub returns : goal.returns
+pub returns-then-load-le-LOAD_MAX : goal.returns-then-load-le-LOAD_MAX
 unfolding checked_buffer buffer_in_range buffer_of driver_of
-returns c = simp (le-leb _ _ c.if-resistance-gt-RESISTANCE_MAX.false, le-leb _ _ c.if-delay-gt-DELAY_MAX.false, le-leb _ _ c.if-load-gt-LOAD_MAX.false)
+returns-then-load-le-LOAD_MAX c = grind (arith, nat_tests)
+
+pub returns-else-resistance-le-RESISTANCE_MAX : goal.returns-else-resistance-le-RESISTANCE_MAX
+unfolding checked_buffer buffer_in_range buffer_of driver_of
+returns-else-resistance-le-RESISTANCE_MAX c = grind (arith, nat_tests)
