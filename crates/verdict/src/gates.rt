@@ -57,7 +57,7 @@ fn drive(elements: Elements, at: Point, code: u16) -> Result<Point, VisitFault>
     })
 }
 
-// The tests of load and period at a visit whose code is right, and the point after its gate. `at` is the point before it.
+// The tests of load and period at a visit whose code is right, and the point after its gate. `at` is the point before it. The codes are document 01's, which `GateIs` is about.
 pub fn pass_gate(elements: Elements, at: Point, last: bool, code: u16) -> Result<Point, VisitFault>
     requires { GateAsks elements at last code }
     ensures { GateIs elements at last code result }
