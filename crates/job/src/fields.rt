@@ -53,7 +53,7 @@ fn buffer_of(words: &[u16], count: usize, i: usize) -> BufferRecord
     }
 }
 
-// The list of `count` buffers, from three words each.
+// The list of `count` buffers, from three words each. The count stands beside the words as beside `BufferList`'s six places.
 pub fn buffers_of(words: &[u16], count: usize) -> BufferList
     requires { (count ≤ buffers_max) × (3 * count ≤ length words.now) }
     ensures { result ≡ buffer_list_of count (take (3 * count) words.now) }

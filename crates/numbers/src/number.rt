@@ -3,6 +3,7 @@ ghost use Rattle.std.specs.Prelude.{◌≡◌, ◌<◌};
 ghost use Rattle.numbers.specs.Numbers.{number, second_group, third_group, read_of};
 
 // The number that the job begins with, and the bytes after it; None is refusal 15.
+// Byte by byte: one match over `[low, high, ..]` with ranges splits the proof into some twenty branches whose facts have no names of the source.
 #[tactic(auto, unfolding(crate::specs::Numbers::number, crate::specs::Numbers::read_of))]
 pub fn read_number(job: &[u8]) -> Option<(u16, &[u8])>
     ensures { read_of result ≡ number job.now }

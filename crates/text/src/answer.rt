@@ -9,7 +9,7 @@ use answers::{Answer, Figures, Numbered};
 // The number of "no route".
 const NO_ROUTE: u16 = 7;
 
-// `none` for 7, else `refused` and the number.
+// `none` for 7, else `refused` and the number. By number, since `refusal_text` is of both a job's refusals and the call's.
 pub fn put_refusal(number: u16, out: &mut [u8]) -> usize
     requires { text_room 0 ≤ length out.old }
     ensures { Put (refusal_text number) 0 result out.old out.new }
@@ -49,7 +49,7 @@ fn put_visit(cell: u16, code: u16, out: &mut [u8], at: usize) -> usize
     put_byte(b'\n', out, c)
 }
 
-// The lines of the first n visits.
+// The lines of the first n visits. By n and not a part of the visits: an answer tells of fewer visits than the words lent hold, and `visit_lines` counts them.
 fn put_visits(visits: &[u16], n: usize, out: &mut [u8], start: usize) -> usize
     requires { (2 * n ≤ length visits.now) × (start + 12 * n ≤ length out.old) }
     ensures { Put (visit_lines visits.now n) start result out.old out.new }

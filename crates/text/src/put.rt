@@ -1,4 +1,5 @@
 // Words and numbers put into a lent text from a place on. Each answers the place after it.
+// The place stands beside the text and not in a struct with it: `Put` says of the lent text where each part begins and ends.
 ghost use Rattle.std.specs.Prelude.{◌+◌, ◌≤◌, ◌<◌, [], ◌∷◌, length};
 ghost use Rattle.text.specs.Decimal.{decimal, signed};
 ghost use Rattle.text.specs.Put.{Put};

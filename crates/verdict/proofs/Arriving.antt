@@ -22,7 +22,7 @@ use Rattle.problem.specs.Problem.{plan_for, rules_for, Ready}
 use Rattle.problem.proofs.Sizes.{cells_are}
 use Rattle.verdict.specs.Verdict.{right, wrong, visit_check, first_check}
 use Rattle.verdict.specs.Gates.{delay_cap, Carries, At, gate_check}
-use Rattle.verdict.specs.declared.gates.Point.{Point}
+use Rattle.verdict.specs.declared.gates.point.Point.{Point}
 
 -- `from`: the point after the visit before it
 module _ (R : Rules) (a : Place) (last : Bool) (v : Visit) where

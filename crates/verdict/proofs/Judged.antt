@@ -20,7 +20,7 @@ use Rattle.problem.specs.Problem.{plan_for, rules_for, Ready}
 use Rattle.problem.proofs.Sizes.{cells_are}
 use Rattle.verdict.specs.Verdict.{route_in, bad_list, VisitCheck, right, or_wrong, visit_check, first_check, judge_route}
 use Rattle.verdict.specs.Visits.{VisitIs, FirstIs, Judging}
-use Rattle.verdict.specs.declared.gates.Point.{Point}
+use Rattle.verdict.specs.declared.gates.point.Point.{Point}
 use Rattle.std.specs.Prelude.{Ok, Err}
 use Rattle.verdict.proofs.Routes.{visits-even, good-even, good_length}
 use Rattle.verdict.proofs.Steps.{visit_in, last_in, judge-right, judge-wrong, judge-end, judge-first-right, judge-first-wrong}
@@ -60,7 +60,7 @@ module _ (p : Problem) (marks ws : List ℕ) (ready : Ready p marks) (good : bad
       record {
         place = start_place R (visit_in ws 0);
         here = s.here;
-        standing = λ h. record { in_plan = rw s.here.cell (passed-sink p marks ready (visit_in ws 0) s.is_right); light = s.light refl; early = omega (arith, s.here.carries.delay) };
+        standing = λ h. record { in_plan = rw s.here.cell (passed-sink p marks ready (visit_in ws 0) s.is_right); light = s.light refl };
         judged = rw s.slack (judge-first-right R ws (omega (arith, good_length ws good)) s.is_right);
       }
 
@@ -79,7 +79,7 @@ module _ (p : Problem) (marks ws : List ℕ) (ready : Ready p marks) (good : bad
         record {
           place = next_place R j.place (visit_in ws i);
           here = s.here;
-          standing = λ k. record { in_plan = rw s.here.cell (right-cell p marks ready _ last _ (passed-cell R j.place last (visit_in ws i) s.is_right)); light = s.light (e ∙ not_last k); early = omega (arith, s.here.carries.delay) };
+          standing = λ k. record { in_plan = rw s.here.cell (right-cell p marks ready _ last _ (passed-cell R j.place last (visit_in ws i) s.is_right)); light = s.light (e ∙ not_last k) };
           judged = rw s.slack (j.judged ∙ judge-right R ws i j.place b.slack h (rw e at s.is_right));
         }
 

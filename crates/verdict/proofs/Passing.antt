@@ -26,7 +26,7 @@ use Rattle.rules.proofs.View.{leave_none, leave-buffer, open_code, side_same, si
 use Rattle.rules.proofs.Slack.{slack-in-time}
 use Rattle.verdict.specs.Verdict.{right, wrong}
 use Rattle.verdict.specs.Gates.{delay_cap, Carries, StepOn, gate_check}
-use Rattle.verdict.specs.declared.gates.Point.{Point}
+use Rattle.verdict.specs.declared.gates.point.Point.{Point}
 
 -- the buffer with a code
 abbrev pub buffer_of_code : Elements → ℕ → Buffer

@@ -10,12 +10,9 @@ use Rattle.rules.specs.Legal.{Visit, arrive, load_right, period_right}
 use Rattle.rules.specs.Beginning.{Place, next_place}
 use Rattle.rules.specs.Slack.{slack_at, slack_after}
 use Rattle.verdict.specs.Verdict.{VisitCheck, right, wrong, or_wrong}
-use Rattle.verdict.specs.declared.gates.Point.{Point}
+pub use Rattle.verdict.specs.Cap.{delay_cap}
+use Rattle.verdict.specs.declared.gates.point.Point.{Point}
 use Rattle.answers.specs.declared.verdicts.VisitFault.{VisitFault}
-
--- the code counts delays no further: every span that comes so far has the lowest figure
-abbrev pub delay_cap : ℕ
-delay_cap = 1000060000
 
 -- a point has a stage's load, and its delay up to the cap
 pub record Carries (b : Point) (s : Stage) : Type 0 where
@@ -60,10 +57,8 @@ ClosedIs e at r =
 pub record CloseAsks (e : Elements) (at : Point) : Type 0 where
   pub valid : Valid e
   pub light : at.load.0 ≤ e.limit.0
-  pub early : at.delay.0 ≤ delay_cap
 
 -- a code that is right at the visit: the last has 7, one in between no gate, a listed buffer or 7
 pub record GateAsks (e : Elements) (at : Point) (last : Bool) (code : ℕ) : Type 0 where
   pub valid : Valid e
-  pub early : at.delay.0 ≤ delay_cap
   pub codes : (code ≡ register_code) ⊎ ((last ≡ false) × (code ≤ e.count))

@@ -8,8 +8,8 @@ use Rattle.rules.specs.Slack.{slack_after}
 use Rattle.problem.specs.declared.Problem.{Problem}
 use Rattle.problem.specs.Problem.{rules_for}
 use Rattle.verdict.specs.Verdict.{route_in, visit_check, first_check, judge_from, judge_route}
-use Rattle.verdict.specs.Gates.{delay_cap, At, StepIs}
-use Rattle.verdict.specs.declared.gates.Point.{Point}
+use Rattle.verdict.specs.Gates.{At, StepIs}
+use Rattle.verdict.specs.declared.gates.point.Point.{Point}
 use Rattle.answers.specs.declared.verdicts.VisitFault.{VisitFault}
 use Rattle.timing.specs.declared.elements.Wire.{Wire}
 
@@ -22,7 +22,6 @@ LinkIs R from cell None = R.linked from cell ≡ false
 pub record Standing (p : Problem) (n : ℕ) (b : Point) : Type 0 where
   pub in_plan : b.cell < n
   pub light : b.load.0 ≤ p.elements.limit.0
-  pub early : b.delay.0 ≤ delay_cap
 
 -- a visit from a point, whatever place it is
 abbrev pub VisitIs : Problem → List ℕ → Point → Bool → Visit → Result Point VisitFault → Type 0

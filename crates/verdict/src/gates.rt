@@ -1,29 +1,14 @@
 // A visit's gate: load and period, and what it leaves.
-ghost use Rattle.std.specs.Prelude.{◌≡◌, false, ◌≤◌, min};
+ghost use Rattle.std.specs.Prelude.{false, ◌≤◌};
 ghost use Rattle.rules.specs.Rules.{register_code};
-ghost use Rattle.verdict.specs.Gates.{delay_cap, CloseAsks, GateAsks, GateIs, ClosedIs};
+ghost use Rattle.verdict.specs.Gates.{CloseAsks, GateAsks, GateIs, ClosedIs};
 
 use answers::VisitFault;
-use timing::{Elements, HalfTicks, Load, smaller_slack};
+use timing::{Elements, smaller_slack};
 
-// Where the visits judged so far have come: the last one's cell, the load and delay after its gate, and the smallest spare figure of the spans closed so far. The delay stops at DELAY_CAP.
-#[derive(Clone, Copy)]
-pub struct Point {
-    pub cell: usize,
-    pub load: Load,
-    pub delay: HalfTicks,
-    pub slack: i32,
-}
+mod point;
 
-// Twice the longest period and the largest miss that is told: a span that comes so far has the lowest figure, whatever follows, so that nothing more need be counted.
-pub const DELAY_CAP: u32 = 1_000_060_000;
-
-// The delay, or the cap.
-pub fn capped(delay: HalfTicks) -> HalfTicks
-    ensures { result.0 ≡ min delay.0 delay_cap }
-{
-    HalfTicks(delay.0.min(DELAY_CAP))
-}
+pub use point::{Point, capped};
 
 // The period test at a register or the source, and a new span.
 fn closed(elements: Elements, at: Point) -> Result<Point, VisitFault>
@@ -35,10 +20,10 @@ fn closed(elements: Elements, at: Point) -> Result<Point, VisitFault>
         return Err(VisitFault::Period(close));
     }
     Ok(Point {
+        cell: at.cell,
         load: elements.register.load(),
         delay: elements.register.start_delay(),
         slack: smaller_slack(at.slack, close),
-        ..at
     })
 }
 
@@ -64,10 +49,15 @@ fn drive(elements: Elements, at: Point, code: u16) -> Result<Point, VisitFault>
         return Err(VisitFault::Load);
     }
     let delay = capped(buffer.driver().after(at.load, at.delay));
-    Ok(Point { load, delay, ..at })
+    Ok(Point {
+        cell: at.cell,
+        load,
+        delay,
+        slack: at.slack,
+    })
 }
 
-// The tests of load and period at a visit whose code is right, and the point after its gate. `at` is the point before it.
+// The tests of load and period at a visit whose code is right, and the point after its gate. `at` is the point before it. The codes are document 01's, which `GateIs` is about.
 pub fn pass_gate(elements: Elements, at: Point, last: bool, code: u16) -> Result<Point, VisitFault>
     requires { GateAsks elements at last code }
     ensures { GateIs elements at last code result }

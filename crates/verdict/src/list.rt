@@ -16,7 +16,7 @@ pub fn bad_list(words: &[u16]) -> bool
     words.len() % 2 == 1 || words.len() < 4
 }
 
-// The visits after the first, from the point after it.
+// The visits after the first, from the point after it. By number, which a fault tells.
 fn judge_rest(plan: &[u8], p: Problem, words: &[u16], start: Point) -> Finding
     requires { Ready p plan.now × ((bad_list words.now ≡ false) × Judging p plan.now words.now 1 start) }
     ensures { result ≡ judge_route (rules_for p plan.now) (route_in words.now) }

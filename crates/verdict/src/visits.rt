@@ -40,17 +40,13 @@ pub fn judge_visit(
     }
     let load = from.load.plus(wire.load());
     let delay = capped(from.delay.plus(wire.delay(from.load)));
-    pass_gate(
-        p.elements,
-        Point {
-            cell,
-            load,
-            delay,
-            ..from
-        },
-        last,
-        code,
-    )
+    let at = Point {
+        cell,
+        load,
+        delay,
+        slack: from.slack,
+    };
+    pass_gate(p.elements, at, last, code)
 }
 
 // The first visit: the sink.

@@ -5,6 +5,7 @@ use borrow.Author.Tests.{le-leb}
 use mir.Syntax.{w32}
 use mir.Val.{to_z, of_z}
 use mir.Facts.{to_z-of_z}
+use Rattle.timing.specs.Formulas.{setup_delay}
 use Rattle.timing.specs.Slack.{smaller}
 use Rattle.verdict.proofs.Passing.{close_of, gate-late, closed-step}
 use Rattle.verdict.proofs.gates.closed.Goals as goal
@@ -15,7 +16,7 @@ close : (c : After-slack-close) → to_z w32 (of_z w32 c.slack-close.result) ≡
 close c = to_z-of_z {w = w32} {z = c.slack-close.result} (record { sfits = c.slack-close.type_inv }) ∙ c.slack-close.ensures
 
 pub slack-close-requires : goal.slack-close-requires
-slack-close-requires c = (c.requires.valid, (omega (arith, c.requires.light, c.requires.valid.limit), omega (arith, c.requires.early)))
+slack-close-requires c = (c.requires.valid, (omega (arith, c.requires.light, c.requires.valid.limit), omega (arith, c.args.at.early)))
 
 pub returns-then-close-lt0 : goal.returns-then-close-lt0
 returns-then-close-lt0 c =
@@ -25,6 +26,10 @@ returns-then-close-lt0 c =
 
 pub start_delay-requires : goal.start_delay-requires
 start_delay-requires c = c.requires.valid.register
+
+pub invariant_of-result : goal.invariant_of-result
+unfolding setup_delay
+invariant_of-result c = record { early = omega (arith, c.start_delay.ensures, c.requires.valid.register.setup) }
 
 pub returns : goal.returns
 returns c =

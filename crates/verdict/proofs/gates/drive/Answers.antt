@@ -26,7 +26,7 @@ pub after-requires : goal.after-requires
 unfolding buffer_of driver_of buffer_driver
 after-requires c =
     let driver : c.driver.result ≡ buffer_driver (buffer_of_code c.args.elements c.args.code) = c.driver.ensures in
-    (rw driver (c.requires.0.valid.buffers (c.args.code - 1) (omega (arith, c.requires.1.0, c.requires.1.1, c.requires.0.valid.count))).driver, (omega (arith, c.requires.0.light, c.requires.0.valid.limit), omega (arith, c.requires.0.early)))
+    (rw driver (c.requires.0.valid.buffers (c.args.code - 1) (omega (arith, c.requires.1.0, c.requires.1.1, c.requires.0.valid.count))).driver, (omega (arith, c.requires.0.light, c.requires.0.valid.limit), omega (arith, c.args.at.early)))
 
 pub returns : goal.returns
 unfolding buffer_of driver_of

@@ -1,8 +1,8 @@
 -- The first visit's three tests.
-use mathlib.Core.Path.{◌≡◌, refl, sym, ◌∙◌}
+use Rattle.std.proofs.Common.{◌≡◌, refl, sym, ◌∙◌, arith}
 use borrow.Author.Tests.{leb-true}
 use lib.Dec.{leb}
-use Rattle.timing.specs.Formulas.{register_load}
+use Rattle.timing.specs.Formulas.{register_load, setup_delay}
 use Rattle.verdict.proofs.Arriving.{first_cell, first-site, first_load, first-right, start-at}
 use Rattle.verdict.proofs.visits.judge_first.Goals as goal
 use Rattle.verdict.proofs.visits.judge_first.Goals.{After-at_most}
@@ -21,6 +21,10 @@ returns-then-code-ne7 c =
 pub returns-then-not-at_most : goal.returns-then-not-at_most
 returns-then-not-at_most c =
     first_load c.args.p c.args.plan.now c.requires (record { cell = c.args.cell; code = c.args.code }) c.if-cell-p.false c.if-code-ne7.false (own (goal.at.returns-then-not-at_most c).After-at_most ∙ c.if-not-at_most.true)
+
+pub invariant_of-result : goal.invariant_of-result
+unfolding setup_delay
+invariant_of-result c = record { early = omega (arith, c.start_delay-delay.ensures, c.requires.valid.register.setup) }
 
 pub returns : goal.returns
 returns c =

@@ -63,7 +63,7 @@ delay-requires c =
 
 pub plus-requires : goal.plus-requires
 plus-requires c =
-    omega (arith, c.delay.ensures, c.requires.1.early, wire-delay-max _ c.args.from.load.0 (fits (goal.at.plus-requires c).In_ok-wire) (omega (arith, c.requires.1.light, c.requires.0.valid.limit)))
+    omega (arith, c.delay.ensures, c.args.from.early, wire-delay-max _ c.args.from.load.0 (fits (goal.at.plus-requires c).In_ok-wire) (omega (arith, c.requires.1.light, c.requires.0.valid.limit)))
 
 -- the code is right
 code_is : (c : Else-not-code_right) → code_right (rules_for c.args.p c.args.plan.now) 0 c.args.last (record { cell = c.args.cell; code = c.args.code }) ≡ true
@@ -73,7 +73,6 @@ pub pass_gate-requires : goal.pass_gate-requires
 pass_gate-requires c =
     record {
       valid = c.requires.0.valid;
-      early = omega (arith, c.capped-delay.ensures);
       codes = right-code c.args.p c.args.plan.now c.requires.0 c.args.cell c.args.last c.args.code (code_is (goal.at.pass_gate-requires c).Else-not-code_right);
     }
 
