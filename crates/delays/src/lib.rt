@@ -22,11 +22,7 @@ pub fn fill_never(scratch: &mut [u16], at: usize, end: usize)
     requires { (at ≤ end) × (end ≤ length scratch.old) }
     ensures { Filled (λ k. never) at (end - at) scratch.old scratch.new }
 {
-    let mut i = at;
-    while i < end {
-        scratch[i] = NEVER;
-        i += 1;
-    }
+    scratch[at..end].fill(NEVER);
 }
 
 // Words from `at` up to `end` become the delay, as far as they are later.
@@ -34,13 +30,11 @@ fn cut_row(scratch: &mut [u16], at: usize, end: usize, delay: u16)
     requires { (at ≤ end) × (end ≤ length scratch.old) }
     ensures { Cut at end delay scratch.old scratch.new }
 {
-    let mut i = at;
-    while i < end {
+    for i in at..end {
         if scratch[i] <= delay {
             return;
         }
         scratch[i] = delay;
-        i += 1;
     }
 }
 
@@ -71,15 +65,11 @@ pub fn next_close(scratch: &[u16], n: usize, bound: u16) -> u16
     ensures { NextClose n scratch.now bound result }
 {
     let mut least = NEVER;
-    let mut c = 0;
-    while c < n {
+    for c in 0..n {
         let close = scratch[n * CLOSES + c];
-        if bound < close {
-            if close < least {
-                least = close;
-            }
+        if bound < close && close < least {
+            least = close;
         }
-        c += 1;
     }
     least
 }
@@ -89,19 +79,12 @@ pub fn none_before(scratch: &[u16], n: usize, count: usize, close: u16) -> bool
     requires { Space n scratch.now × Queue n scratch.now count }
     ensures { result ≡ true → NoneBefore n scratch.now count close }
 {
-    let mut i = 0;
-    while i < count {
+    for i in 0..count {
         let state = scratch[n * QUEUE + i] as usize;
         let delay = scratch[state];
-        if delay < close {
-            if state % ROW == 0 {
-                return false;
-            }
-            if delay < scratch[state - 1] {
-                return false;
-            }
+        if delay < close && (state % ROW == 0 || delay < scratch[state - 1]) {
+            return false;
         }
-        i += 1;
     }
     true
 }

@@ -4,6 +4,7 @@ use mathlib.Core.Path.{◌≡◌, refl, sym, ◌∙◌, subst}
 use mathlib.Core.Logic.{◌⊎◌, inl, inr}
 use mathlib.Core.List.{List}
 use native.Mathlib.Omega.{arith}
+use Rattle.std.proofs.Common.{Option, Some, None}
 use lib.ListN.{length, get_or, set, length-set}
 use lib.Seq.{get_or-set_other}
 use Rattle.timing.specs.Formulas.{register_load, setup_delay}
@@ -33,7 +34,6 @@ use Rattle.spans.proofs.Opens.{shuts-later, start-opens}
 use Rattle.spans.proofs.Eases.{eases-self, eases-then, eased-in, eased-eases, limit-row, ground-eases}
 use Rattle.earliest.specs.declared.First.{First}
 use Rattle.earliest.specs.declared.turns.Progress.{Progress}
-use Rattle.earliest.specs.declared.turns.Turn.{Turn}
 use Rattle.earliest.specs.Earliest.{Passing, Begun, GoneOn, StartAllAsks, StartedOne, StartedAll, RiseAsks, NoPeriod, TurnDone, found_at, none_at, unknown, FirstPeriod}
 use Rattle.earliest.proofs.Passing.{passing_begins, passing-eases, passing-rises, passing-goes-on}
 use Rattle.earliest.proofs.NoRoute.{no-route}
@@ -291,10 +291,10 @@ module _ (p : Problem) (marks : List ℕ) where
     first-unknown = record { same = same; rest = rest; tells = unknown }
 
   module _ {old : List ℕ} {f : Progress} {new : List ℕ} where
-    pub turn_on : {t : Turn} → TurnDone p marks old f new t → (g : Progress) → t ≡ Turn.On g → GoneOn p marks old f new g
+    pub turn_on : {t : Option Progress} → TurnDone p marks old f new t → (g : Progress) → t ≡ Some g → GoneOn p marks old f new g
     turn_on (TurnDone.on {g = h} o) g e = let q : h ≡ g = cc in rw q at o
-    turn_on (TurnDone.ended a b c) g e = absurd (let z : ◌≡◌ {A = ℕ} 0 1 = cc in omega arith)
+    turn_on (TurnDone.ended a b c) g e = cc
 
-    pub turn-ended : {t : Turn} → TurnDone p marks old f new t → t ≡ Turn.Ended → (length new ≡ length old) × (KeptFrom (n * cell_words) old new × NoPeriod p marks)
-    turn-ended (TurnDone.on o) e = absurd (let z : ◌≡◌ {A = ℕ} 0 1 = cc in omega arith)
+    pub turn-ended : {t : Option Progress} → TurnDone p marks old f new t → t ≡ None → (length new ≡ length old) × (KeptFrom (n * cell_words) old new × NoPeriod p marks)
+    turn-ended (TurnDone.on o) e = cc
     turn-ended (TurnDone.ended a b c) e = (a, (b, c))

@@ -1,5 +1,5 @@
 -- The pass: what the scratch words hold between two turns, and what the first period is.
-use Rattle.std.specs.Prelude.{ℕ, ◌+◌, ◌*◌, ◌≤◌, ◌<◌, ◌≡◌, ◌⊎◌, List, length}
+use Rattle.std.specs.Prelude.{ℕ, ◌+◌, ◌*◌, ◌≤◌, ◌<◌, ◌≡◌, ◌⊎◌, List, length, Option, Some, None}
 use Rattle.timing.specs.Ranges.{period_max}
 use Rattle.rules.specs.Relaxed.{HasRoute}
 use Rattle.costs.specs.Costs.{row_words}
@@ -15,7 +15,6 @@ use Rattle.spans.specs.Eases.{Ground, StartedAt, Eases}
 use Rattle.spans.specs.Spread.{Spread}
 use Rattle.earliest.specs.declared.First.{First}
 use Rattle.earliest.specs.declared.turns.Progress.{Progress}
-use Rattle.earliest.specs.declared.turns.Turn.{Turn}
 
 module _ (p : Problem) (marks : List ℕ) where
   -- a state of the cell that is no heavier and no later waits, or has gone on to every neighbour
@@ -76,9 +75,9 @@ module _ (p : Problem) (marks : List ℕ) where
   abbrev pub NoPeriod : Type 0
   NoPeriod = (b : ℕ) → p.elements.period ≤ b → b ≤ period_max → HasRoute (rules_at p marks b) → ⊥
 
-  pub data TurnDone (old : List ℕ) (f : Progress) (new : List ℕ) : Turn → Type 0 where
-    on : {g : Progress} → GoneOn old f new g → TurnDone old f new (Turn.On g)
-    ended : length new ≡ length old → KeptFrom (length marks * cell_words) old new → NoPeriod → TurnDone old f new Turn.Ended
+  pub data TurnDone (old : List ℕ) (f : Progress) (new : List ℕ) : Option Progress → Type 0 where
+    on : {g : Progress} → GoneOn old f new g → TurnDone old f new (Some g)
+    ended : length new ≡ length old → KeptFrom (length marks * cell_words) old new → NoPeriod → TurnDone old f new None
 
   pub record Begun (old new : List ℕ) (count : ℕ) : Type 0 where
     pub same : length new ≡ length old

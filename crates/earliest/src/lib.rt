@@ -15,9 +15,9 @@ use delays::fill_never;
 use layout::{CLOSES, HINT};
 use problem::Problem;
 use spans::start;
-use turns::{Progress, Turn, take_turn};
+use turns::{Progress, take_turn};
 
-// What a pass tells.
+// What a pass tells. Three cases, each told in another way, so no Option: an Option in an Option would not say which None is which.
 #[derive(Clone, Copy)]
 pub enum First {
     // The first period from the problem's own on at which a route exists.
@@ -45,31 +45,25 @@ pub fn first_period(plan: &[u8], scratch: &mut [u16], p: Problem, turns: usize) 
     ensures { FirstPeriod p plan.now scratch.old scratch.new result }
 {
     let n = plan.len();
-    let elements = p.elements;
-    let register = elements.register;
-    if elements.limit.0 < register.load().0 {
+    if p.elements.limit.0 < p.elements.register.load().0 {
         return First::Never;
     }
     let count = begin(plan, scratch, p);
     let mut f = Progress {
-        period: elements.period,
-        count: count,
+        period: p.elements.period,
+        count,
     };
     let mut left = turns;
+    // A while: the turns left only bound it, and with a for the test that ends it would be written twice.
     while 2 * f.period < scratch[n * CLOSES + p.source] {
         if left == 0 {
             return First::Unknown;
         }
         left -= 1;
-        let t = take_turn(plan, scratch, p, f);
-        match t {
-            Turn::Ended => {
-                return First::Never;
-            }
-            Turn::On(g) => {
-                f = g;
-            }
-        }
+        let Some(g) = take_turn(plan, scratch, p, f) else {
+            return First::Never;
+        };
+        f = g;
     }
     First::At(f.period)
 }

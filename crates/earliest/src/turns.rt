@@ -17,22 +17,12 @@ pub struct Progress {
     pub count: usize,
 }
 
-#[derive(Clone, Copy)]
-pub enum Turn {
-    On(Progress),
-    // No period has a route.
-    Ended,
-}
-
 // Whether the first state that waits goes on with no look for the next close: it is not later than the hint.
 fn is_early(scratch: &[u16], n: usize, count: usize) -> bool
     requires { Lines n scratch.now × Queue n scratch.now count }
     ensures { result ≡ true → 0 < count }
 {
-    if count == 0 {
-        return false;
-    }
-    delay_at(scratch, n, 0) <= scratch[n * HINT]
+    0 < count && delay_at(scratch, n, 0) <= scratch[n * HINT]
 }
 
 // The next span starts at the cell, where one closes within the period.
@@ -48,10 +38,7 @@ fn start_at(
     ensures { StartedOne p plan.now period cell scratch.old count scratch.new result }
 {
     let n = plan.len();
-    if cell == p.source {
-        return count;
-    }
-    if 2 * period < scratch[n * CLOSES + cell] {
+    if cell == p.source || 2 * period < scratch[n * CLOSES + cell] {
         return count;
     }
     start(scratch, n, p, cell, count)
@@ -62,12 +49,9 @@ fn start_all(plan: &[u8], scratch: &mut [u16], p: Problem, period: u16, count: u
     requires { StartAllAsks p plan.now period scratch.old count }
     ensures { StartedAll p plan.now period scratch.old count scratch.new result }
 {
-    let n = plan.len();
     let mut waiting = count;
-    let mut c = 0;
-    while c < n {
-        waiting = start_at(plan, scratch, p, period, c, waiting);
-        c += 1;
+    for cell in 0..plan.len() {
+        waiting = start_at(plan, scratch, p, period, cell, waiting);
     }
     waiting
 }
@@ -80,10 +64,7 @@ fn go_on(plan: &[u8], scratch: &mut [u16], p: Problem, f: Progress) -> Progress
     let n = plan.len();
     let state = leave(scratch, n, f.count);
     let count = spread(plan, scratch, p, f.period, state, f.count - 1);
-    Progress {
-        period: f.period,
-        count: count,
-    }
+    Progress { count, ..f }
 }
 
 // An eighth more, NEVER where that is too late to count: a look that came too early is not taken again at once.
@@ -102,49 +83,39 @@ fn goes_first(scratch: &[u16], n: usize, count: usize, close: u16) -> bool
     requires { Lines n scratch.now × Queue n scratch.now count }
     ensures { (result ≡ true → 0 < count) × (result ≡ false → NoneBefore n scratch.now count close) }
 {
-    if count == 0 {
-        return false;
-    }
-    if none_before(scratch, n, count, close) {
-        return false;
-    }
-    true
+    0 < count && !none_before(scratch, n, count, close)
 }
 
-// The period goes up to the next close.
-fn rise(plan: &[u8], scratch: &mut [u16], p: Problem, f: Progress, close: u16) -> Turn
+// The period goes up to the next close. None: no period has a route.
+fn rise(plan: &[u8], scratch: &mut [u16], p: Problem, f: Progress, close: u16) -> Option<Progress>
     requires { RiseAsks p plan.now scratch.old f close }
     ensures { TurnDone p plan.now scratch.old f scratch.new result }
 {
     let n = plan.len();
     if close == NEVER {
-        return Turn::Ended;
+        return None;
     }
     let period = (close + 1) / 2;
     let count = start_all(plan, scratch, p, period, f.count);
     let hint = next_close(scratch, n, 2 * period);
     scratch[n * HINT] = hint;
-    Turn::On(Progress {
-        period: period,
-        count: count,
-    })
+    Some(Progress { period, count })
 }
 
-// One turn, where the source is not reached yet: the first state that waits goes on, or the period goes up.
-pub fn take_turn(plan: &[u8], scratch: &mut [u16], p: Problem, f: Progress) -> Turn
+// One turn, where the source is not reached yet: the first state that waits goes on, or the period goes up. None: no period has a route.
+pub fn take_turn(plan: &[u8], scratch: &mut [u16], p: Problem, f: Progress) -> Option<Progress>
     requires { Passing p plan.now f.period scratch.old f.count × (2 * f.period < closes_of (length plan.now) scratch.old p.source) }
     ensures { TurnDone p plan.now scratch.old f scratch.new result }
 {
     let n = plan.len();
-    let count = f.count;
-    if is_early(scratch, n, count) {
-        return Turn::On(go_on(plan, scratch, p, f));
+    if is_early(scratch, n, f.count) {
+        return Some(go_on(plan, scratch, p, f));
     }
     let close = next_close(scratch, n, 2 * f.period);
-    if goes_first(scratch, n, count, close) {
+    if goes_first(scratch, n, f.count, close) {
         let first = delay_at(scratch, n, 0);
         scratch[n * HINT] = eighth_more(first);
-        return Turn::On(go_on(plan, scratch, p, f));
+        return Some(go_on(plan, scratch, p, f));
     }
     rise(plan, scratch, p, f, close)
 }

@@ -31,8 +31,7 @@ fn exchange(scratch: &mut [u16], n: usize, i: usize, j: usize)
 {
     let a = scratch[n * QUEUE + i];
     let b = scratch[n * QUEUE + j];
-    scratch[n * QUEUE + i] = b;
-    scratch[n * QUEUE + j] = a;
+    scratch.swap(n * QUEUE + i, n * QUEUE + j);
     scratch[n * PLACES + b as usize] = i as u16;
     scratch[n * PLACES + a as usize] = j as u16;
 }
@@ -61,10 +60,8 @@ fn sift(scratch: &mut [u16], n: usize, count: usize)
     let mut i = 0;
     while 2 * i + 1 < count {
         let mut below = 2 * i + 1;
-        if below + 1 < count {
-            if earlier(scratch, n, below + 1, below) {
-                below = below + 1;
-            }
+        if below + 1 < count && earlier(scratch, n, below + 1, below) {
+            below += 1;
         }
         if !earlier(scratch, n, below, i) {
             return;
@@ -80,11 +77,9 @@ pub fn join(scratch: &mut [u16], n: usize, count: usize, state: usize) -> usize
     ensures { Joined n count state scratch.old scratch.new result }
 {
     let place = scratch[n * PLACES + state] as usize;
-    if place < count {
-        if scratch[n * QUEUE + place] as usize == state {
-            lift(scratch, n, count, place);
-            return count;
-        }
+    if place < count && scratch[n * QUEUE + place] as usize == state {
+        lift(scratch, n, count, place);
+        return count;
     }
     scratch[n * QUEUE + count] = state as u16;
     scratch[n * PLACES + state] = count as u16;

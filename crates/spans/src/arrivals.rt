@@ -19,11 +19,9 @@ pub fn start(scratch: &mut [u16], n: usize, p: Problem, cell: usize, count: usiz
     requires { StartAsks p n scratch.old count cell }
     ensures { Eased n p.elements.limit.0 cell (register_load p.elements.register) (setup_delay p.elements.register) scratch.old count scratch.new result }
 {
-    let elements = p.elements;
-    let limit = elements.limit.0 as usize;
-    let register = elements.register;
-    let load = register.load().0 as usize;
-    let delay = register.start_delay().0 as u16;
+    let limit = p.elements.limit.0 as usize;
+    let load = p.elements.register.load().0 as usize;
+    let delay = p.elements.register.start_delay().0 as u16;
     ease(scratch, n, limit, cell, load, delay, count)
 }
 
@@ -42,21 +40,15 @@ fn ease_buffers(
     ensures { Eases p plan.now period scratch.old count scratch.new result × BuffersIn p.elements scratch.new cell load.0 delay.0 p.elements.count }
 {
     let n = plan.len();
-    let elements = p.elements;
-    let limit = elements.limit.0 as usize;
-    let buffers = elements.count;
+    let limit = p.elements.limit.0 as usize;
     let mut waiting = count;
-    let mut i = 0;
-    while i < buffers {
-        let buffer = elements.buffers[i];
+    for i in 0..p.elements.count {
+        let buffer = p.elements.buffers[i];
         let own = buffer.load().0 as usize;
         let after = buffer.driver().after(load, delay).0;
-        if own <= limit {
-            if after <= LATEST {
-                waiting = ease(scratch, n, limit, cell, own, after as u16, waiting);
-            }
+        if own <= limit && after <= LATEST {
+            waiting = ease(scratch, n, limit, cell, own, after as u16, waiting);
         }
-        i += 1;
     }
     waiting
 }
@@ -110,8 +102,7 @@ pub fn arrive(
     ensures { Eases p plan.now period scratch.old count scratch.new result × Arrived (rules_for p plan.now) (length plan.now) scratch.new cell load.0 delay.0 }
 {
     let n = plan.len();
-    let elements = p.elements;
-    let limit = elements.limit.0 as usize;
+    let limit = p.elements.limit.0 as usize;
     let mut waiting = ease(
         scratch,
         n,
@@ -124,12 +115,9 @@ pub fn arrive(
     if takes_buffers(plan[cell], p, cell) {
         waiting = ease_buffers(plan, scratch, p, period, cell, load, delay, waiting);
     }
-    if cell != p.source {
-        if !may_register(plan, p, cell) {
-            return waiting;
-        }
+    if cell != p.source && !may_register(plan, p, cell) {
+        return waiting;
     }
-    let register = elements.register;
-    let closing = register.closing(elements.skew, load, delay).0;
+    let closing = p.elements.register.closing(p.elements.skew, load, delay).0;
     shut(plan, scratch, p, period, cell, closing, waiting)
 }

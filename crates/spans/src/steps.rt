@@ -56,13 +56,10 @@ pub fn spread(
     let cell = state / ROW;
     let load = state % ROW;
     let delay = scratch[state];
-    if 0 < load {
-        if scratch[state - 1] <= delay {
-            return count;
-        }
+    if 0 < load && scratch[state - 1] <= delay {
+        return count;
     }
     let near = neighbours_of(plan, p.width, p.height, cell);
-    let elements = p.elements;
     let l = Load(load as u16);
     let d = HalfTicks(delay as u32);
     let a = step(
@@ -74,7 +71,7 @@ pub fn spread(
         l,
         d,
         near.up,
-        elements.vertical,
+        p.elements.vertical,
         count,
     );
     let b = step(
@@ -86,7 +83,7 @@ pub fn spread(
         l,
         d,
         near.left,
-        elements.horizontal,
+        p.elements.horizontal,
         a,
     );
     let c = step(
@@ -98,7 +95,7 @@ pub fn spread(
         l,
         d,
         near.right,
-        elements.horizontal,
+        p.elements.horizontal,
         b,
     );
     step(
@@ -110,7 +107,7 @@ pub fn spread(
         l,
         d,
         near.down,
-        elements.vertical,
+        p.elements.vertical,
         c,
     )
 }

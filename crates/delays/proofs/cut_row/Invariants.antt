@@ -1,11 +1,7 @@
 -- The words from `at` up to i were later and are the delay, all others are as they were.
-use Prim.Native.Nat.{ℕ, ◌-◌, ◌≤◌, ◌<◌}
-use lib.ListN.{get_or}
+use Rattle.std.proofs.Common.{ℕ, ◌≤◌, ◌<◌, get_or}
 use Rattle.delays.proofs.Cuts.{Stretch}
 use Rattle.delays.proofs.cut_row.Given as goal
 
 abbrev pub invariant-loop-i : goal.invariant-loop-i
-invariant-loop-i l = (l.i ≤ l.end) × (Stretch l.delay l.at l.i l.initial.scratch l.scratch × ((k : ℕ) → l.at ≤ k → k < l.i → l.delay < get_or l.initial.scratch k 0))
-
-abbrev pub decreases-loop-i : goal.decreases-loop-i
-decreases-loop-i l = l.end - l.i
+invariant-loop-i l = Stretch l.delay l.at l.i l.initial.scratch l.scratch × ((k : ℕ) → l.at ≤ k → k < l.i → l.delay < get_or l.initial.scratch k 0)

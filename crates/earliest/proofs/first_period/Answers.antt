@@ -4,8 +4,8 @@ use Rattle.problem.proofs.Sizes.{few-cells}
 use Rattle.earliest.proofs.Parts.{first_found, first-none, first-unknown, too-heavy, turn_on, turn-ended}
 use Rattle.earliest.proofs.first_period.Goals as goal
 
-pub returns-then-elements-load : goal.returns-then-elements-load
-returns-then-elements-load c = first-none _ _ refl (λ k h. refl) (λ t h k. too-heavy _ _ (omega (arith, c.load.ensures)) t)
+pub returns-then-p-load : goal.returns-then-p-load
+returns-then-p-load c = first-none _ _ refl (λ k h. refl) (λ t h k. too-heavy _ _ (omega (arith, c.load.ensures)) t)
 
 pub begin-count-requires : goal.begin-count-requires
 begin-count-requires c =
@@ -33,22 +33,18 @@ returns-then-left-eq0 c =
     let begun = c.begin-count.ensures in
     first-unknown _ _ (c.loop-f.invariant.1.0 ∙ begun.same) (λ k h. c.loop-f.invariant.1.1 k h ∙ begun.rest k h)
 
-pub take_turn-t-requires : goal.take_turn-t-requires
-take_turn-t-requires c = (c.loop-f.invariant.0, omega arith)
+pub take_turn-requires : goal.take_turn-requires
+take_turn-requires c = (c.loop-f.invariant.0, omega arith)
 
-pub shape_of-scratch-in-Ended : goal.shape_of-scratch-in-Ended
-shape_of-scratch-in-Ended c =
-    (turn-ended _ _ c.take_turn-t.ensures c.in-Ended.is).0 ∙ (c.loop-f.invariant.1.0 ∙ c.begin-count.ensures.same)
-
-pub returns-in-Ended : goal.returns-in-Ended
-returns-in-Ended c =
-    let end = turn-ended _ _ c.take_turn-t.ensures c.in-Ended.is in
+pub returns-in_default : goal.returns-in_default
+returns-in_default c =
+    let end = turn-ended _ _ c.in_default.ensures refl in
     let begun = c.begin-count.ensures in
     first-none _ _ (end.0 ∙ (c.loop-f.invariant.1.0 ∙ begun.same)) (λ k h. end.1.0 k h ∙ (c.loop-f.invariant.1.1 k h ∙ begun.rest k h)) end.1.1
 
 pub loop-f-preserved : goal.loop-f-preserved
 loop-f-preserved c =
-    let done = turn_on _ _ c.take_turn-t.ensures _ c.in-On.is in
+    let done = turn_on _ _ c.in-Some.ensures _ refl in
     (done.passing, (done.same ∙ c.loop-f.invariant.1.0, λ k h. done.rest k h ∙ c.loop-f.invariant.1.1 k h))
 
 pub returns : goal.returns

@@ -1,6 +1,7 @@
 -- `queue::exchange`: the words after the four stores, read back.
 use Prim.Native.Nat.{ℕ, ◌+◌, ◌*◌, ◌<◌, ◌≤◌}
-use mathlib.Core.Path.{◌≡◌, ap, ◌∙◌}
+use mathlib.Core.Path.{◌≡◌, sym, ap, ◌∙◌}
+use Rattle.std.proofs.lemmas.List.Edits.{swap_is}
 use mathlib.Core.Logic.{◌⊎◌, inl, inr}
 use mathlib.Core.List.{List}
 use native.Mathlib.Omega.{arith}
@@ -73,14 +74,9 @@ module _ (n i j : ℕ) (old : List ℕ) (space : Space n old) (first : Slot n ol
         others = λ s h p q. place_kept (n * places_at + s) (omega arith) (λ e. p (omega arith)) (λ e. q (omega arith));
       }
 
-pub bounds-scratch-n-4 : goal.bounds-scratch-n-4
-bounds-scratch-n-4 c = simp length-set (omega arith)
-
-pub bounds-scratch-n-5 : goal.bounds-scratch-n-5
-bounds-scratch-n-5 c = simp length-set (omega arith)
-
-pub bounds-scratch-n-6 : goal.bounds-scratch-n-6
-bounds-scratch-n-6 c = simp length-set (omega arith)
-
 pub returns : goal.returns
-returns c = exchanged _ _ _ _ c.requires.0 c.requires.1.0 c.requires.1.1
+returns c =
+    let old = c.args.scratch.now in
+    let swapped : c.swap.new.self ≡ store2 c.args.n c.args.i c.args.j old =
+    c.swap.ensures.after ∙ sym (swap_is old (c.args.n * queue_at + c.args.i) (c.args.n * queue_at + c.args.j) 0 (omega arith) (omega arith)) in
+    rw swapped (exchanged _ _ _ _ c.requires.0 c.requires.1.0 c.requires.1.1)

@@ -2,7 +2,7 @@ use Prim.Native.Nat.{◌<◌}
 use native.Mathlib.Omega.{arith}
 use Rattle.queue.proofs.Queue.{queue-room, requeued-self, two-slots, requeued-more}
 use Rattle.queue.proofs.sift.Goals as goal
-use Rattle.queue.proofs.sift.Goals.{Joined-below-count, then-below-count+else-earlier, then-below-count+then-earlier, else-below-count}
+use Rattle.queue.proofs.sift.Goals.{Joined-below-count, then-below-count+then-earlier, else-below-count}
 
 pub loop-i-init : goal.loop-i-init
 loop-i-init c = (requeued-self c.requires.1, omega arith)
@@ -18,7 +18,7 @@ earlier-requires c = two-slots c.loop-i.invariant.0 _ _ (omega arith) (omega ari
 
 -- the place below
 between : (c : Joined-below-count) → (c.loop-i.i < c.if-below-count.below) × (c.if-below-count.below < c.args.count)
-between c = elim c.if-below-count.branch [ then-below-count+else-earlier p ↦ (omega arith, omega arith) | then-below-count+then-earlier p ↦ (omega arith, omega arith) | else-below-count p ↦ (omega arith, omega arith) ]
+between c = elim c.if-below-count.branch [ then-below-count+then-earlier p ↦ (omega arith, omega arith) | else-below-count p ↦ (omega arith, omega arith) ]
 
 pub earlier-requires-in-loop-i : goal.earlier-requires-in-loop-i
 earlier-requires-in-loop-i c = two-slots c.loop-i.invariant.0 _ _ (between c).1 (omega (arith, between c)) c.requires.0

@@ -1,16 +1,16 @@
-use native.Mathlib.Omega.{arith}
+use Rattle.std.proofs.Common.{arith}
 use Rattle.earliest.proofs.Parts.{starting-none, starting-asks, starting-more, starting-end}
 use Rattle.earliest.proofs.turns.start_all.Goals as goal
 
-pub loop-c-init : goal.loop-c-init
-loop-c-init c = starting-none _ _ _ _ _ c.requires
+pub loop-cell-init : goal.loop-cell-init
+loop-cell-init c = starting-none _ _ _ _ _ c.requires
 
 pub start_at-waiting-requires : goal.start_at-waiting-requires
-start_at-waiting-requires c = (starting-asks _ _ _ _ _ c.requires c.loop-c.invariant, omega arith)
+start_at-waiting-requires c = (starting-asks _ _ _ _ _ c.requires c.loop-cell.invariant, omega arith)
 
-pub loop-c-preserved : goal.loop-c-preserved
-loop-c-preserved c =
-    starting-more _ _ _ _ _ c.requires c.loop-c.invariant (omega arith) c.start_at-waiting.ensures
+pub loop-cell-preserved : goal.loop-cell-preserved
+loop-cell-preserved c =
+    starting-more _ _ _ _ _ c.requires c.loop-cell.invariant (omega arith) c.start_at-waiting.ensures
 
 pub returns : goal.returns
-returns c = starting-end _ _ _ _ _ c.requires c.loop-c.invariant (omega (arith, c.loop-c.invariant.few))
+returns c = starting-end _ _ _ _ _ c.requires c.loop-cell.invariant (omega (arith, c.loop-cell.invariant.few))

@@ -11,7 +11,7 @@ use Rattle.spans.specs.Opens.{MayClose}
 use Rattle.spans.proofs.Eases.{ground-space, limit-row}
 use Rattle.spans.proofs.Arriving.{source-named, passed-asks, Through, through-none, through-buffers, arrived-open, shut-asks, arrived-shut}
 use Rattle.spans.proofs.arrivals.arrive.Goals as goal
-use Rattle.spans.proofs.arrivals.arrive.Goals.{Joined-cell-p, Joined-takes_buffers, then-takes_buffers, else-takes_buffers, then-cell-p+else-not-may_register, else-cell-p}
+use Rattle.spans.proofs.arrivals.arrive.Goals.{Joined-else-cell-p, Joined-takes_buffers, then-takes_buffers, else-takes_buffers, else-cell-p-via-then-cell-p+else-not-may_register, else-cell-p-via-else-cell-p}
 
 -- passed and driven
 through : (c : Joined-takes_buffers) → let a = c.args in Through a.p a.plan.now a.period a.scratch.now a.count a.cell a.load.0 a.delay.0 c.requires c.if-takes_buffers.scratch c.if-takes_buffers.waiting
@@ -23,12 +23,12 @@ through c =
       | else-takes_buffers w ↦ rw (w.scratch-is, w.waiting-is) (through-none a.p a.plan.now a.period a.scratch.now a.count a.cell a.load.0 a.delay.0 c.requires _ _ eased (sym c.takes_buffers.ensures ∙ w.if-takes_buffers.false))
     ]
 
-closes : (c : Joined-cell-p) → let a = c.args in MayClose (rules_for a.p a.plan.now) a.cell
+closes : (c : Joined-else-cell-p) → let a = c.args in MayClose (rules_for a.p a.plan.now) a.cell
 closes c =
     let a = c.args in
-    elim c.if-cell-p.branch [
-      | then-cell-p+else-not-may_register w ↦ inr (of-true (may_stand (rules_for a.p a.plan.now) a.cell register_code) (sym w.may_register.ensures ∙ w.if-not-may_register.false))
-      | else-cell-p w ↦ inl (w.if-cell-p.false ∙ sym (source-named a.p a.plan.now))
+    elim c.else-cell-p.branch [
+      | else-cell-p-via-then-cell-p+else-not-may_register w ↦ inr (of-true (may_stand (rules_for a.p a.plan.now) a.cell register_code) (sym w.may_register.ensures ∙ w.if-not-may_register.false))
+      | else-cell-p-via-else-cell-p w ↦ inl (w.if-cell-p.false ∙ sym (source-named a.p a.plan.now))
     ]
 
 pub ease-waiting-requires : goal.ease-waiting-requires
@@ -61,7 +61,7 @@ closing-closing-requires c =
 pub shut-requires : goal.shut-requires
 shut-requires c =
     let a = c.args in
-    rw c.closing-closing.ensures (shut-asks a.p a.plan.now a.period a.scratch.now a.count a.cell a.load.0 a.delay.0 c.requires _ _ (through (goal.at.shut-requires c).Joined-takes_buffers) (closes (goal.at.shut-requires c).Joined-cell-p))
+    rw c.closing-closing.ensures (shut-asks a.p a.plan.now a.period a.scratch.now a.count a.cell a.load.0 a.delay.0 c.requires _ _ (through (goal.at.shut-requires c).Joined-takes_buffers) (closes (goal.at.shut-requires c).Joined-else-cell-p))
 
 pub shape_of-scratch : goal.shape_of-scratch
 shape_of-scratch c = c.shut.ensures.0.same ∙ (through (goal.at.shape_of-scratch c).Joined-takes_buffers).eases.same
