@@ -16,7 +16,7 @@ pub fn judge<W: Write>(
     words: &mut [u16],
 ) -> Result<(), PlayError> {
     let net = Net::read(script)?;
-    let count = read_words(script, words)?;
+    let list = read_words(script, words)?;
     let verdict = judge_with(
         &plan[..player.plan.min(plan.len())],
         net.width,
@@ -25,7 +25,7 @@ pub fn judge<W: Write>(
         player.list,
         net.source,
         net.sink,
-        &words[..count.min(words.len())],
+        list,
     );
     write_verdict(out, verdict, player.session.depth)?;
     Ok(())
@@ -41,11 +41,9 @@ pub fn better<W: Write>(
     second: &mut [u16],
 ) -> Result<(), PlayError> {
     let net = Net::read(script)?;
-    let n = read_words(script, first)?;
-    let m = read_words(script, second)?;
+    let a = read_words(script, first)?;
+    let b = read_words(script, second)?;
     let plan = &plan[..player.plan.min(plan.len())];
-    let a = &first[..n.min(first.len())];
-    let b = &second[..m.min(second.len())];
     let which = compare_with(
         plan,
         net.width,

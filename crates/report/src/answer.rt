@@ -1,6 +1,6 @@
 // The answer of a route call, with one clock or between two.
 ghost use Rattle.std.specs.Prelude.{◌≡◌, ◌≤◌, ℕ};
-ghost use Rattle.answers.specs.Numbers.{filled_words};
+ghost use Rattle.answers.specs.Numbers.{answer_number, filled_words};
 
 use crate::words::write_left;
 use answers::{Answer, Fault, Refusal};
@@ -11,13 +11,17 @@ use timing::slack_magnitude;
 
 // An answer as it is printed.
 pub trait Told: Copy {
-    // The visit words that the answer fills.
+    ghost call_number: { Self → ℕ };
+
     ghost words: { Self → ℕ };
 
+    // The call's number.
+    fn number(self) -> u16
+        ensures { result ≡ call_number self };
+
+    // The visit words that the answer fills.
     fn filled(self) -> usize
         ensures { result ≡ words self };
-
-    fn number(self) -> u16;
 
     fn write_figures<W: Write>(self, out: &mut W) -> Result<()>;
 
@@ -26,17 +30,19 @@ pub trait Told: Copy {
 }
 
 impl Told for Answer {
+    ghost call_number = { answer_number };
+
     ghost words = { filled_words };
+
+    fn number(self) -> u16 {
+        Answer::number(self)
+    }
 
     fn filled(self) -> usize {
         match self {
             Answer::Found(f) => 2 * (f.steps as usize + 1),
             _ => 0,
         }
-    }
-
-    fn number(self) -> u16 {
-        Answer::number(self)
     }
 
     // Registers, steps, latency and spare half-ticks.

@@ -1,5 +1,5 @@
 // The answer of a call for a net between two clocks.
-ghost use Rattle.answers.specs.Numbers.{crossed_words};
+ghost use Rattle.answers.specs.Numbers.{crossing_number, crossed_words};
 
 use crate::answer::{Told, write_named, write_slack};
 use answers::CrossingAnswer;
@@ -7,17 +7,19 @@ use std::io::{Result, Write};
 use streams::write_number;
 
 impl Told for CrossingAnswer {
+    ghost call_number = { crossing_number };
+
     ghost words = { crossed_words };
+
+    fn number(self) -> u16 {
+        CrossingAnswer::number(self)
+    }
 
     fn filled(self) -> usize {
         match self {
             CrossingAnswer::Found(f) => 2 * (f.steps as usize + 1),
             _ => 0,
         }
-    }
-
-    fn number(self) -> u16 {
-        CrossingAnswer::number(self)
     }
 
     // Registers on the source's side and on the sink's, steps, latency and spare half-ticks.
