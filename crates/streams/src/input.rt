@@ -7,6 +7,7 @@ use crate::INTERRUPTIONS;
 use std::io::{Error, ErrorKind, Read};
 
 // So many bytes stand at the start of the room; a failed read, which had this error, came after them.
+// No `Result`: the clauses `within` and `bytes` hold of what came before a failed read too.
 #[derive(Clone, Copy)]
 pub struct Input {
     pub bytes: usize,
