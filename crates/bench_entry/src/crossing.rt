@@ -1,8 +1,7 @@
 // The entry to the route call between two clocks.
-ghost use Rattle.std.specs.Prelude.{◌≤◌, ◌≡◌, length};
-ghost use Rattle.job.specs.Fields.{table_numbers};
-ghost use Rattle.bench_words.specs.Crossed.{clock_numbers, crossing_results, crossing_lengths_right};
-ghost use Rattle.bench_entry.specs.Crossed.{bench_crossing, BenchCrossed, CrossingEffect};
+ghost use Rattle.std.specs.Prelude.{length};
+ghost use Rattle.bench_words.specs.Crossed.{crossing_lengths_right};
+ghost use Rattle.bench_entry.specs.Crossed.{bench_crossing, CrossingEffect};
 
 use answers::{Numbered, read_list};
 use bench_words::{
@@ -17,6 +16,7 @@ use question::Asking;
 // the fault of refusal 4 in the order of two clocks, and the spare half-ticks.
 // Other lengths of these four are refused with 15, and nothing is touched.
 #[unsafe(no_mangle)]
+#[tactic(auto, unfolding(bench_words::specs::Crossed::crossing_lengths_right, bench_words::specs::Words::inputs_right, crate::specs::Crossed::bench_crossing))]
 pub extern "C" fn bench_crossing(
     plan: &[u8],
     width: u16,
@@ -32,31 +32,9 @@ pub extern "C" fn bench_crossing(
 ) -> u16
     ensures { CrossingEffect (crossing_lengths_right (length tables.now) (length clocks.now) (length buffers.now) (length figures.old)) (bench_crossing plan.now width height tables.now clocks.now buffers.now source sink) scratch.old scratch.new visits.old visits.new figures.old figures.new result }
 {
-    if crossing_lengths_right(tables.len(), clocks.len(), buffers.len(), figures.len()) {
-        return ask_crossing(
-            plan, width, height, tables, clocks, buffers, source, sink, scratch, visits, figures,
-        );
+    if !crossing_lengths_right(tables.len(), clocks.len(), buffers.len(), figures.len()) {
+        return WRONG_LENGTH;
     }
-    WRONG_LENGTH
-}
-
-// The call, where the lengths are right.
-fn ask_crossing(
-    plan: &[u8],
-    width: u16,
-    height: u16,
-    tables: &[u16],
-    clocks: &[u16],
-    buffers: &[u16],
-    source: u16,
-    sink: u16,
-    scratch: &mut [u16],
-    visits: &mut [u16],
-    figures: &mut [u32],
-) -> u16
-    requires { (table_numbers ≤ length tables.now) × ((clock_numbers ≤ length clocks.now) × (length figures.old ≡ crossing_results)) }
-    ensures { BenchCrossed (bench_crossing plan.now width height tables.now clocks.now buffers.now source sink) scratch.old scratch.new visits.old visits.new figures.new result }
-{
     let asking = Asking {
         plan,
         width,

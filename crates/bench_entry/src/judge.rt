@@ -1,9 +1,8 @@
 // The entry to the verdict.
-ghost use Rattle.std.specs.Prelude.{◌≤◌, ◌≡◌, length};
-ghost use Rattle.job.specs.Fields.{table_numbers};
-ghost use Rattle.bench_words.specs.Words.{lengths_right, result_numbers};
+ghost use Rattle.std.specs.Prelude.{length};
+ghost use Rattle.bench_words.specs.Words.{lengths_right};
 ghost use Rattle.bench_entry.specs.Question.{bench_question};
-ghost use Rattle.bench_entry.specs.Judged.{Judged, JudgeEffect};
+ghost use Rattle.bench_entry.specs.Judged.{JudgeEffect};
 
 use answers::{Numbered, read_list};
 use bench_words::{WRONG_LENGTH, found_of, lengths_right, read_buffers, write_found};
@@ -15,6 +14,7 @@ use verdict::judge_asked;
 // `found` gets whether the list is accepted, the first visit at fault, its fault's place from 1, the fault of refusal 4, and the spare half-ticks of an accepted list or the miss of a period fault.
 // Other lengths of these three are refused with 15, and nothing is touched.
 #[unsafe(no_mangle)]
+#[tactic(auto, unfolding(bench_words::specs::Words::lengths_right, bench_words::specs::Words::inputs_right, crate::specs::Question::bench_question))]
 pub extern "C" fn bench_judge(
     plan: &[u8],
     width: u16,
@@ -28,29 +28,9 @@ pub extern "C" fn bench_judge(
 ) -> u16
     ensures { JudgeEffect (lengths_right (length tables.now) (length buffers.now) (length found.old)) (bench_question plan.now width height tables.now buffers.now source sink) list.now found.old found.new result }
 {
-    if lengths_right(tables.len(), buffers.len(), found.len()) {
-        return ask_verdict(
-            plan, width, height, tables, buffers, source, sink, list, found,
-        );
+    if !lengths_right(tables.len(), buffers.len(), found.len()) {
+        return WRONG_LENGTH;
     }
-    WRONG_LENGTH
-}
-
-// The call, where the lengths are right.
-fn ask_verdict(
-    plan: &[u8],
-    width: u16,
-    height: u16,
-    tables: &[u16],
-    buffers: &[u16],
-    source: u16,
-    sink: u16,
-    list: &[u16],
-    found: &mut [u64],
-) -> u16
-    requires { (table_numbers ≤ length tables.now) × (length found.old ≡ result_numbers) }
-    ensures { Judged (bench_question plan.now width height tables.now buffers.now source sink) list.now found.new result }
-{
     let asking = Asking {
         plan,
         width,

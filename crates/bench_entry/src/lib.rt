@@ -2,11 +2,10 @@
 // Each has the whole promise of its call. That the areas lent are as long as said and lie apart is the caller's duty.
 #![tactic(auto)]
 
-ghost use Rattle.std.specs.Prelude.{◌≤◌, ◌≡◌, length};
-ghost use Rattle.job.specs.Fields.{table_numbers};
-ghost use Rattle.bench_words.specs.Words.{lengths_right, result_numbers};
+ghost use Rattle.std.specs.Prelude.{length};
+ghost use Rattle.bench_words.specs.Words.{lengths_right};
 ghost use Rattle.bench_entry.specs.Question.{bench_question};
-ghost use Rattle.bench_entry.specs.Effect.{BenchAnswered, BenchEffect};
+ghost use Rattle.bench_entry.specs.Effect.{BenchEffect};
 
 use answers::{Numbered, read_list};
 use bench_words::{WRONG_LENGTH, lengths_right, read_buffers, write_figures};
@@ -28,6 +27,7 @@ pub use least::bench_search;
 // vertical R C, T, skew, L. `buffers` holds R K C of each. `figures` gets registers, steps, latency, the fault of refusal 4 and the spare half-ticks.
 // Other lengths of these three are refused with 15, and nothing is touched.
 #[unsafe(no_mangle)]
+#[tactic(auto, unfolding(bench_words::specs::Words::lengths_right, bench_words::specs::Words::inputs_right, crate::specs::Question::bench_question))]
 pub extern "C" fn bench_entry(
     plan: &[u8],
     width: u16,
@@ -42,30 +42,9 @@ pub extern "C" fn bench_entry(
 ) -> u16
     ensures { BenchEffect (lengths_right (length tables.now) (length buffers.now) (length figures.old)) (bench_question plan.now width height tables.now buffers.now source sink) scratch.old scratch.new visits.old visits.new figures.old figures.new result }
 {
-    if lengths_right(tables.len(), buffers.len(), figures.len()) {
-        return ask(
-            plan, width, height, tables, buffers, source, sink, scratch, visits, figures,
-        );
+    if !lengths_right(tables.len(), buffers.len(), figures.len()) {
+        return WRONG_LENGTH;
     }
-    WRONG_LENGTH
-}
-
-// The call, where the lengths are right.
-fn ask(
-    plan: &[u8],
-    width: u16,
-    height: u16,
-    tables: &[u16],
-    buffers: &[u16],
-    source: u16,
-    sink: u16,
-    scratch: &mut [u16],
-    visits: &mut [u16],
-    figures: &mut [u32],
-) -> u16
-    requires { (table_numbers ≤ length tables.now) × (length figures.old ≡ result_numbers) }
-    ensures { BenchAnswered (bench_question plan.now width height tables.now buffers.now source sink) scratch.old scratch.new visits.old visits.new figures.new result }
-{
     let asking = Asking {
         plan,
         width,

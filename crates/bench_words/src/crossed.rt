@@ -6,6 +6,7 @@ use crate::faults::refusal_fault;
 use answers::CrossingAnswer;
 use timing::slack_magnitude;
 
+// `answer_fault` of another enum: a trait over the two would hold the same match twice.
 fn crossing_fault(answer: CrossingAnswer) -> u32
     ensures { result ≡ crossing_answer_fault answer }
 {

@@ -18,7 +18,7 @@ pub fn judge<W: Write>(
     words: &mut [u16],
 ) -> Result<(), PlayError> {
     let net = Net::read(script)?;
-    let count = read_words(script, words)?;
+    let list = read_words(script, words)?;
     let asking = Asking {
         plan: &plan[..player.plan.min(plan.len())],
         width: net.width,
@@ -28,7 +28,7 @@ pub fn judge<W: Write>(
         source: net.source,
         sink: net.sink,
     };
-    let verdict = judge_asked(&asking, &words[..count.min(words.len())]);
+    let verdict = judge_asked(&asking, list);
     write_verdict(out, verdict, player.session.depth)?;
     Ok(())
 }
@@ -43,11 +43,9 @@ pub fn better<W: Write>(
     second: &mut [u16],
 ) -> Result<(), PlayError> {
     let net = Net::read(script)?;
-    let n = read_words(script, first)?;
-    let m = read_words(script, second)?;
+    let a = read_words(script, first)?;
+    let b = read_words(script, second)?;
     let plan = &plan[..player.plan.min(plan.len())];
-    let a = &first[..n.min(first.len())];
-    let b = &second[..m.min(second.len())];
     let asking = Asking {
         plan,
         width: net.width,

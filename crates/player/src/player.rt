@@ -30,7 +30,7 @@ pub(crate) const BUFFER: BufferRecord = BufferRecord {
     load: 0,
 };
 
-// The record, the lengths of plan, journal and scratch, and the tables of the next call, of one clock or two.
+// The record, the lengths of plan, journal and scratch, and the tables of the next call, of one clock or two. Lengths, not slices: a later command may lend more of the same bytes.
 #[derive(Clone, Copy)]
 pub struct Player {
     pub session: Session,

@@ -1,10 +1,5 @@
 -- A run grows by one word that is equal to its first.
-use Prim.Native.Nat.{ℕ, ◌+◌, ◌≤◌}
-use mathlib.Core.Path.{◌≡◌, ap}
-use mathlib.Core.List.{List}
-use native.Mathlib.Omega.{arith}
-use borrow.Author.Count.{below_more}
-use lib.ListN.{get_or}
+use Rattle.std.proofs.Common.{ℕ, ◌+◌, ◌≤◌, ◌≡◌, ap, List, arith, below_more, get_or}
 use Rattle.report.specs.Runs.{Equal}
 
 pub equal-one : (words : List ℕ) (start : ℕ) → Equal words start (start + 1)

@@ -60,7 +60,7 @@ fn write_run<W: Write>(out: &mut W, word: u16, times: usize) -> Result<()> {
     write_number(out, times as u64)
 }
 
-// All words, run by run.
+// All words, run by run. `run_end` says what a run is (`EqualRun`), which `chunk_by` would not promise.
 pub fn write_runs<W: Write>(out: &mut W, words: &[u16]) -> Result<()> {
     let mut start = 0;
     while start < words.len() {

@@ -1,5 +1,5 @@
 // Reads a script, word by word and number by number.
-ghost use Rattle.std.specs.Prelude.{◌+◌, ◌^◌, ◌<◌, ◌≤◌, IfOk, length};
+ghost use Rattle.std.specs.Prelude.{◌+◌, ◌^◌, ◌<◌, ◌≤◌, IfOk, IfSome, length};
 
 use crate::fault::ScriptFault;
 
@@ -56,7 +56,9 @@ impl<'a> Script<'a> {
     }
 
     // The next word, up to a space, a line end or a comment.
-    pub fn word(&mut self) -> Option<&'a [u8]> {
+    pub fn word(&mut self) -> Option<&'a [u8]>
+        ensures { IfSome result (λ word. 0 < length word.now) }
+    {
         self.skip();
         let rest = self.rest;
         let end = rest

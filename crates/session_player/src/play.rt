@@ -8,7 +8,7 @@ use player::{PlayError, Player};
 use script::Script;
 use std::io::{self, Write};
 
-// The command that a word names.
+// The command that a word names. No struct of the six slices: a call that takes two fields of one gets no proof.
 fn command<W: Write>(
     out: &mut W,
     word: &[u8],

@@ -3,12 +3,11 @@ ghost use Rattle.std.specs.Prelude.{◌<◌, length, take, IfNone};
 ghost use Rattle.std.specs.Io.KnownBytes.{Consumes, IsAtEnd};
 ghost use Rattle.io.specs.Counts.{IsPrefixLen};
 
+use crate::INTERRUPTIONS;
 use std::io::{Error, ErrorKind, Read};
 
-// So many reads may be interrupted before the input counts as failed.
-const INTERRUPTIONS: u32 = 1000000;
-
 // So many bytes stand at the start of the room; a failed read, which had this error, came after them.
+// No `Result`: the clauses `within` and `bytes` hold of what came before a failed read too.
 #[derive(Clone, Copy)]
 pub struct Input {
     pub bytes: usize,
@@ -25,29 +24,14 @@ pub fn read_input<R: Read>(input: &mut R, space: &mut [u8]) -> Input
     let mut left = INTERRUPTIONS;
     while done < space.len() {
         match input.read(&mut space[done..]) {
-            Ok(more) => {
-                if more == 0 {
-                    return Input {
-                        bytes: done,
-                        failed: None,
-                    };
-                }
-                done += more;
-            }
+            Ok(0) => break,
+            Ok(more) => done += more,
+            Err(error) if error.kind() == ErrorKind::Interrupted && 0 < left => left -= 1,
             Err(error) => {
-                if error.kind() != ErrorKind::Interrupted {
-                    return Input {
-                        bytes: done,
-                        failed: Some(error),
-                    };
-                }
-                if left == 0 {
-                    return Input {
-                        bytes: done,
-                        failed: Some(error),
-                    };
-                }
-                left -= 1;
+                return Input {
+                    bytes: done,
+                    failed: Some(error),
+                };
             }
         }
     }

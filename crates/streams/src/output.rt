@@ -2,10 +2,8 @@
 ghost use Rattle.std.specs.Prelude.{OnOk, ◌∷◌};
 ghost use Rattle.std.specs.Io.KnownBytes.{Appends};
 
+use crate::INTERRUPTIONS;
 use std::io::{Error, ErrorKind, Result, Write};
-
-// So many writes may be interrupted before the output counts as failed.
-const INTERRUPTIONS: u32 = 1000000;
 
 // A write may take fewer bytes than it is given; an interrupted one is tried again. One that takes none fails.
 pub fn write_text<W: Write>(out: &mut W, text: &[u8]) -> Result<()>
@@ -15,22 +13,13 @@ pub fn write_text<W: Write>(out: &mut W, text: &[u8]) -> Result<()>
     let mut left = INTERRUPTIONS;
     while done < text.len() {
         match out.write(&text[done..]) {
-            Ok(took) => {
-                if took == 0 {
-                    let message = "failed to write whole buffer";
-                    return Err(Error::new(ErrorKind::WriteZero, message));
-                }
-                done += took;
+            Ok(0) => {
+                let message = "failed to write whole buffer";
+                return Err(Error::new(ErrorKind::WriteZero, message));
             }
-            Err(error) => {
-                if error.kind() != ErrorKind::Interrupted {
-                    return Err(error);
-                }
-                if left == 0 {
-                    return Err(error);
-                }
-                left -= 1;
-            }
+            Ok(took) => done += took,
+            Err(error) if error.kind() == ErrorKind::Interrupted && 0 < left => left -= 1,
+            Err(error) => return Err(error),
         }
     }
     Ok(())

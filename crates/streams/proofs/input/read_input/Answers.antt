@@ -29,14 +29,11 @@ loop-done-preserved-in-Ok g c =
     let joined = take_split from (from + c.in-Ok.more) c.loop-done.space after (omega arith) (take-put_mid_below _ _ _ _ _ (le_refl _) within) in
     (search rules, search rules, subst (Consumes _ _) (ap (λ l. take from c.loop-done.space ++ l) (sym part) ∙ joined) (Consumes-trans _ _ _ _ _ c.loop-done.invariant.2 c.in-Ok.ensures.bytes.0))
 
-pub returns-clause-within : goal.returns-clause-within
-returns-clause-within g c = counted _ _ (search rules)
+pub returns-after-loop-done-clause-within : goal.returns-after-loop-done-clause-within
+returns-after-loop-done-clause-within g c = counted _ _ (search rules)
 
-pub returns-then-more-eq0-clause-within : goal.returns-then-more-eq0-clause-within
-returns-then-more-eq0-clause-within g c = counted _ _ (search rules)
+pub returns-in-Ok-eq0-clause-within : goal.returns-in-Ok-eq0-clause-within
+returns-in-Ok-eq0-clause-within g c = counted _ _ (search rules)
 
-pub returns-then-ne-clause-within : goal.returns-then-ne-clause-within
-returns-then-ne-clause-within g c = counted _ _ (search rules)
-
-pub returns-then-left-eq0-clause-within : goal.returns-then-left-eq0-clause-within
-returns-then-left-eq0-clause-within g c = counted _ _ (search rules)
+pub returns-in-Err-2-clause-within : goal.returns-in-Err-2-clause-within
+returns-in-Err-2-clause-within g c = counted _ _ (search rules)
