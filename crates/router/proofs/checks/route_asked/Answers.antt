@@ -22,12 +22,12 @@ costs_of-costs-requires c =
     let valid = (passed-ready _ passes f.0).valid in
     rw f.1 (valid, valid.register)
 
-pub routey-requires : goal.routey-requires
-routey-requires c =
+pub route_ready-requires : goal.route_ready-requires
+route_ready-requires c =
     let f = told-passes _ (sym c.in-Ok.ensures) in
     (rw f.1 (passed-ready _ passes f.0), (c.if-scratch-plan.false, c.costs_of-costs.ensures))
 
 pub returns-in-Ok-2 : goal.returns-in-Ok-2
 returns-in-Ok-2 c =
     let f = told-passes _ (sym c.in-Ok.ensures) in
-    routed _ _ _ f.0 c.if-scratch-plan.false _ _ _ (rw f.1 at c.routey.ensures)
+    routed _ _ _ f.0 c.if-scratch-plan.false _ _ _ (rw f.1 at c.route_ready.ensures)
