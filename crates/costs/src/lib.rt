@@ -100,6 +100,7 @@ fn put_buffers(rows: [u16; COSTS], e: Elements) -> [u16; COSTS]
     let mut all = rows;
     for i in 0..e.count {
         let row = gate_row(e.buffers[i].driver(), limit);
+        // Put straight into `all`, the call would get no generated proof.
         let more = put_row(all, BUFFERS + i * ROW, row);
         all = more;
     }

@@ -1,12 +1,5 @@
 -- The rules of a net: each field that the clocks change, as an equation; with one clock they are the problem's.
-use Prim.Native.Nat.{ℕ, ◌+◌, ◌*◌, ◌≤◌}
-use mathlib.Core.Path.{◌≡◌, refl, sym}
-use mathlib.Core.Bool.{Bool, true, false, cond}
-use mathlib.Core.List.{List}
-use native.Mathlib.Omega.{arith}
-use borrow.Author.Tests.{le-leb, lt-leb}
-use lib.Dec.{T}
-use lib.ListN.{length}
+use Rattle.std.proofs.Common.{ℕ, ◌+◌, ◌*◌, ◌≤◌, ◌≡◌, refl, sym, Bool, true, false, cond, List, T, length}
 use Rattle.timing.specs.declared.elements.Elements.{Elements}
 use Rattle.timing.specs.declared.clocks.Clocks.{Clocks}
 use Rattle.timing.specs.Elements.{RegisterInRange}
@@ -21,15 +14,6 @@ use Rattle.problem.specs.declared.net.Net.{Net}
 use Rattle.problem.specs.Problem.{plan_for, rules_for, Ready}
 use Rattle.problem.specs.Net.{one_net, weight_on, net_rules, NetReady}
 use Rattle.problem.proofs.Sizes.{cells_are}
-
-module _ (e : Elements) (x : Clocks) (side : ℕ) where
-  pub weight-alone : x.fifos ≡ 0 → weight_on e x side ≡ 1
-  unfolding weight_on
-  weight-alone h = simp (lt-leb 1 x.fifos (omega arith))
-
-  pub weight-period : 1 ≤ x.fifos → weight_on e x side ≡ period_on e x side
-  unfolding weight_on
-  weight-period h = simp (le-leb 1 x.fifos h)
 
 -- with one clock
 

@@ -1,9 +1,5 @@
 -- A ready problem's sizes.
-use Prim.Native.Nat.{ℕ, ◌*◌, ◌≤◌}
-use mathlib.Core.Path.{◌≡◌}
-use mathlib.Core.List.{List}
-use native.Mathlib.Omega.{arith}
-use lib.ListN.{length}
+use Rattle.std.proofs.Common.{ℕ, ◌*◌, ◌≤◌, ◌≡◌, List, arith, length}
 use Rattle.plan.specs.Plan.{cells}
 use Rattle.plan.proofs.Check.{cells-most}
 use Rattle.problem.specs.declared.Problem.{Problem}

@@ -1,11 +1,6 @@
 -- The wires from a cell of a ready problem: the rules link it with its neighbours, across by the horizontal wire, along by the vertical one.
-use Prim.Native.Nat.{ℕ, ◌<◌}
-use mathlib.Core.Path.{◌≡◌}
-use mathlib.Core.List.{List}
-use mathlib.Core.Logic.{◌⊎◌, inl, inr}
-use native.Mathlib.Omega.{arith}
-use lib.Dec.{T, not_T}
-use lib.ListN.{length}
+use Rattle.std.proofs.Common.{ℕ, ◌<◌, ◌≡◌, List, ◌⊎◌, inl, inr, arith, T, length}
+use lib.Dec.{not_T}
 use Rattle.plan.specs.Plan.{Plan, cells}
 use Rattle.plan.specs.Joined.{horizontal, neighbours_of}
 use Rattle.plan.specs.declared.Neighbours.{Neighbours}

@@ -13,59 +13,49 @@ pub struct Net {
 }
 
 impl Net {
+    #[tactic(auto, unfolding(crate::specs::Net::one_net))]
     pub fn one_clock(p: Problem) -> Net
         ensures { result ≡ one_net p }
     {
-        let elements = p.elements;
-        let clocks = Clocks::one(elements.period);
         Net {
             problem: p,
-            clocks: clocks,
+            clocks: Clocks::one(p.elements.period),
         }
     }
 
     // The period of the spans on this side, in ticks.
+    #[tactic(auto, unfolding(rules::specs::Crossing::period_on))]
     pub fn period(self, side: usize) -> u16
         ensures { result ≡ period_on self.problem.elements self.clocks side }
     {
-        let clocks = self.clocks;
-        let p = self.problem;
-        let elements = p.elements;
-        if clocks.fifos == 0 {
-            return elements.period;
+        if self.clocks.fifos == 0 || side == 0 {
+            self.problem.elements.period
+        } else {
+            self.clocks.period
         }
-        if side == 0 {
-            return elements.period;
-        }
-        clocks.period
     }
 
     // What a span on this side counts in the ranking.
+    #[tactic(auto, unfolding(crate::specs::Net::weight_on))]
     pub fn weight(self, side: usize) -> u32
         ensures { result ≡ weight_on self.problem.elements self.clocks side }
     {
-        let clocks = self.clocks;
-        if clocks.fifos == 0 {
-            return 1;
+        if self.clocks.fifos == 0 {
+            1
+        } else {
+            u32::from(self.period(side))
         }
-        self.period(side) as u32
     }
 
     // What closes a span, and starts the next, with this code: the FIFO for 8, where there is one, else the register.
+    #[tactic(auto, unfolding(rules::specs::Crossing::gate_for, rules::specs::Crossing::is_fifo))]
     pub fn gate(self, code: u16) -> Register
         ensures { result ≡ gate_for self.problem.elements self.clocks code }
     {
-        let clocks = self.clocks;
-        let p = self.problem;
-        let elements = p.elements;
-        let register = elements.register;
-        if clocks.fifos == 0 {
-            return register;
+        if self.clocks.fifos != 0 && code == 8 {
+            self.clocks.fifo
+        } else {
+            self.problem.elements.register
         }
-        if code == 8 {
-            let fifo = clocks.fifo;
-            return fifo;
-        }
-        register
     }
 }

@@ -2,26 +2,12 @@
 // What a step or a gate costs is a row too, of the array of all costs.
 #![tactic(auto)]
 
-ghost use Rattle.std.specs.Prelude.{◌≡◌, ◌+◌, ◌*◌, ◌-◌, ◌≤◌, ◌<◌, max, length};
+ghost use Rattle.std.specs.Prelude.{◌≡◌, ◌+◌, ◌*◌, ◌-◌, ◌≤◌, ◌<◌, length};
 ghost use Rattle.costs.specs.Costs.{row_words, cost_words};
 ghost use Rattle.rows.specs.Words.{Filled};
 ghost use Rattle.rows.specs.Rows.{view_of, copied, raised, pushed, StepRow, Grows};
 
 use costs::{COSTS, ROW};
-
-// The larger of two numbers.
-pub fn larger(a: u16, b: u16) -> u16
-    ensures { result ≡ max a b }
-{
-    a.max(b)
-}
-
-// a less b, or 0.
-pub fn above(a: u16, b: u16) -> u16
-    ensures { result ≡ a - b }
-{
-    a.saturating_sub(b)
-}
 
 // Words from `at` up to `end` become 0.
 pub fn clear(scratch: &mut [u16], at: usize, end: usize)
@@ -45,7 +31,7 @@ pub fn copy_row(scratch: &mut [u16], cell: usize, to: usize, costs: &[u16; COSTS
     ensures { Filled (copied scratch.old cell costs.now base) to row_words scratch.old scratch.new }
 {
     for l in 0..ROW {
-        scratch[to + l] = above(view(scratch, cell, l), costs[base + l]);
+        scratch[to + l] = view(scratch, cell, l).saturating_sub(costs[base + l]);
     }
 }
 
@@ -55,9 +41,8 @@ pub fn raise_row(scratch: &mut [u16], at: usize, top: u16, costs: &[u16; COSTS],
     ensures { Filled (raised scratch.old at top costs.now base) at row_words scratch.old scratch.new }
 {
     for l in 0..ROW {
-        let old = scratch[at + l];
-        let rest = above(top, costs[base + l]);
-        scratch[at + l] = larger(old, rest);
+        let rest = top.saturating_sub(costs[base + l]);
+        scratch[at + l] = scratch[at + l].max(rest);
     }
 }
 
@@ -75,8 +60,8 @@ pub fn grows(
 {
     let mut grown: u16 = 0;
     for l in 0..ROW {
-        let rest = above(scratch[from + (l + step)], costs[base + l]);
-        grown = larger(grown, above(rest, scratch[to + l]));
+        let rest = scratch[from + (l + step)].saturating_sub(costs[base + l]);
+        grown = grown.max(rest.saturating_sub(scratch[to + l]));
     }
     0 < grown
 }
@@ -95,7 +80,7 @@ pub fn push_row(
     ensures { Filled (pushed scratch.old from to costs.now base step) to row_words scratch.old scratch.new }
 {
     for l in 0..ROW {
-        let old = scratch[to + l];
-        scratch[to + l] = larger(old, above(scratch[from + (l + step)], costs[base + l]));
+        let given = scratch[from + (l + step)].saturating_sub(costs[base + l]);
+        scratch[to + l] = scratch[to + l].max(given);
     }
 }

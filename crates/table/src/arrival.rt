@@ -12,7 +12,7 @@ use costs::{BUFFERS, COSTS, FIFO, NONE, REGISTER, ROW};
 use layout::{ARRIVAL, SEEDS};
 use plan::is_blocked;
 use problem::{Net, Problem};
-use rows::{above, copy_row, raise_row, view};
+use rows::{copy_row, raise_row, view};
 use timing::Elements;
 
 // A buffer may stand on the cell, which has these marks.
@@ -67,8 +67,7 @@ fn raise_seed(
     ensures { Filled (seeded (marks_seed (get_or scratch.old mark 0) code) scratch.old to (top - 2 * skew) costs.now base) to row_words scratch.old scratch.new }
 {
     if marks_seed(scratch[mark], code) {
-        let rest = above(top, 2 * skew);
-        raise_row(scratch, to, rest, costs, base);
+        raise_row(scratch, to, top.saturating_sub(2 * skew), costs, base);
     }
 }
 

@@ -10,4 +10,4 @@ loop-l-preserved c =
     let a = c.args in
     let loop = c.loop-l in
     let word = c.view.ensures ∙ loop.invariant.low (a.cell * row_words + loop.l) (omega arith) in
-    filled_more loop.invariant _ (omega arith) (cc (c.above.ensures, word))
+    filled_more loop.invariant _ (omega arith) (cc (c.saturating_sub.ensures, word))

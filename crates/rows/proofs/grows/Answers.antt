@@ -15,7 +15,7 @@ loop-l-preserved c =
     let loop = c.loop-l in
     let l = loop.l in
     let more = growth-is a.scratch.now a.from a.to a.costs.now a.base a.step c.requires.0 l (omega arith) (omega (arith, c.type_inv.scratch (a.from + (l + a.step)))) in
-    rw (add-one, max_below) (cc (c.larger-grown.ensures, c.above.ensures, c.above-rest.ensures, loop.invariant, more))
+    rw (add-one, max_below) (cc (c.max-grown.ensures, c.saturating_sub.ensures, c.saturating_sub-rest.ensures, loop.invariant, more))
 
 pub returns : goal.returns
 returns c =

@@ -11,4 +11,4 @@ loop-l-preserved c =
     let old = loop.invariant.high (a.to + l) (omega arith) in
     let read = loop.invariant.high (a.from + (l + a.step)) (omega arith) in
     let word = pushed-is a.scratch.now a.from a.to a.costs.now a.base a.step c.requires.0 l (omega arith) (omega (arith, c.slice_known-1.given (a.from + (l + a.step)))) in
-    filled_more loop.invariant _ (omega arith) (cc (c.larger.ensures, c.above.ensures, old, read, word))
+    filled_more loop.invariant _ (omega arith) (cc (c.max.ensures, c.saturating_sub-given.ensures, old, read, word))

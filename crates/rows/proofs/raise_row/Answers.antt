@@ -9,4 +9,4 @@ loop-l-preserved c =
     let a = c.args in
     let loop = c.loop-l in
     let old = loop.invariant.high (a.at + loop.l) (omega arith) in
-    filled_more loop.invariant _ (omega arith) (cc (c.larger.ensures, c.above-rest.ensures, old))
+    filled_more loop.invariant _ (omega arith) (cc (c.max.ensures, c.saturating_sub-rest.ensures, old))

@@ -9,7 +9,7 @@ pub returns-then-marks_seed : goal.returns-then-marks_seed
 unfolding seeded
 returns-then-marks_seed c =
     let test : marks_seed (get_or c.args.scratch.now c.args.mark 0) c.args.code ≡ true = sym c.marks_seed.ensures ∙ c.if-marks_seed.true in
-    filled-as c.raise_row.ensures _ (λ k h. simp (test, c.above-rest.ensures))
+    filled-as c.raise_row.ensures _ (λ k h. simp (test, c.saturating_sub.ensures))
 
 pub returns-else-marks_seed : goal.returns-else-marks_seed
 unfolding seeded
