@@ -1,16 +1,6 @@
 -- The codes at one cell, by the words: which tests of the code say that a visit goes on, and the first code out of them.
-use Prim.Native.Nat.{ℕ, zero, suc, ◌+◌, ◌*◌, ◌≤◌, ◌<◌}
-use mathlib.Core.Path.{◌≡◌, refl, ◌∙◌}
-use Rattle.std.specs.Prelude.{Some, None}
-use mathlib.Core.Bool.{Bool, true, false, not, ◌&&◌, cond}
-use mathlib.Core.List.{List}
-use mathlib.Core.Logic.{◌⊎◌, inl, inr}
-use native.Mathlib.Omega.{arith}
-use native.Mathlib.Numerals.{add-one}
-use borrow.Author.Tests.{ne_eqb}
-use lib.Dec.{T, T_not, not_T, leb, ltb}
-use lib.IntN.{pos}
-use lib.ListN.{length, get_or}
+use Rattle.std.proofs.Common.{ℕ, zero, suc, ◌+◌, ◌*◌, ◌≤◌, ◌<◌, ◌≡◌, refl, ◌∙◌, Some, None, Bool, true, false, not, ◌&&◌, cond, List, ◌⊎◌, inl, inr, arith, add-one, ne_eqb, T, T_not, leb, ltb, pos, length, get_or}
+use lib.Dec.{not_T}
 use lib.Signed.{le_z}
 use Rattle.timing.specs.declared.elements.Elements.{Elements}
 use Rattle.timing.specs.Ranges.{period_max}

@@ -1,12 +1,5 @@
 -- The first visit to any neighbour, out of the first to each of the four sides: these are in ascending order.
-use Prim.Native.Nat.{ℕ, ◌≤◌, ◌<◌}
-use mathlib.Core.Path.{◌≡◌, refl}
-use Rattle.std.specs.Prelude.{Option, Some, None}
-use mathlib.Core.List.{List}
-use mathlib.Core.Logic.{◌⊎◌, inl, inr}
-use native.Mathlib.Omega.{arith}
-use lib.Dec.{T}
-use lib.ListN.{length}
+use Rattle.std.proofs.Common.{ℕ, ◌≤◌, ◌<◌, ◌≡◌, refl, Option, Some, None, List, ◌⊎◌, inl, inr, arith, T, length}
 use Rattle.plan.specs.Plan.{Plan, cells}
 use Rattle.plan.specs.Joined.{neighbours_of}
 use Rattle.plan.specs.declared.Neighbours.{Neighbours}

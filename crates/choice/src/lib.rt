@@ -208,6 +208,7 @@ pub fn choose(plan: &[u8], scratch: &[u16], net: Net, exits: usize, from: State)
         vertical,
         ..
     } = net.problem.elements;
+    // Tried as a chain of `or_else`: what the closures return is not found among the facts of the return.
     if let Some(visit) = try_cell(plan, scratch, net, exits, from, near.up, vertical) {
         return Some(visit);
     }

@@ -28,6 +28,7 @@ pub struct Progress {
     pub watched: usize,
 }
 
+// How the search of a side ends. Both variants are full and neither is an error: no `Option` or `Result`.
 #[derive(Clone, Copy)]
 pub enum Reached {
     // The least weight after the first span, and steps, from the sink; the count of labels.

@@ -1,8 +1,5 @@
 -- The two tests of the code are those of `drives`, at the buffer that was copied out.
-use Prim.Native.Nat.{◌+◌}
-use mathlib.Core.Path.{◌≡◌, sym, ◌∙◌}
-use native.Mathlib.Omega.{arith}
-use lib.Dec.{leb}
+use Rattle.std.proofs.Common.{◌+◌, ◌≡◌, sym, ◌∙◌, arith, leb}
 use Rattle.timing.specs.Elements.{buffer_of, driver_of}
 use Rattle.timing.specs.Formulas.{gate_delay, buffer_driver, buffer_load}
 use Rattle.costs.specs.Costs.{buffer_at}

@@ -1,11 +1,7 @@
 -- The seed, and then the spare figure: by `goes-closing` these are the tests of the rules.
-use mathlib.Core.Path.{◌≡◌, sym, ap, ◌∙◌}
-use native.Mathlib.Omega.{arith}
+use Rattle.std.proofs.Common.{◌≡◌, sym, ap, ◌∙◌, arith, pos, to_z-of_z, w32}
 use borrow.Author.Tests.{not-true, not-false}
-use lib.IntN.{pos}
 use lib.Signed.{le_z}
-use mir.Facts.{to_z-of_z}
-use mir.Syntax.{w32}
 use Rattle.problem.proofs.Sizes.{few-cells}
 use Rattle.problem.proofs.Clocks.{net-gate-in}
 use Rattle.choice.specs.Codes.{slack_with}

@@ -1,10 +1,8 @@
 -- The closure tells of each buffer whether it drives, and `find` takes the first that does.
-use Rattle.std.specs.Prelude.{Option, Some, None, MatchOption}
-use Rattle.std.proofs.Common.{◌≡◌, ℕ, ◌≤◌, ◌<◌, Bool, true, false, List, arith, rules}
+use Rattle.std.proofs.Common.{Option, Some, None, MatchOption, ◌≡◌, ℕ, ◌≤◌, ◌<◌, Bool, true, false, List, arith, rules, T_not}
 use Rattle.std.proofs.lemmas.Iterator.{first_from_Range}
 use Rattle.timing.specs.declared.elements.Elements.{Elements}
 use Rattle.plan.proofs.Truth.{of-true, of-false}
-use lib.Dec.{T_not}
 use Rattle.choice.specs.declared.State.{State}
 use Rattle.choice.specs.Codes.{drives, FirstBuffer}
 use Rattle.choice.proofs.first_buffer.Goals as goal

@@ -1,9 +1,5 @@
 -- The tests of the code, in the order of the codes, by the laws of `Codes`.
-use Prim.Native.Nat.{ℕ, ◌+◌, ◌<◌, ◌≤◌}
-use mathlib.Core.Path.{◌≡◌, sym, ◌∙◌}
-use native.Mathlib.Omega.{arith}
-use lib.Dec.{T, ltb}
-use lib.ListN.{length, get_or}
+use Rattle.std.proofs.Common.{ℕ, ◌+◌, ◌<◌, ◌≤◌, ◌≡◌, sym, ◌∙◌, arith, T, ltb, length, get_or, None, rules}
 use Rattle.rules.specs.Rules.{register_code, fifo_code}
 use Rattle.plan.proofs.Truth.{of-true}
 use Rattle.rows.specs.Rows.{view_of}
@@ -12,7 +8,6 @@ use Rattle.table.specs.Problem.{net_rules, budget_of}
 use Rattle.choice.specs.Choice.{delay_most}
 use Rattle.choice.specs.Codes.{goes_at}
 use Rattle.choice.proofs.Codes.{high-closes, code-first, code-none, code-gateless, code-buffer, no_buffer, no-site, low-more}
-use Rattle.std.proofs.Common.{None, rules}
 use Rattle.choice.proofs.first_code.Goals as goal
 use Rattle.choice.proofs.first_code.Goals.{After-below, After-shared_slice_known-2-1, Else-closes, Joined-else-takes_buffers, else-takes_buffers-via-then-takes_buffers+in-None-1, else-takes_buffers-via-else-takes_buffers}
 

@@ -1,10 +1,5 @@
 -- One case a kind of gate.
-use Prim.Native.Nat.{◌-◌}
-use mathlib.Core.Path.{◌≡◌, refl, sym, ap₂, ◌∙◌}
-use native.Mathlib.Omega.{arith}
-use borrow.Author.Tests.{eq-eqb, ne_eqb}
-use mir.Facts.{to_z-of_z}
-use mir.Syntax.{w32}
+use Rattle.std.proofs.Common.{◌-◌, ◌≡◌, refl, sym, ap₂, ◌∙◌, arith, eq-eqb, ne_eqb, to_z-of_z, w32}
 use Rattle.timing.specs.Elements.{buffer_of, driver_of}
 use Rattle.timing.specs.Formulas.{buffer_driver}
 use Rattle.timing.specs.Slack.{smaller}

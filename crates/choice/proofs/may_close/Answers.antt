@@ -1,9 +1,5 @@
 -- One set of labels a code; with no labels of FIFOs there is no seed for one.
-use mathlib.Core.Path.{◌≡◌, sym, ◌∙◌}
-use mathlib.Core.Logic.{⊎_elim}
-use native.Mathlib.Omega.{arith}
-use lib.Dec.{eqb}
-use mathlib.Core.Bool.{not}
+use Rattle.std.proofs.Common.{◌≡◌, sym, ◌∙◌, ⊎_elim, arith, eqb, not}
 use Rattle.plan.proofs.Truth.{is_false}
 use Rattle.rules.specs.Rules.{fifo_code}
 use Rattle.rules.proofs.View.{closing-codes}

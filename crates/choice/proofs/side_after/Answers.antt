@@ -1,6 +1,5 @@
 -- One more after the FIFO's code.
-use mathlib.Core.Path.{sym}
-use native.Mathlib.Numerals.{add-one}
+use Rattle.std.proofs.Common.{sym, add-one}
 use Rattle.rules.proofs.View.{side-fifo, side_same}
 use Rattle.choice.proofs.side_after.Goals as goal
 

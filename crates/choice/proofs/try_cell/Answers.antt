@@ -1,12 +1,6 @@
 -- The load and the delay on arrival are the rules', so that the first code there makes the first visit.
-use Prim.Native.Nat.{◌+◌, ◌<◌, ◌≤◌}
-use mathlib.Core.Path.{◌≡◌, refl, sym, ◌∙◌}
-use native.Mathlib.Omega.{arith}
-use borrow.Author.Tests.{leb-true, leb-false, not-true, not-false}
-use lib.ListN.{length}
-use mir.Facts.{to_z-of_z}
-use mir.Syntax.{w32}
-use mir.Val.{to_z, of_z}
+use Rattle.std.proofs.Common.{◌+◌, ◌<◌, ◌≤◌, ◌≡◌, refl, sym, ◌∙◌, arith, leb-true, leb-false, length, to_z-of_z, w32, to_z, of_z}
+use borrow.Author.Tests.{not-true, not-false}
 use Rattle.std.proofs.lemmas.Option.{MatchOption-at_some}
 use Rattle.timing.specs.Formulas.{wire_delay, wire_load}
 use Rattle.timing.proofs.Bounds.{wire-delay-max}

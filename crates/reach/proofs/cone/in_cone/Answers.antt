@@ -1,9 +1,6 @@
 -- `reach::cone::in_cone`: the test of the sum, by differences.
-use Prim.Native.Nat.{ℕ, ◌+◌, ◌-◌, ◌≤◌}
-use mathlib.Core.Path.{◌≡◌, sym, ap, ◌∙◌}
-use native.Mathlib.Omega.{arith}
+use Rattle.std.proofs.Common.{ℕ, ◌+◌, ◌-◌, ◌≤◌, ◌≡◌, sym, ap, ◌∙◌, arith, leb, leb→le, le→leb}
 use borrow.Author.Tests.{lt-leb}
-use lib.Dec.{leb, leb→le, le→leb}
 use Rattle.plan.specs.Apart.{gap, apart_by}
 use Rattle.plan.proofs.Truth.{tests, of-true, of-false}
 use Rattle.budget.specs.Cone.{in_cone}

@@ -1,11 +1,4 @@
-use Prim.Native.Nat.{ℕ, ◌+◌, ◌*◌, ◌<◌}
-use mathlib.Core.Path.{◌≡◌, refl, sym, ◌∙◌}
-use mathlib.Core.Bool.{Bool}
-use mathlib.Core.Logic.{◌⊎◌, inl, inr}
-use mathlib.Core.List.{List}
-use native.Mathlib.Omega.{arith}
-use lib.Dec.{T}
-use lib.ListN.{get_or}
+use Rattle.std.proofs.Common.{ℕ, ◌+◌, ◌*◌, ◌<◌, ◌≡◌, refl, sym, ◌∙◌, Bool, ◌⊎◌, inl, inr, List, arith, T, get_or}
 use Rattle.plan.proofs.Truth.{equal}
 use Rattle.layout.specs.Layout.{active_at, next_at}
 use Rattle.lists.specs.Lists.{flag_of, ListedAt, Enlisted}

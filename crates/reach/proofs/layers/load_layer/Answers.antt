@@ -1,5 +1,5 @@
 -- `reach::layers::load_layer`: back on the trail, or the span again.
-use mathlib.Core.Path.{sym, ◌∙◌}
+use Rattle.std.proofs.Common.{sym, ◌∙◌}
 use Rattle.plan.proofs.Truth.{of-true}
 use Rattle.problem.proofs.Sizes.{few-cells}
 use Rattle.reach.proofs.Trailing.{held-parts, back-loaded}

@@ -1,8 +1,5 @@
 -- `reach::span::clear_table`: on the trail, or word by word.
-use Prim.Native.Nat.{ℕ, ◌+◌, ◌-◌, ◌*◌}
-use mathlib.Core.Path.{◌≡◌}
-use mathlib.Core.List.{List}
-use native.Mathlib.Omega.{arith}
+use Rattle.std.proofs.Common.{ℕ, ◌+◌, ◌-◌, ◌*◌, ◌≡◌, List, arith}
 use Rattle.layout.specs.Layout.{arrival_at}
 use Rattle.rows.specs.Words.{Filled}
 use Rattle.reach.specs.Reach.{TableCleared}

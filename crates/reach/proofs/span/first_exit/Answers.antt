@@ -1,5 +1,5 @@
 -- `reach::span::first_exit`: where there are labels of FIFOs, `first_with` in their order.
-use native.Mathlib.Omega.{arith}
+use Rattle.std.proofs.Common.{arith}
 use Rattle.reach.proofs.span.first_exit.Goals as goal
 
 pub overflow_mul-n : goal.overflow_mul-n

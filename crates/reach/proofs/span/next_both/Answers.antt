@@ -1,5 +1,5 @@
 -- `reach::span::next_both`: what the registers leave bounds what the FIFOs are asked for.
-use native.Mathlib.Omega.{arith}
+use Rattle.std.proofs.Common.{arith}
 use Rattle.reach.proofs.span.next_both.Goals as goal
 
 pub next_steps-requires : goal.next_steps-requires

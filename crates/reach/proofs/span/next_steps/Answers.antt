@@ -1,6 +1,5 @@
 -- `reach::span::next_steps`: the lesser of the next label's steps and `steps`.
-use Prim.Native.Nat.{◌<◌}
-use native.Mathlib.Omega.{arith}
+use Rattle.std.proofs.Common.{◌<◌, arith}
 use Rattle.labels.specs.Labels.{weight_word, order_of}
 use Rattle.labels.proofs.Labels.{known-word, ordered-count}
 use Rattle.reach.proofs.span.next_steps.Goals as goal
