@@ -11,7 +11,7 @@ use costs::ROW;
 use layout::{CLOSES, QUEUE};
 use queue::join;
 
-// Later than any delay.
+// Later than any delay. A number and no Option: it stands in a word of the lent scratch, and `Falling` and `NextClose` order it with the delays.
 pub const NEVER: u16 = 65_535;
 
 // The latest delay that counts, in half-ticks: twice the longest period.

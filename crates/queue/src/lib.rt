@@ -1,5 +1,6 @@
 // The states that wait, in the scratch words: a heap, the earliest first. A state is a cell and a load, by its place in the rows from 0 on: cell * costs::ROW + load. Its delay is the word there.
 // What is promised is which states wait, not in what order they come: no answer depends on the order, only the time that it takes.
+// Slice, n and count stay parameters: between two calls the rows and closes in the same lent words are read and written, so a struct over them would be taken apart and built again each time.
 #![tactic(auto)]
 
 ghost use Rattle.std.specs.Prelude.{◌≡◌, ◌*◌, ◌<◌, ltb};

@@ -13,12 +13,11 @@ pub fn smallest_period(plan: &[u8], scratch: &mut [u16], p: Problem, below: u16,
     requires { Ready p plan.now × (Room (length plan.now) scratch.old × ((period_min ≤ below) × ((below < enough) × ((enough ≤ period_max) × ((routed_for p plan.now below ≡ false) × (routed_for p plan.now enough ≡ true)))))) }
     ensures { Told (smallest_for p plan.now) (length plan.now) scratch.old scratch.new result }
 {
-    let elements = p.elements;
     let mut low = below;
     let mut high = enough;
     while low + 1 < high {
         let middle = low + (high - low) / 2;
-        if exists_with(plan, scratch, p, elements.at_period(middle)) {
+        if exists_with(plan, scratch, p, p.elements.at_period(middle)) {
             high = middle;
         } else {
             low = middle;

@@ -23,11 +23,10 @@ fn why_never(plan: &[u8], scratch: &mut [u16], p: Problem) -> Reason
     requires { Ready p plan.now × (Room (length plan.now) scratch.old × (period_max < smallest_for p plan.now)) }
     ensures { Told (reason_of p plan.now) (length plan.now) scratch.old scratch.new result }
 {
-    let elements = p.elements;
-    if exists_with(plan, scratch, p, elements.relaxed(true)) {
+    if exists_with(plan, scratch, p, p.elements.relaxed(true)) {
         return Reason::TooShort;
     }
-    if exists_with(plan, scratch, p, elements.relaxed(false)) {
+    if exists_with(plan, scratch, p, p.elements.relaxed(false)) {
         return Reason::Load;
     }
     Reason::WalledOff
@@ -38,10 +37,9 @@ fn why_none(plan: &[u8], scratch: &mut [u16], p: Problem) -> Reason
     requires { Ready p plan.now × (Room (length plan.now) scratch.old × (routed_for p plan.now p.elements.period ≡ false)) }
     ensures { Told (reason_of p plan.now) (length plan.now) scratch.old scratch.new result }
 {
-    let elements = p.elements;
     let longest = Elements::PERIOD_MAX;
-    if exists_with(plan, scratch, p, elements.at_period(longest)) {
-        let period = smallest_period(plan, scratch, p, elements.period, longest);
+    if exists_with(plan, scratch, p, p.elements.at_period(longest)) {
+        let period = smallest_period(plan, scratch, p, p.elements.period, longest);
         return Reason::Period(period);
     }
     why_never(plan, scratch, p)
@@ -52,8 +50,7 @@ fn searched(plan: &[u8], scratch: &mut [u16], p: Problem) -> Explained
     requires { Ready p plan.now × Room (length plan.now) scratch.old }
     ensures { Told (explained_by p plan.now) (length plan.now) scratch.old scratch.new result }
 {
-    let elements = p.elements;
-    if exists_with(plan, scratch, p, elements) {
+    if exists_with(plan, scratch, p, p.elements) {
         return Err(Refusal::RouteExists);
     }
     Ok(why_none(plan, scratch, p))
@@ -64,21 +61,11 @@ fn explained(plan: &[u8], scratch: &mut [u16], p: Problem) -> Explained
     requires { Ready p plan.now × Room (length plan.now) scratch.old }
     ensures { Told (explained_by p plan.now) (length plan.now) scratch.old scratch.new result }
 {
-    let elements = p.elements;
-    let first = first_period(plan, scratch, p, TURNS);
-    match first {
-        First::Unknown => {
-            return searched(plan, scratch, p);
-        }
-        First::Never => {
-            return Ok(why_never(plan, scratch, p));
-        }
-        First::At(period) => {
-            if period == elements.period {
-                return Err(Refusal::RouteExists);
-            }
-            return Ok(Reason::Period(period));
-        }
+    match first_period(plan, scratch, p, TURNS) {
+        First::Unknown => searched(plan, scratch, p),
+        First::Never => Ok(why_never(plan, scratch, p)),
+        First::At(period) if period == p.elements.period => { Err(Refusal::RouteExists) }
+        First::At(period) => Ok(Reason::Period(period)),
     }
 }
 
@@ -86,8 +73,7 @@ pub fn reason_ready(plan: &[u8], scratch: &mut [u16], p: Problem) -> Explained
     requires { Ready p plan.now × Room (length plan.now) scratch.old }
     ensures { ReasonDone p plan.now scratch.old scratch.new result }
 {
-    let n = plan.len();
     let answer = explained(plan, scratch, p);
-    clear(scratch, 0, n * CELL_WORDS);
+    clear(scratch, 0, plan.len() * CELL_WORDS);
     answer
 }

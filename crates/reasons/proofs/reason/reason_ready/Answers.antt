@@ -8,8 +8,8 @@ use Rattle.reasons.proofs.reason.reason_ready.Goals as goal
 pub explained-answer-requires : goal.explained-answer-requires
 explained-answer-requires c = c.requires
 
-pub overflow_mul-n : goal.overflow_mul-n
-overflow_mul-n c = omega (arith, few-cells _ _ c.requires.0)
+pub overflow_mul-plan : goal.overflow_mul-plan
+overflow_mul-plan c = omega (arith, few-cells _ _ c.requires.0)
 
 pub clear-requires : goal.clear-requires
 clear-requires c =
