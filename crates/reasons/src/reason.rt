@@ -64,7 +64,7 @@ fn explained(plan: &[u8], scratch: &mut [u16], p: Problem) -> Explained
     match first_period(plan, scratch, p, TURNS) {
         First::Unknown => searched(plan, scratch, p),
         First::Never => Ok(why_never(plan, scratch, p)),
-        First::At(period) if period == p.elements.period => { Err(Refusal::RouteExists) }
+        First::At(period) if period == p.elements.period => Err(Refusal::RouteExists),
         First::At(period) => Ok(Reason::Period(period)),
     }
 }
