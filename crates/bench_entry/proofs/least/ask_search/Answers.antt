@@ -8,7 +8,7 @@ use Rattle.bench_entry.proofs.least.ask_search.Goals as goal
 pub returns : goal.returns
 unfolding bench_question
 returns c =
-    let done = rw (c.tables_of-raw.ensures, c.read_list-read.ensures, c.read_buffers-list.ensures) at c.search_read-answer.ensures in
+    let done = rw (c.tables_of.ensures, c.read_list.ensures, c.read_buffers.ensures) at c.search_asked-answer.ensures in
     record {
       number = c.number.ensures ∙ ap answer_number done.answer;
       scratch_left = done.scratch_left;
