@@ -1,7 +1,7 @@
 // The answer of a route call, with one clock or two. `route_number` gives its number, `answer_figures` and `crossing_figures` its figures.
 ghost use Rattle.std.specs.Prelude.{◌≡◌, ℕ};
 ghost use Rattle.answers.specs.declared.answer.RouteAnswer.{RouteAnswer};
-ghost use Rattle.answers.specs.Numbers.{no_figures, no_crossing, answer_figures, crossing_figures, filled_words, crossed_words, route_number, FiguresLaws, figures-laws, crossing-laws};
+ghost use Rattle.answers.specs.Numbers.{no_figures, answer_figures, filled_words, route_number, FiguresLaws, figures-laws};
 
 use crate::refusal::{Numbered, Refusal};
 
@@ -82,32 +82,6 @@ impl RouteFigures for Figures {
     }
 
     ghost laws = { figures-laws };
-}
-
-impl RouteFigures for CrossingFigures {
-    ghost nothing = { no_crossing };
-
-    ghost steps_of = { λ f. f.steps };
-
-    ghost figures_of = { crossing_figures };
-
-    ghost words_of = { crossed_words };
-
-    fn none() -> CrossingFigures {
-        CrossingFigures {
-            source: 0,
-            sink: 0,
-            steps: 0,
-            latency: 0,
-            slack: 0,
-        }
-    }
-
-    fn steps(self) -> u32 {
-        self.steps
-    }
-
-    ghost laws = { crossing-laws };
 }
 
 impl<F: Copy> Numbered for RouteAnswer<F> {

@@ -4,6 +4,7 @@
 
 mod answer;
 mod buffers;
+mod crossing;
 mod ends;
 mod explained;
 mod records;

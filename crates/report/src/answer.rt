@@ -26,7 +26,7 @@ impl Told for Figures {
     }
 
     fn write_refusal<W: Write>(out: &mut W, refusal: Refusal) -> Result<()> {
-        write_named(out, refusal, 1)
+        write_element(out, refusal)
     }
 }
 

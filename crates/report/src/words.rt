@@ -1,6 +1,6 @@
 // Lent words.
 ghost use Rattle.std.specs.Prelude.{◌≡◌, ◌<◌, length};
-ghost use Rattle.report.specs.Runs.{EqualRun};
+ghost use Rattle.report.specs.Runs.{EqualRun, Zeros};
 
 use std::io::{Result, Write};
 use streams::{write_number, write_text};
@@ -27,8 +27,13 @@ pub fn run_end(words: &[u16], start: usize) -> usize
 }
 
 // How many words from the first on are zero.
-fn zeros(words: &[u16]) -> usize {
-    words.iter().take_while(|word| **word == 0).count()
+fn zeros(words: &[u16]) -> usize
+    ensures { Zeros words.now result }
+{
+    match words.first() {
+        Some(0) => run_end(words, 0),
+        _ => 0,
+    }
 }
 
 // The end of a call's line: how many scratch words it zeroed.

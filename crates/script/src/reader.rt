@@ -4,7 +4,7 @@ ghost use Rattle.std.specs.Prelude.{◌+◌, ◌^◌, ◌<◌, ◌≤◌, IfOk, 
 use crate::fault::ScriptFault;
 
 // What is still to be read, and the number, from 1, of the line that it starts in: where a word or a number was read, or none was there, its line.
-#[derive(Drop)]
+#[derive(Clone, Copy)]
 pub struct Script<'a> {
     rest: &'a [u8],
     line: usize,
